@@ -1,9 +1,9 @@
 -- What the regions of an arena are to contracts, and what a change of one of their cells is. Each is said by class.
-use Rattle.std.proofs.Common.{◌≡◌, ℕ, zero, suc, ◌+◌, ◌*◌, ◌<◌, List, [], ◌∷◌, length, set, get_or, count_by, Some, None, sym, ap, ◌∙◌, subst, refl, ⊎_elim, arith}
+use Rattle.std.proofs.Common.{◌≡◌, ℕ, zero, suc, ◌+◌, ◌-◌, ◌*◌, ◌<◌, ◌≤◌, List, [], ◌∷◌, length, set, get_or, count_by, Some, None, sym, ap, ◌∙◌, subst, refl, ⊎_elim, arith}
 use Rattle.std.proofs.lemmas.Bool.{cases_lt}
 use Rattle.std.proofs.lemmas.List.{length-map, get_or-replicate, length-replicate, get_or_past}
 use Rattle.std.proofs.Math.ListN.{get_or-map}
-use Rattle.in_arena.specs.Arenas.{ArenaView, memory_of, state_at, changed, free_of, IsOf, NoneLeased, Leases, BeginsCell}
+use Rattle.in_arena.specs.Arenas.{ArenaView, memory_of, state_at, changed, free_of, IsOf, IsUsedOf, NoneLeased, Leases, BeginsCell}
 use Rattle.in_arena.specs.Classes.{classes, class_no, IsNumberOf}
 use Rattle.in_arena.specs.ByClass.{row_of, cell_at, block_of, view_of, IsRegions, Become, AreWhole, IsPlace, cell_view, index_of, IsHeldCell, IsCellOf, Lend, Begin, sack_row, sack_cell, sack_block, sacks_view, IsSacks, SacksBecome, IsOut}
 use Rattle.in_arena.specs.States.{State, Vacant, Leased, IsLeased, is_vacant}
@@ -106,6 +106,31 @@ module _ (r : Regions) (h : IsRegions r) where
         begun = made.1.1;
         arena = changed_from s c i e p b refl;
       }
+
+  -- ---- cells that were never used
+
+  -- a number of the class is that of a place
+  place_at : (c : CellClass) (n : ℕ) → class_no c * r.cells ≤ n → n < (class_no c + 1) * r.cells → (i : ℕ) × IsPlace r.cells n c i
+  place_at class.Small n low high = (n, (let z : n < r.cells = omega (arith, high) in z, (let z : n ≡ 0 * r.cells + n = omega arith in z)))
+  place_at class.Large n low high = (n - r.cells, (let z : n - r.cells < r.cells = omega (arith, low, high) in z, (let z : n ≡ 1 * r.cells + (n - r.cells) = omega (arith, low) in z)))
+  place_at class.Wide n low high = (n - 2 * r.cells, (let z : n - 2 * r.cells < r.cells = omega (arith, low, high) in z, (let z : n ≡ 2 * r.cells + (n - 2 * r.cells) = omega (arith, low) in z)))
+
+  used_within : (c : CellClass) (k : ℕ) → k ≤ r.cells → class_no c * r.cells + k ≤ (class_no c + 1) * r.cells
+  used_within class.Small k few = omega (arith, few)
+  used_within class.Large k few = omega (arith, few)
+  used_within class.Wide k few = omega (arith, few)
+
+  -- those of a class from place k on
+  pub used_of : {a : ArenaView} (c : CellClass) (first k : ℕ) → view_of r ≡ a → first ≡ class_no c * r.cells → k ≤ r.cells → ((i : ℕ) → k ≤ i → i < r.cells → cell_at r c i ≡ Vacant) → IsUsedOf a c (first + k)
+  used_of c first k e at few free = subst (λ a. IsUsedOf a c (first + k)) e (record {
+    some = omega (arith, at);
+    within = (let w = used_within c k few in omega (arith, w, at));
+    rest = λ n low high. (
+        let p = place_at c n (let z : class_no c * r.cells ≤ n = omega (arith, low, at) in z) high in
+        let is = p.1.1 in
+        found c p.0 refl p.1 ∙ free p.0 (let z : k ≤ p.0 = omega (arith, low, at, is) in z) p.1.0
+        );
+  })
 
   -- ---- a lease of one of their cells
 

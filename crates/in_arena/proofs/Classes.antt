@@ -1,5 +1,6 @@
 -- What follows of the numbers and widths of classes.
-use Rattle.std.proofs.Common.{◌≡◌, ◌<◌, ◌+◌, ◌*◌, ℕ, length, map, get_or, refl, ⊎_elim, arith}
+use Rattle.std.proofs.Common.{◌≡◌, ◌<◌, ◌+◌, ◌*◌, ℕ, zero, suc, length, map, get_or, slice_get, Some, None, refl, sym, ap, ⊎_elim, arith}
+use Rattle.std.proofs.lemmas.Option.{same_Some}
 use Rattle.std.proofs.lemmas.Bool.{cases_lt}
 use Rattle.in_arena.specs.Classes.{classes, class_no, IsNumberOf}
 use Rattle.in_arena.specs.declared.content.CellClass.{CellClass}
@@ -15,6 +16,13 @@ pub at_class : {A : Type 0} (f : CellClass → A) (d : A) (c : CellClass) → ge
 at_class f d Small = refl
 at_class f d Large = refl
 at_class f d Wide = refl
+
+-- .. whose place is the number
+pub number_at : (i : ℕ) (c : CellClass) → slice_get classes i ≡ Some c → class_no c ≡ i
+number_at zero c e = ap class_no (sym (same_Some Small c e))
+number_at (suc zero) c e = ap class_no (sym (same_Some Large c e))
+number_at (suc (suc zero)) c e = ap class_no (sym (same_Some Wide c e))
+number_at (suc (suc (suc i))) c e = absurd (let f : None ≡ Some c = e in cc)
 
 pub class_of_number : (cells n : ℕ) → n < length classes * cells → (c : CellClass) × IsNumberOf cells c n
 class_of_number cells n lt =

@@ -1,5 +1,5 @@
 -- What contracts see of an arena and of a lease, and what the calls change.
-use Rattle.std.specs.Prelude.{◌≡◌, ◌<◌, ◌*◌, ℕ, List, length, get_or, take, drop, slice_index_or, slice_set, count_by, Option, Some, None}
+use Rattle.std.specs.Prelude.{◌≡◌, ◌<◌, ◌≤◌, ◌+◌, ◌*◌, ℕ, List, length, get_or, take, drop, slice_index_or, slice_set, count_by, Option, Some, None}
 use denote.RawPtr.{Ptr, null_ptr}
 use Rattle.in_arena.specs.Classes.{class_no, IsNumberOf}
 use Rattle.in_arena.specs.States.{State, Vacant, Leased, IsLeased, IsBegun, is_vacant}
@@ -46,6 +46,12 @@ pub record IsOf (l : LeaseView) (a : ArenaView) : Type 0 where
   pub cells : l.cells ≡ a.cells
   pub number : IsNumberOf a.cells l.class l.number
   pub leased : state_at a l.number ≡ Leased
+
+-- no cell of the class is live or leased from this number on, which isn't below its first one
+pub record IsUsedOf (a : ArenaView) (c : CellClass) (to : ℕ) : Type 0 where
+  pub some : class_no c * a.cells ≤ to
+  pub within : to ≤ (class_no c + 1) * a.cells
+  pub rest : (n : ℕ) → to ≤ n → n < (class_no c + 1) * a.cells → state_at a n ≡ Vacant
 
 abbrev pub NoneLeased : ArenaView → Type 0
 NoneLeased a = (n : ℕ) → n < length a.states → IsLeased (state_at a n) → ⊥

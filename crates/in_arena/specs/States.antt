@@ -42,6 +42,10 @@ end_at (Live word ends) place = slice_get ends place
 abbrev pub IsBegun : ℕ → ℕ → State → Type 0
 IsBegun word count x = (ends : List End) × (length ends ≡ count) × (x ≡ Live word ends)
 
+-- live with these ends
+abbrev pub HasEnds : List End → State → Type 0
+HasEnds ends x = (word : ℕ) × (x ≡ Live word ends)
+
 -- the same with this end at that place
 abbrev pub with_end : State → ℕ → End → State
 with_end Vacant place end = Vacant

@@ -1,7 +1,7 @@
 // An arena: regions of cells, in which each cell has a number.
-ghost use Rattle.std.specs.Prelude.{◌≡◌, ◌*◌, ◌<◌, ◌≤◌, ◌↔◌, IsTrue, MatchOption, Some, IfOk, length, replicate};
-ghost use Rattle.in_arena.specs.States.{State, Vacant, Leased, IsLive, IsLeased, IsBegun, word_of, end_at, places, with_end};
-ghost use Rattle.in_arena.specs.Arenas.{Leases, BeginsCell, IsOf, NoneLeased, state_at, changed, free_of};
+ghost use Rattle.std.specs.Prelude.{ℕ, ◌≡◌, ◌*◌, ◌<◌, ◌≤◌, ◌↔◌, IsTrue, MatchOption, Some, IfOk, length, replicate};
+ghost use Rattle.in_arena.specs.States.{State, Vacant, Leased, IsLive, IsLeased, IsBegun, HasEnds, word_of, end_at, places, with_end};
+ghost use Rattle.in_arena.specs.Arenas.{Leases, BeginsCell, IsOf, IsUsedOf, NoneLeased, state_at, changed, free_of};
 ghost use Rattle.in_arena.specs.Bags.{IsBagOf, IsFor, IsInBag, LeasesTo, empty_bag};
 ghost use Rattle.in_arena.specs.Classes.{Holds, classes};
 ghost use Rattle.in_arena.specs.declared.content.CellClass.{CellClass as Class};
@@ -73,6 +73,28 @@ impl Arena {
         ensures { result ≡ free_of self.now class }
     {
         self.regions.free_count(class)
+    }
+
+    /// A number from which on all cells of a class are free: they were never used. It isn't below that of the first cell of the class.
+    pub fn used(&self, class: CellClass) -> u32
+        ensures { IsUsedOf self.now class result }
+    {
+        class.number() * self.regions.cells + self.regions.used(class)
+    }
+
+    /// A number from which on all cells are free, of whatever class: they were never used.
+    pub fn bound(&self) -> u32
+        ensures few { result ≤ length self.now.states }
+        ensures rest { (n : ℕ) → result ≤ n → n < length self.now.states → state_at self.now n ≡ Vacant }
+    {
+        let mut bound = 0;
+        for class in CellClass::ALL {
+            let end = self.used(class);
+            if class.number() * self.regions.cells < end {
+                bound = end;
+            }
+        }
+        bound
     }
 
     /// A free cell of this class; nothing where none is free. Which free cell it is is open.
@@ -155,6 +177,16 @@ impl Arena {
     {
         let (class, index) = place_of(self.regions.cells, cell);
         self.regions.word(class, index, place)
+    }
+
+    /// What all places of a live cell lead to, in their order, from the principal port on.
+    #[inline(always)]
+    pub fn ends(&self, cell: CellNo) -> &[EndWord]
+        requires { IsLive (state_at self.now cell.0) }
+        ensures { HasEnds result.now (state_at self.now cell.0) }
+    {
+        let (class, index) = place_of(self.regions.cells, cell);
+        self.regions.ends(class, index)
     }
 
     /// Writes what a place of a live cell leads to.

@@ -1,6 +1,6 @@
 // A region of cells of one width: free ones, leased ones and live ones.
-ghost use Rattle.std.specs.Prelude.{◌≡◌, ◌<◌, ◌≤◌, ◌^◌, ◌↔◌, IsTrue, length, map, count_by, replicate, Some, None, IfOk};
-ghost use Rattle.in_arena.specs.States.{State, Live, Vacant, IsLive, IsLeased, is_vacant, word_of, end_at, places, with_end, IsBegun};
+ghost use Rattle.std.specs.Prelude.{◌≡◌, ◌<◌, ◌≤◌, ◌^◌, ◌↔◌, ℕ, IsTrue, length, map, count_by, replicate, Some, None, IfOk};
+ghost use Rattle.in_arena.specs.States.{State, Live, Vacant, IsLive, IsLeased, is_vacant, word_of, end_at, places, with_end, IsBegun, HasEnds};
 ghost use Rattle.in_arena.specs.Regions.{IsRegion, IsHeld, IsHeldOf, Becomes, IsReadyRegion, IsLeasedTo, IsBegunIn, IsSameCell, IsWholeRegion, state, states, state_at};
 ghost use Rattle.in_arena.specs.Filling.{Fills};
 ghost use Rattle.in_arena.specs.Sacks.{IsSack, IsOfSack, SackBecomes, IsTakenFrom, IsEmptyOf, sack_state};
@@ -113,6 +113,15 @@ impl<const WIDTH: usize> Region<WIDTH> {
         ensures { result ≡ count_by is_vacant (states self.now) }
     {
         self.free
+    }
+
+    // From which place on all cells are free, and none was ever used.
+    pub fn used(&self) -> u32
+        requires { IsRegion self.now }
+        ensures few { result ≤ self.now.size }
+        ensures rest { (i : ℕ) → result ≤ i → i < self.now.size → state_at self.now i ≡ Vacant }
+    {
+        self.fresh
     }
 
     // A free cell, where there is one.
@@ -233,6 +242,17 @@ impl<const WIDTH: usize> Region<WIDTH> {
         ensures { end_at (state_at self.now index) place ≡ Some result }
     {
         self.cells.get(self.base, index as usize).ends[place as usize]
+    }
+
+    // What the places of a live cell lead to, in their order.
+    #[inline(always)]
+    pub fn ends(&self, index: u32) -> &[EndWord]
+        requires { IsRegion self.now × IsLive (state_at self.now index) }
+        ensures { HasEnds result.now (state_at self.now index) }
+    {
+        let content = self.cells.get(self.base, index as usize);
+        are_all(&content.ends);
+        &content.ends[..content.count as usize]
     }
 
     // Writes the end at a place of a live cell.

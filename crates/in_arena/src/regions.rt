@@ -1,6 +1,6 @@
 // What there is for each class of cells: a region, the owner of one of its cells and the owner of some of them.
-ghost use Rattle.std.specs.Prelude.{◌≡◌, ◌*◌, ◌<◌, ◌≤◌, ◌↔◌, IsTrue, length, count_by, IfOk};
-ghost use Rattle.in_arena.specs.States.{State, Live, Vacant, IsLive, IsLeased, IsBegun, is_vacant, word_of, end_at, places, with_end};
+ghost use Rattle.std.specs.Prelude.{◌≡◌, ◌*◌, ◌<◌, ◌≤◌, ◌↔◌, ℕ, IsTrue, length, count_by, IfOk};
+ghost use Rattle.in_arena.specs.States.{State, Live, Vacant, IsLive, IsLeased, IsBegun, is_vacant, word_of, end_at, places, with_end, HasEnds};
 ghost use Rattle.in_arena.specs.Arenas.{written};
 ghost use Rattle.in_arena.specs.Classes.{Holds, classes, width};
 ghost use Rattle.in_arena.specs.declared.content.CellClass.TheVariants.{Wide as Widest};
@@ -136,6 +136,19 @@ impl Regions {
         }
     }
 
+    // From which place of a class on all its cells are free, and none was ever used.
+    pub fn used(&self, class: CellClass) -> u32
+        requires { IsRegions self.now }
+        ensures few { result ≤ self.now.cells }
+        ensures rest { (i : ℕ) → result ≤ i → i < self.now.cells → cell_at self.now class i ≡ Vacant }
+    {
+        match class {
+            CellClass::Small => self.small.used(),
+            CellClass::Large => self.large.used(),
+            CellClass::Wide => self.wide.used(),
+        }
+    }
+
     // A free cell of this class, where there is one.
     #[inline(always)]
     pub fn lease(&mut self, class: CellClass) -> Option<HeldCell>
@@ -224,6 +237,19 @@ impl Regions {
             CellClass::Small => self.small.word(index, place),
             CellClass::Large => self.large.word(index, place),
             CellClass::Wide => self.wide.word(index, place),
+        }
+    }
+
+    // What the places of a live cell lead to, in their order.
+    #[inline(always)]
+    pub fn ends(&self, class: CellClass, index: u32) -> &[EndWord]
+        requires { IsRegions self.now × IsLive (cell_at self.now class index) }
+        ensures { HasEnds result.now (cell_at self.now class index) }
+    {
+        match class {
+            CellClass::Small => self.small.ends(index),
+            CellClass::Large => self.large.ends(index),
+            CellClass::Wide => self.wide.ends(index),
         }
     }
 

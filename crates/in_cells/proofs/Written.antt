@@ -12,7 +12,7 @@ use Rattle.in_arena.specs.declared.content.CellNo.{CellNo}
 use Rattle.in_arena.specs.declared.content.End.{End}
 use Rattle.in_arena.specs.declared.content.End.TheVariants.{Cell, Free}
 use Rattle.in_arena.proofs.Public.{changed_twice, counts_change, class_of_number, live_inside}
-use Rattle.in_cells.specs.Copying.{ArePart, LeadsInto, IsEndWithin, LooksLike, is_for, moved, moved_end, name_in, number_in, IsCopied}
+use Rattle.in_cells.specs.Copying.{AreBelow, ArePart, LeadsInto, IsEndWithin, LooksLike, is_for, moved, moved_end, name_in, number_in, IsCopied}
 use Rattle.in_cells.specs.CopyingSteps.{HaveCellsBelow, HaveOwnCells, IsBeingMoved, AreMovedBelow}
 
 -- ---- states
@@ -95,9 +95,9 @@ module _ (name number : ℕ → ℕ) (x : State) (n : ℕ) (first : ArenaView) w
 -- ---- one agent after another
 
 -- an end that leads to an agent of a list has numbers within
-pub within_list : (from : ArenaView) (agents : List CellNo) (many cells : ℕ) → ArePart from agents → length from.states ≤ cells → (e : End) → LeadsInto agents many e → IsEndWithin cells many e
-within_list from agents many cells part le (Cell c i) at = let l = live_inside from c.0 (part.live at.0 c at.1) in omega (arith, l, le)
-within_list from agents many cells part le (Free k) at = at
+pub within_list : (agents : List CellNo) (many cells : ℕ) → AreBelow agents cells → (e : End) → LeadsInto agents many e → IsEndWithin cells many e
+within_list agents many cells below (Cell c i) at = below at.0 c at.1
+within_list agents many cells below (Free k) at = at
 
 pub none_written : (from : ArenaView) (agents names : List CellNo) (ends : List ℕ) (first : ArenaView) → AreMovedBelow from agents names ends first 0 first
 none_written from agents names ends first = record {

@@ -43,6 +43,10 @@ pub record ArePart (a : ArenaView) (agents : List CellNo) : Type 0 where
 abbrev pub AreAllLive : ArenaView → List CellNo → Type 0
 AreAllLive a agents = (n : ℕ) → IsLive (state_at a n) → (k : ℕ) × (slice_get agents k ≡ Some (record { 0 = n }))
 
+-- their numbers are below this one
+abbrev pub AreBelow : List CellNo → ℕ → Type 0
+AreBelow agents many = (k : ℕ) (c : CellNo) → slice_get agents k ≡ Some c → c.0 < many
+
 -- .. in the order of their numbers
 pub record IsListOfLive (a : ArenaView) (agents : List CellNo) : Type 0 where
   pub part : ArePart a agents

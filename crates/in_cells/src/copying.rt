@@ -1,6 +1,6 @@
 // Agents of one arena are copied to another.
-ghost use Rattle.std.specs.Prelude.{◌≡◌, ◌≤◌, length};
-ghost use Rattle.in_cells.specs.Copying.{ArePart, AreClosed, HasCellsFor, IsCopied};
+ghost use Rattle.std.specs.Prelude.{◌≡◌, length};
+ghost use Rattle.in_cells.specs.Copying.{AreBelow, ArePart, AreClosed, HasCellsFor, IsCopied};
 
 use crate::taking::take_cells;
 use crate::writing::write_agents;
@@ -10,12 +10,12 @@ use in_base::use_promise;
 /// Copies agents to another arena, each to a cell that was free there and is of the class for its places: live cells of `from`, each once,
 /// whose places lead to each other and to free ends below the length of `ends`. At each place stands afterwards what stood there, the cells
 /// under their new numbers and free end k under the number `ends[k]`. The new number of a cell is written at its number in `names`, which is
-/// as long as `from` has cells. Of each class as many cells have to be free in `to` as the agents take. It takes no memory.
+/// long enough for that. Of each class as many cells have to be free in `to` as the agents take. It takes no memory.
 pub fn copy(from: &Arena, agents: &[CellNo], ends: &[u32], to: &mut Arena, names: &mut [CellNo])
     requires part { ArePart from.now agents.now }
     requires closed { AreClosed from.now agents.now (length ends.now) }
     requires room { HasCellsFor from.now agents.now to.old }
-    requires names { length from.now.states ≤ length names.old }
+    requires names { AreBelow agents.now (length names.old) }
     ensures copied { IsCopied from.now agents.now ends.now names.new to.old to.new }
     ensures names { length names.new ≡ length names.old }
 {

@@ -5,7 +5,7 @@ ghost use Rattle.in_arena.specs.Changes.{HasAllCells};
 ghost use Rattle.in_arena.specs.Classes.{Holds};
 ghost use Rattle.in_arena.specs.States.{IsLive, places};
 ghost use Rattle.in_arena.specs.declared.content.CellClass.{CellClass as Class};
-ghost use Rattle.in_cells.specs.Copying.{ArePart, HasCellsFor};
+ghost use Rattle.in_cells.specs.Copying.{AreBelow, ArePart, HasCellsFor};
 ghost use Rattle.in_cells.specs.CopyingSteps.{TakesCell, HaveCellsBelow};
 
 use in_arena::{Arena, CellClass, CellNo};
@@ -31,7 +31,7 @@ pub fn take_cells(from: &Arena, agents: &[CellNo], to: &mut Arena, names: &mut [
     requires part { ArePart from.now agents.now }
     requires all { HasAllCells to.old }
     requires room { HasCellsFor from.now agents.now to.old }
-    requires names { length from.now.states ≤ length names.old }
+    requires names { AreBelow agents.now (length names.old) }
     ensures taken { HaveCellsBelow from.now agents.now to.old (length agents.now) to.new names.new }
     ensures names { length names.new ≡ length names.old }
 {

@@ -4,7 +4,7 @@ ghost use Rattle.in_arena.specs.Arenas.{changed, state_at};
 ghost use Rattle.in_arena.specs.Changes.{HasAllCells};
 ghost use Rattle.in_arena.specs.States.{IsLive, end_at};
 ghost use Rattle.in_arena.specs.declared.content.End.{End as EndOf};
-ghost use Rattle.in_cells.specs.Copying.{ArePart, AreClosed, IsEndWithin, LooksLike, moved, name_in, number_in};
+ghost use Rattle.in_cells.specs.Copying.{AreBelow, ArePart, AreClosed, IsEndWithin, LooksLike, moved, name_in, number_in};
 ghost use Rattle.in_cells.specs.CopyingSteps.{HaveOwnCells, AreMovedBelow};
 
 use crate::ends::moved_end;
@@ -29,7 +29,7 @@ fn write_agent(from: &Arena, cell: CellNo, names: &[CellNo], ends: &[u32], to: &
 pub fn write_agents(from: &Arena, agents: &[CellNo], names: &[CellNo], ends: &[u32], to: &mut Arena)
     requires part { ArePart from.now agents.now }
     requires closed { AreClosed from.now agents.now (length ends.now) }
-    requires names { length from.now.states ≤ length names.now }
+    requires names { AreBelow agents.now (length names.now) }
     requires all { HasAllCells to.old }
     requires cells { HaveOwnCells from.now agents.now names.now to.old }
     ensures { AreMovedBelow from.now agents.now names.now ends.now to.old (length agents.now) to.new }

@@ -12,7 +12,7 @@ use Rattle.in_claims.specs.declared.hands.Hand.{Hand}
 use Rattle.in_claims.specs.Rule.{hand, times_claimed, done_count, AreClaims}
 use Rattle.in_claims.specs.Laws.{numbers_of, ClaimsAreApart, ClaimsAreBelowTheLimit, DoneMeansAllClaimed, NewBoardsAreUnclaimed, TwoSeatsShareTheNumbers}
 use Rattle.in_claims.specs.Seats.{BoardView, fresh, hand_of}
-use Rattle.in_claims.proofs.Sums.{at_most_one, if_below, two_of_sum, some_term, counted_at, stands_counted}
+use Rattle.in_claims.proofs.Sums.{at_most, if_below, two_of_sum, some_term, counted_at, stands_counted}
 
 -- it stands where there is no seat
 abbrev nobody : Hand
@@ -71,7 +71,7 @@ one_place k numbers place elsewhere inside there is that once =
 
 one_claim : (limit word : ℕ) (hands : List Hand) (k seat place other elsewhere : ℕ) → AreClaims limit word hands → Stands hands k seat place → Stands hands k other elsewhere → (seat ≡ other) × (place ≡ elsewhere)
 one_claim limit word hands k seat place other elsewhere claims at there =
-    let once : times_claimed k hands ≤ 1 = omega (arith, claims.once k, at_most_one (nat_lt k (min word limit))) in
+    let once : times_claimed k hands ≤ 1 = omega (arith, claims.once k, at_most (nat_lt k (min word limit)) 1) in
     let seats : seat ≡ other = elim (cases_eq seat other) [
       | inl e ↦ e
       | inr apart ↦ absurd (omega (arith, two_of_sum (λ (h : Hand). count k h.numbers) hands seat other nobody apart at.seat_in there.seat_in, counts hands k seat place at, counts hands k other elsewhere there))
@@ -134,7 +134,7 @@ contains_counted k numbers c =
 
 pub shared : TwoSeatsShareTheNumbers
 shared limit word a b claims = (
-  (λ k first second. absurd (omega (arith, claims.once k, at_most_one (nat_lt k (min word limit)), contains_counted k a.numbers first, contains_counted k b.numbers second))),
+  (λ k first second. absurd (omega (arith, claims.once k, at_most (nat_lt k (min word limit)) 1, contains_counted k a.numbers first, contains_counted k b.numbers second))),
   (λ one other k lt.
       let claimed = all_claimed limit word (a ∷ b ∷ []) claims (omega (arith, is_done a one)) k lt in
       elim (cases_lt 0 (count k a.numbers)) [ inl some ↦ inl (contained k a.numbers some) | inr none ↦ inr (contained k b.numbers (omega (arith, claimed))) ]),

@@ -15,7 +15,7 @@ use Rattle.atomic_table.specs.Table.{State, keeps, Allows, Splits, Joins}
 use Rattle.in_claims.specs.declared.hands.Hand.{Hand}
 use Rattle.in_claims.specs.declared.hands.Size.{Size}
 use Rattle.in_claims.specs.Rule.{hand, drew, times_claimed, done_count, all_hands, limit_of, AreClaims, IsHandOf, IsBoardRule}
-use Rattle.in_claims.proofs.Sums.{at_get, at_most_one, if_below, sum_le, stands_counted, length_le_sum}
+use Rattle.in_claims.proofs.Sums.{at_get, at_most, if_below, sum_le, stands_counted, length_le_sum}
 use Rattle.in_claims.proofs.Views.{change, all_changed, all_at, all_in_view, alone}
 
 -- a number that is past all numbers of a rising list goes to its end
@@ -68,7 +68,7 @@ module _ (size : Size) (limit_fits : size.limit < 2 ^ 32) (seats_fit : size.seat
   few_done =
       omega (
         arith,
-        sum_le (λ u. cond u.done 1 0) (λ u. u.shares) (all_hands s.views) (λ k d lt. let one = at_most_one (get_or (all_hands s.views) k d).done in let share = (kept.hands k d lt).share in omega arith),
+        sum_le (λ u. cond u.done 1 0) (λ u. u.shares) (all_hands s.views) (λ k d lt. let one = at_most (get_or (all_hands s.views) k d).done 1 in let share = (kept.hands k d lt).share in omega arith),
         kept.shares,
       )
 

@@ -15,9 +15,9 @@ at_get (x ∷ xs) zero v e = (omega arith, some-injective x v e)
 at_get (x ∷ xs) (suc i) v e = let t = at_get xs i v e in (omega (arith, t.0), t.1)
 
 -- what a test counts
-pub at_most_one : (b : Bool) → cond b 1 0 ≤ 1
-at_most_one true = omega arith
-at_most_one false = omega arith
+pub at_most : (b : Bool) (n : ℕ) → cond b n 0 ≤ n
+at_most true n = omega arith
+at_most false n = omega arith
 
 -- two terms are within the sum
 two_in_order : {V : Type 0} (f : V → ℕ) (xs : List V) (i j : ℕ) (d : V) → i < j → j < length xs → f (get_or xs i d) + f (get_or xs j d) ≤ sum_by f xs

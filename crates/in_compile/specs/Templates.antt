@@ -1,5 +1,5 @@
 -- Templates: a rule's right member, with what joins it in the place of an active pair.
-use Rattle.std.specs.Prelude.{◌≡◌, ◌⊎◌, ◌↔◌, ◌≤◌, ℕ, Bool, IsTrue, List, length, Option, Some, option_and_then, slice_get}
+use Rattle.std.specs.Prelude.{◌≡◌, ◌⊎◌, ◌↔◌, ◌≤◌, ℕ, Bool, IsTrue, List, length, map, Option, Some, option_and_then, slice_get}
 use Rattle.in_arena.specs.declared.content.CellClass.{CellClass}
 use Rattle.in_symbols.specs.declared.symbols.SymbolNo.{SymbolNo}
 use Rattle.in_symbols.specs.Tables.{Tables, arity_of}
@@ -15,12 +15,13 @@ use Rattle.in_compile.specs.Members.{MemberParts, IsMemberOf}
 
 -- ---- a template
 
--- the rule's two symbols; how many boundary ends are places of the first one, which come first; whether neither symbol is marked; and the
--- right member
+-- the rule's two symbols; how many boundary ends are places of the first one, which come first; whether neither symbol is marked; whether each
+-- boundary end is an output of the pair; and the right member
 pub record TemplateParts : Type 0 where
   pub heads : SymbolNo × SymbolNo
   pub first_ends : ℕ
   pub unmarked : Bool
+  pub outputs : List Bool
   pub member : MemberParts
 
 -- neither of the two symbols is marked
@@ -32,6 +33,7 @@ pub record IsTemplateOf (t : Tables) (r : RuleParts) (p : TemplateParts) : Type 
   pub heads : p.heads ≡ r.heads
   pub first_ends : p.first_ends ≡ arity_of t r.heads.0.0
   pub unmarked : IsTrue p.unmarked ↔ AreUnmarked t r.heads
+  pub outputs : p.outputs ≡ map (λ f. f.kind.output) r.member.free
   pub member : IsMemberOf t r.member p.member
 
 -- ---- the templates of a program

@@ -48,6 +48,17 @@ fn boundary_joints(alloc: Global, net: &Net) -> Result<Items<StoredJoint>, Alloc
     Ok(joints)
 }
 
+/// Whether each free end is declared as an output.
+fn outputs_of(alloc: Global, net: &Net) -> Result<Items<bool>, AllocError>
+    ensures { IfOk result (λ os. os ≡ map (λ f. f.kind.output) net.now.free) }
+{
+    let mut outputs = Items::new(alloc);
+    for end in 0..net.free_ends() {
+        outputs.push(net.free_type(end).output)?;
+    }
+    Ok(outputs)
+}
+
 /// Adds an agent, and its joints.
 fn add_agent(
     symbols: &Symbols,
@@ -147,6 +158,7 @@ pub(crate) fn template(
     let unmarked = !is_marked(symbols, first) && !is_marked(symbols, second);
     let over = over_wires(alloc, &member)?;
     let within = within_wires(alloc, &member)?;
+    let outputs = outputs_of(alloc, rule.member())?;
     Ok(Template {
         member,
         first_ends,
@@ -154,5 +166,6 @@ pub(crate) fn template(
         heads: (first, second),
         over,
         within,
+        outputs,
     })
 }

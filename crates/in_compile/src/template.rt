@@ -25,6 +25,7 @@ pub struct Template {
     pub(crate) heads: (SymbolNo, SymbolNo),
     pub(crate) over: Items<OverWire>,
     pub(crate) within: Items<WithinWire>,
+    pub(crate) outputs: Items<bool>,
 }
 
 // Contracts see its fields, and of the lists of wires that its member has them.
@@ -34,7 +35,7 @@ impl Model for Template {
 
     ghost Value = { TemplateParts };
 
-    ghost view = { λ t. record { heads = t.heads; first_ends = t.first_ends; unmarked = t.unmarked; member = t.member } };
+    ghost view = { λ t. record { heads = t.heads; first_ends = t.first_ends; unmarked = t.unmarked; outputs = t.outputs; member = t.member } };
 
     ghost invariant = { IsTemplate };
 }
@@ -128,6 +129,15 @@ impl Template {
         ensures { result ≡ self.now.unmarked }
     {
         self.unmarked
+    }
+
+    /// Whether the port that is this boundary end is an output of the rule's pair. What leads there is an input then, else an output.
+    #[inline(always)]
+    pub fn is_output(&self, end: u8) -> bool
+        requires { end < length self.now.outputs }
+        ensures { slice_get self.now.outputs end ≡ Some result }
+    {
+        self.outputs.as_slice()[end as usize]
     }
 
     /// Where the wire at this boundary end leads.

@@ -6,10 +6,14 @@ use Rattle.in_reducer.specs.Runs.{Runs, at_start, then_step}
 use Rattle.in_machine.specs.Machines.{IsMachine}
 use Rattle.in_machine.proofs.StepsOn.{machine_on, steps_on}
 
+-- where some interactions reach the one net, k more reach the other
+abbrev pub ReachesOn : MachineParts → ℕ → MachineParts → Type 0
+ReachesOn m k n = (j : ℕ) → IsReachedBy (plain_of m) j → IsReachedBy (plain_of n) (k + j)
+
 pub record Along (m n : MachineParts) (k : ℕ) : Type 0 where
   pub machine : IsMachine n
   pub program : n.program ≡ m.program
-  pub reached : (j : ℕ) → IsReachedBy (plain_of m) j → IsReachedBy (plain_of n) (k + j)
+  pub reached : ReachesOn m k n
 
 pub along : (m n : MachineParts) (k : ℕ) → IsMachine m → Runs m k n → Along m n k
 along m n zero h (at_start _) = record { machine = h; program = refl; reached = λ j r. subst (IsReachedBy (plain_of m)) (let z : j ≡ 0 + j = omega arith in z) r }

@@ -2,6 +2,7 @@
 use Rattle.std.proofs.Common.{◌≡◌, ◌⊎◌, inl, inr, ◌<◌, ◌≤◌, ◌+◌, ℕ, zero, suc, Some, List, [], ◌∷◌, ◌++◌, length, map, drop, remove, slice_get, append_assoc, refl, sym, ap, subst, ◌∙◌, arith}
 use Rattle.std.proofs.lemmas.List.{append-nil}
 use Rattle.std.proofs.lemmas.Option.{slice_get_within}
+use Rattle.in_base.proofs.Places.{kept_at}
 use Rattle.in_arena.specs.declared.content.CellClass.{CellClass}
 use Rattle.in_symbols.specs.declared.symbols.SymbolNo.{SymbolNo}
 use Rattle.in_net.specs.Parts.{symbol_in}
@@ -11,6 +12,7 @@ use Rattle.in_interaction.specs.Queues.{agents_at, numbers_of}
 use Rattle.in_compile.specs.declared.cells.Need.{Need}
 use Rattle.in_compile.specs.Cells.{count_of, IsNeedOf}
 use Rattle.in_reducer.specs.Machines.{MachineParts, parts_of}
+use Rattle.in_machine.specs.MachineLaws.{QueuesMoveUp}
 use Rattle.in_machine.specs.Machines.{IsMachine}
 use Rattle.in_machine.specs.Together.{NeedTogether, none, then_next, HasRoomFor}
 use Rattle.in_reducer.specs.Steps.{NeedsAt, HasRoomAt, StepsAt}
@@ -33,12 +35,7 @@ first_of_rest (y ∷ xs) zero ys x e = e
 first_of_rest (y ∷ xs) (suc j) ys x e = first_of_rest xs j ys x e
 
 later_of_rest : {X : Type 0} (xs : List X) (j i : ℕ) (ys : List X) (x : X) → slice_get xs (j + i) ≡ Some x → slice_get (drop j xs ++ ys) i ≡ Some x
-later_of_rest xs zero i ys x e = in_front xs i ys x (ap (slice_get xs) (let z : i ≡ 0 + i = omega arith in z) ∙ e)
-  where
-    in_front : {X : Type 0} (xs : List X) (i : ℕ) (ys : List X) (x : X) → slice_get xs i ≡ Some x → slice_get (xs ++ ys) i ≡ Some x
-    in_front [] i ys x e = cc
-    in_front (y ∷ xs) zero ys x e = e
-    in_front (y ∷ xs) (suc i) ys x e = in_front xs i ys x e
+later_of_rest xs zero i ys x e = kept_at xs ys i x (ap (slice_get xs) (let z : i ≡ 0 + i = omega arith in z) ∙ e)
 later_of_rest [] (suc j) i ys x e = cc
 later_of_rest (y ∷ xs) (suc j) i ys x e = later_of_rest xs j i ys x (ap (slice_get (y ∷ xs)) (let z : suc (j + i) ≡ suc j + i = omega arith in z) ∙ e)
 
@@ -51,8 +48,7 @@ moves_up qs j new n o e s l =
     s.queue ∙ ap (λ (z : List (ℕ × ℕ)). remove z 0 ++ news n o s) e ∙ ap (λ (z : List (ℕ × ℕ)). z ++ news n o s) (first_removed qs j new (omega (arith, l)))
     ∙ append_assoc (drop (suc j) qs) new (news n o s)
 
-pub queues_move : (m n : MachineParts) (j : ℕ) → Runs m j n → j ≤ length m.queue → (new : List (ℕ × ℕ)) × (n.queue ≡ drop j m.queue ++ new)
-    × ((o : MachineParts) (s : StepsAt n 0 o) → suc j ≤ length m.queue → o.queue ≡ drop (suc j) m.queue ++ (new ++ map numbers_of s.made))
+pub queues_move : QueuesMoveUp
 queues_move m n zero (at_start _) l = ([], sym (append-nil m.queue), (λ o s k. moves_up m.queue 0 [] m o (sym (append-nil m.queue)) s k))
 queues_move m o (suc j) (then_step _ n _ _ before s) l =
     let r = queues_move m n j before (omega (arith, l)) in

@@ -37,13 +37,13 @@ same_words m h =
 
 -- the text of a machine without pairs
 abbrev last_text : MachineParts → List ℕ
-last_text m = text (signature_of m.program.tables) (words_in m.program) nat_eq (net_of (parts_of m)) (length (agent_numbers 0 m.agents)) []
+last_text m = text (signature_of m.program.tables) (words_in m.program) nat_eq (net_of (parts_of m)) (length (agent_numbers m.agents)) []
 
 same_text : (m : MachineParts) → IsMachine m → m.queue ≡ [] → text_of m ≡ last_text m
 same_text m h none =
     ap (λ w. text (signature_of m.program.tables) w nat_eq (net_of (parts_of m)) (count_by is_some m.agents) m.queue) (same_words m h)
-    ∙ ap (λ d. text (signature_of m.program.tables) (words_in m.program) nat_eq (net_of (parts_of m)) d m.queue) (sym (as_many 0 m.agents))
-    ∙ ap (λ q. text (signature_of m.program.tables) (words_in m.program) nat_eq (net_of (parts_of m)) (length (agent_numbers 0 m.agents)) q) none
+    ∙ ap (λ d. text (signature_of m.program.tables) (words_in m.program) nat_eq (net_of (parts_of m)) d m.queue) (sym (as_many m.agents))
+    ∙ ap (λ q. text (signature_of m.program.tables) (words_in m.program) nat_eq (net_of (parts_of m)) (length (agent_numbers m.agents)) q) none
 
 pub normal_ends_are_one : NormalEndsAreOne
 normal_ends_are_one m k h reached none =
@@ -52,7 +52,7 @@ normal_ends_are_one m k h reached none =
       net = net_of (parts_of m);
       reached = reached;
       ended = ended;
-      agents = agent_numbers 0 m.agents;
+      agents = agent_numbers m.agents;
       are_agents = agents_listed m;
       is_text = same_text m h none;
     })

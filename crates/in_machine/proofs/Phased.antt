@@ -1,7 +1,7 @@
 -- A machine whose net is reduced in parts is one of the same program.
 use Rattle.std.proofs.Common.{◌≡◌, ◌+◌, ℕ, map, sym, ap, subst, ◌∙◌, arith}
 use Rattle.in_net.specs.Nets.{net_of}
-use Rattle.in_check.specs.Plain.{IsPlain, IsReachedBy}
+use Rattle.in_check.specs.Plain.{IsPlain}
 use Rattle.in_check.specs.Programs.{Program}
 use Rattle.in_check.specs.Runs.{Reached}
 use Rattle.in_check.specs.Systems.{system_of}
@@ -11,10 +11,11 @@ use Rattle.in_reducer.specs.Parting.{ReducesTo}
 use Rattle.in_reducer.specs.Reducers.{IsReducer}
 use Rattle.in_machine.specs.Machines.{IsMachine}
 use Rattle.in_machine.specs.Phases.{IsPhase}
+use Rattle.in_machine.proofs.Alongside.{ReachesOn}
 use Rattle.in_machine.proofs.StepsOn.{as_machine}
 
 module _ (m n : MachineParts) (k : ℕ) (h : IsMachine m) (of : IsReducer n) (reduced : ReducesTo m k n) where
-  reached_on : (j : ℕ) → IsReachedBy (plain_of m) j → IsReachedBy (plain_of n) (k + j)
+  reached_on : ReachesOn m k n
   reached_on j reached =
       subst (λ (p : Program). Reached (system_of p) (k + j) (net_of (parts_of n))) (sym reduced.program)
       (subst (λ (z : ℕ). Reached (system_of m.program) z (net_of (parts_of n))) (let z : j + k ≡ k + j = omega arith in z)

@@ -4,11 +4,14 @@ ghost use Rattle.in_check.specs.Plain.{IsReachedBy};
 ghost use Rattle.in_reducer.specs.Limiting.{least_cells, most_cells};
 ghost use Rattle.in_reducer.specs.Machines.{plain_of};
 ghost use Rattle.in_reducer.specs.Steps.{HasRoomAt, StepsAt};
+ghost use Rattle.in_reducer.specs.Taking.{TakesNoLast};
 ghost use Rattle.in_names.specs.Same.{RunsUpToNumbers};
+ghost use Rattle.in_machine.specs.Phases.{IsPhase};
 ghost use Rattle.in_machine.specs.Starts.{Starts};
 ghost use Rattle.in_machine.specs.Taking.{TakesNoFirst};
 
 use crate::starting::StartFault;
+use in_base::use_promise;
 use in_check::Checked;
 use in_compile::{Need, Templates, compile, need_of_net};
 use in_reducer::Reducer;
@@ -85,5 +88,19 @@ impl<'a> Machine<'a> {
         ensures fewer { result < most → TakesNoFirst self.new }
     {
         self.reducer.take_first(&self.templates, most)
+    }
+
+    /// Interactions of the last pair of the queue, one after another, at most `most`, the newest pair first: what was made last is still in the
+    /// cache, and a net that is reduced from there stays small. Fewer only where no pair is left, or what the last one needs isn't free with
+    /// `floor` cells of each class besides. Returns how many they were. The net is one that the program reaches by as many interactions more.
+    /// It takes no memory.
+    pub fn take_newest(&mut self, floor: u32, most: u64) -> u64
+        ensures phase { IsPhase self.old result self.new }
+        ensures most { result ≤ most }
+        ensures fewer { result < most → TakesNoLast floor self.new }
+    {
+        let count = self.reducer.take_newest(&self.templates, floor, most);
+        use_promise!(self.reducer.pairs());
+        count
     }
 }

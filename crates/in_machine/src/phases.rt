@@ -1,7 +1,7 @@
 // A machine's net is reduced in parts.
 ghost use Rattle.std.specs.Prelude.{◌≤◌};
 ghost use Rattle.in_phases.specs.Phases.{HasFree};
-ghost use Rattle.in_phases.specs.Rooms.{IsForAsMany};
+ghost use Rattle.in_phases.specs.Rooms.{KeepsRoom};
 ghost use Rattle.in_reducer.specs.Limiting.{most_cells};
 ghost use Rattle.in_machine.specs.Phases.{IsPhase};
 
@@ -15,8 +15,8 @@ use std::thread::Threads;
 /// interactions are done, and in which order, is open; they are at most as many as the sharing says, and of each class at least as many cells
 /// are free afterwards as it says are to stay so. The net is one that the program reaches by as many interactions more.
 ///
-/// The sharing is into at least one part, and the cells that are to stay free are free before. The room is for the machine's numbers, and is
-/// used again. A phase is never refused: where memory runs out there are fewer parts, and where a thread can't be started the caller does its
+/// The sharing is into at least one part, and the cells that are to stay free are free before. The room is used again, and
+/// grows where it is too small. A phase is never refused: where memory runs out there are fewer parts, and where a thread can't be started the caller does its
 /// part. It waits for its threads.
 pub fn phase<R: Threads>(
     rt: &R,
@@ -31,7 +31,7 @@ pub fn phase<R: Threads>(
     ensures phase { IsPhase machine.old result.interactions machine.new }
     ensures most { result.interactions ≤ sharing.most }
     ensures free { HasFree machine.new sharing.floor }
-    ensures room { IsForAsMany room.old room.new }
+    ensures room { KeepsRoom room.old room.new }
 {
     let worked = reduce_in_parts(
         rt,

@@ -2,9 +2,7 @@
 use Rattle.std.proofs.Common.{◌≡◌, ◌<◌, ◌+◌, ℕ, suc, Option, Some, None, IsSome, List, [], ◌∷◌, map, length, slice_get, option_map, option_and_then, refl, sym, ap, subst, ◌∙◌, arith}
 use native.Mathlib.Decide.{ℕ_discrete}
 use Rattle.std.proofs.lemmas.Option.{same_Some}
-use Rattle.in_base.specs.Lists.{IsAmong}
 use Rattle.in_base.proofs.Among.{among_all, among_at}
-use mathlib.Core.Logic.{inl, inr}
 use Rattle.in_symbols.specs.Tables.{Tables, arity_of}
 use Rattle.in_net.specs.declared.nets.Cell.{Cell}
 use Rattle.in_net.specs.declared.nets.Point as points
@@ -26,7 +24,7 @@ use Rattle.in_compile.specs.declared.cells.Need.{Need}
 use Rattle.in_reducer.specs.Machines.{MachineParts, HasCells, parts_of}
 use Rattle.in_reducer.specs.Reducers.{IsReducer}
 use Rattle.in_reducer.specs.Starts.{IsStart}
-use Rattle.in_reducer.proofs.Public.{as_many_of, queue_moved}
+use Rattle.in_reducer.proofs.Public.{as_many_of, at_among, queue_moved}
 use Rattle.in_reducer.proofs.Public.StepsOn.{net_at, opposed_at}
 use Rattle.in_names.specs.Same.{IsSameMachine, AreSame}
 use Rattle.in_names.proofs.Renamed.{symbol_of_cell}
@@ -42,13 +40,6 @@ sound_under p f n m named h = record {
   typed = typed_renamed p.symbols f (net_of n) (net_of m) h.net named h.typed;
   no_circle = λ c. h.no_circle (circle_renamed p.symbols f (net_of n) (net_of m) h.net named ℕ_discrete c);
 }
-
--- ---- lists
-
--- the place of what is among a list
-place_of : {X : Type 0} (xs : List X) (x : X) → IsAmong x xs → (k : ℕ) × (slice_get xs k ≡ Some x)
-place_of [] x a = absurd a
-place_of {X} (y ∷ xs) x a = elim a [ inl e ↦ (0, ap (λ (z : X). Some z) e) | inr m ↦ (let r = place_of xs x m in (suc r.0, r.1)) ]
 
 -- ---- cells that show what cells of their symbols show, under other numbers
 
@@ -128,7 +119,7 @@ module _ (t : Tables) (f : ℕ → ℕ) (m n : Parts) (named : IsRenamed f (net_
     )
 
   pub over_under : IsOver t n
-  over_under = record { cells = all_of (IsCellOver t) n.cells (λ o a. go o (place_of n.cells o a)) }
+  over_under = record { cells = all_of (IsCellOver t) n.cells (λ o a. go o (at_among n.cells o a)) }
     where
       go : (o : Option Cell) → (k : ℕ) × (slice_get n.cells k ≡ Some o) → IsCellOver t o
       go None r = tt

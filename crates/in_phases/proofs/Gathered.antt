@@ -4,25 +4,18 @@ use Rattle.std.proofs.lemmas.Option.{slice_get_within}
 use Rattle.in_base.proofs.Places.{last_at, kept_at, more_at, set_here, set_there}
 use native.Mathlib.Decide.{ℕ_discrete}
 use Rattle.in_arena.specs.declared.content.CellNo.{CellNo}
-use Rattle.in_net.specs.Parts.{symbol_in}
-use Rattle.in_net.proofs.Public.{symbol_within}
-use Rattle.in_interaction.proofs.Public.{has_value}
-use Rattle.in_reducer.specs.Machines.{MachineParts, parts_of}
+use Rattle.in_reducer.specs.Machines.{AreNumbersBelow, MachineParts}
 use Rattle.in_phases.specs.Branches.{AreOfBranch, HasAgent}
 use Rattle.in_phases.specs.Marks.{NoOtherIsMarked}
 
 -- a branch that has forgotten its agents
-pub none_gathered : (m : MachineParts) (marks : List Bool) → length marks ≡ length m.agents → NoOtherIsMarked [] marks → AreOfBranch m [] marks
-none_gathered m marks many no_other = record {
+pub none_gathered : (m : MachineParts) (marks : List Bool) → AreNumbersBelow m (length marks) → NoOtherIsMarked [] marks → AreOfBranch m [] marks
+none_gathered m marks reached no_other = record {
   there = λ k c at. cc;
   once = λ j k c at also. cc;
   marked = λ k c at. cc;
   listed = λ y at. absurd (no_other y (λ k e. cc) at);
-  inside = λ y there. (
-      let s = has_value (symbol_in (parts_of m) y) there in
-      let low = symbol_within (parts_of m) y s.0 s.1 in
-      omega (arith, low, many)
-      );
+  inside = reached;
 }
 
 -- what is gathered marks no other

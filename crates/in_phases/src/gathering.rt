@@ -1,28 +1,33 @@
 // The agents of a part are gathered.
-ghost use Rattle.std.specs.Prelude.{◌≡◌, ◌<◌, ◌≤◌, true, [], length, IfOk, OnOk, Some, slice_get};
+ghost use Rattle.std.specs.Prelude.{◌≡◌, ◌<◌, ◌≤◌, [], length, OnOk, Some, slice_get};
 ghost use Rattle.in_phases.specs.Branches.{HasAgent, IsBranch};
+ghost use Rattle.in_reducer.specs.Machines.{AreNumbersBelow};
 
 use crate::branch::Branch;
 use in_base::{use_invariant, use_promise};
 use in_reducer::{CellNo, End, Reducer};
 use std::alloc::{AllocError, Global};
 
-/// A branch without agents, for nets with `numbers` numbers for agents.
-pub(crate) fn empty(alloc: Global, numbers: u32) -> Result<Branch, AllocError>
-    ensures { IfOk result (λ b. length b.marks.items ≡ numbers) }
-{
-    Ok(Branch {
-        agents: Vec::new(alloc),
-        marks: vec![in alloc; false; numbers as usize]?,
-    })
-}
-
 impl Branch {
-    /// Whether it is for nets with that many numbers for agents.
-    pub(crate) fn is_for(&self, numbers: u32) -> bool
-        ensures { result ≡ true → length self.now.marks.items ≡ numbers }
+    /// A branch without agents, for nets without numbers.
+    pub(crate) fn empty(alloc: Global) -> Branch
+        ensures { length result.marks.items ≡ 0 }
     {
-        self.marks.len() == numbers as usize
+        Branch {
+            agents: Vec::new(alloc),
+            marks: Vec::new(alloc),
+        }
+    }
+
+    /// Makes it one for nets whose agents have numbers below this one, and below those of before. Refused only when out of memory.
+    pub(crate) fn reach(&mut self, numbers: u32) -> Result<(), AllocError>
+        ensures reached { OnOk result (numbers ≤ length self.new.marks.items) }
+        ensures more { length self.old.marks.items ≤ length self.new.marks.items }
+    {
+        for _place in self.marks.len()..numbers as usize {
+            self.marks.push(false)?;
+        }
+        Ok(())
     }
 
     /// Forgets all agents.
@@ -111,7 +116,7 @@ impl Branch {
     /// Forgets what it had, and gathers the trees behind the first `pairs` pairs: both agents of each, each agent whose principal port is joined
     /// to an auxiliary port of one of them, and so on. Few wires lead out of them. Refused only when out of memory.
     pub(crate) fn gather(&mut self, reducer: &Reducer, pairs: u32) -> Result<(), AllocError>
-        requires many { length self.old.marks.items ≡ length reducer.now.agents }
+        requires reached { AreNumbersBelow reducer.now (length self.old.marks.items) }
         requires pairs { pairs ≤ length reducer.now.queue }
         ensures branch { OnOk result (IsBranch reducer.now self.new) }
         ensures many { length self.new.marks.items ≡ length self.old.marks.items }

@@ -2,7 +2,7 @@
 //! own, newest pair first, with its own queue and its own cells, and they are glued on again in the opposite order.
 //!
 //! `gathering` gathers the agents of a part in a `branch`: the trees behind some of the pairs. `cutting` cuts the wires that lead out of it,
-//! and undoes cuts; `reducing` reduces one net; `phases` does all of it, a part at a time: it splits one off, goes on with the rest while a
+//! and undoes cuts; `phases` does all of it, a part at a time: it splits one off, goes on with the rest while a
 //! thread reduces the part, and glues it on again. So each step speaks of two nets alone.
 #![tactic(auto)]
 
@@ -11,7 +11,6 @@ mod closing;
 mod cutting;
 mod gathering;
 mod phases;
-mod reducing;
 mod room;
 mod taking;
 

@@ -2,11 +2,10 @@
 ghost use Rattle.std.specs.Prelude.{◌≡◌, ◌<◌, ◌≤◌, ◌+◌};
 ghost use Rattle.in_compile.specs.Templates.{AreTemplatesOf};
 ghost use Rattle.in_phases.specs.Phases.{HasFree};
-ghost use Rattle.in_phases.specs.Rooms.{IsForAsMany};
+ghost use Rattle.in_phases.specs.Rooms.{KeepsRoom};
 ghost use Rattle.in_reducer.specs.Limiting.{most_cells};
 ghost use Rattle.in_reducer.specs.Parting.{ReducesTo};
 
-use crate::reducing::reduce_newest;
 use crate::room::Room;
 use crate::taking::{bring_back, take_part};
 use in_compile::Templates;
@@ -41,7 +40,7 @@ fn alone(reducer: &mut Reducer, templates: &Templates, sharing: Sharing) -> Work
     ensures floor { HasFree reducer.new sharing.floor }
     ensures parts { result.parts ≡ 1 }
 {
-    let interactions = reduce_newest(reducer, templates, sharing.floor, sharing.most);
+    let interactions = reducer.take_newest(templates, sharing.floor, sharing.most);
     Worked {
         interactions,
         longest: interactions,
@@ -72,24 +71,24 @@ fn at_once<R: Threads>(
     ensures most { result.1.interactions ≤ rest.most }
     ensures floor { HasFree reducer.new rest.floor }
     ensures parts { result.1.parts ≤ rest.parts }
-    ensures room { IsForAsMany room.old room.new }
+    ensures room { KeepsRoom room.old room.new }
 {
     join_mut(
         rt,
         &mut || -> u64
             requires { AreTemplatesOf part.now.program templates.now }
             ensures { ReducesTo part.entry.now result part.exit.now × (result ≤ most) }
-        { reduce_newest(part, templates, 0, most) },
+        { part.take_newest(templates, 0, most) },
         &mut || -> Worked
             requires { AreTemplatesOf reducer.now.program templates.now × (1 ≤ rest.parts) × (rest.share ≤ most_cells) × HasFree reducer.now rest.floor }
-            ensures { ReducesTo reducer.entry.now result.interactions reducer.exit.now × (result.interactions ≤ rest.most) × HasFree reducer.exit.now rest.floor × (result.parts ≤ rest.parts) × IsForAsMany room.entry.now room.exit.now }
+            ensures { ReducesTo reducer.entry.now result.interactions reducer.exit.now × (result.interactions ≤ rest.most) × HasFree reducer.exit.now rest.floor × (result.parts ≤ rest.parts) × KeepsRoom room.entry.now room.exit.now }
         { reduce_in_parts(rt, alloc, reducer, templates, rest, room) },
     )
 }
 
 /// Reduces a net in parts, each in a thread of its own but the rest: newest pairs first. It is never refused: where memory or cells run out
 /// there are fewer parts, and where a thread can't be started its part is reduced after the rest. Which agents are whose is open. The room is
-/// for the reducer's numbers; it is used again. There is at least one part, and as many cells are free as are to stay so.
+/// used again, and grows where it is too small. There is at least one part, and as many cells are free as are to stay so.
 #[cycle(phases)]
 pub fn reduce_in_parts<R: Threads>(
     rt: &R,
@@ -107,7 +106,7 @@ pub fn reduce_in_parts<R: Threads>(
     ensures most { result.interactions ≤ sharing.most }
     ensures floor { HasFree reducer.new sharing.floor }
     ensures parts { result.parts ≤ sharing.parts }
-    ensures room { IsForAsMany room.old room.new }
+    ensures room { KeepsRoom room.old room.new }
 {
     let pairs = reducer.pairs() / sharing.parts;
     if sharing.parts == 1 || pairs == 0 {

@@ -1,13 +1,13 @@
 // Lists that are used for one part after another.
-ghost use Rattle.std.specs.Prelude.{IfOk};
-ghost use Rattle.in_phases.specs.Rooms.{IsRoomFor};
+ghost use Rattle.std.specs.Prelude.{◌≡◌, ◌≤◌, length, OnOk};
+ghost use Rattle.in_phases.specs.Rooms.{KeepsRoom};
 
 use crate::branch::Branch;
-use crate::gathering::empty;
 use in_reducer::CellNo;
 use std::alloc::{AllocError, Global};
 
-/// Lists as long as there are numbers for agents, by which parts are gathered and moved: they are taken once, and serve all phases of a run.
+/// Lists with a place for each number of an agent, by which parts are gathered and moved. They are as long as the nets asked for so far, and
+/// serve all phases of a run.
 #[derive(Drop)]
 pub struct Room {
     pub(crate) branch: Branch,
@@ -15,14 +15,31 @@ pub struct Room {
 }
 
 impl Room {
-    /// Room for reducers with that many numbers for agents (`Reducer::numbers`); of one with another number `reduce_in_parts` makes no parts.
-    /// Refused only when out of memory.
-    pub fn new(alloc: Global, numbers: u32) -> Result<Room, AllocError>
-        ensures { IfOk result (IsRoomFor numbers) }
+    /// Room for no number yet. It takes no memory.
+    pub fn new(alloc: Global) -> Room {
+        Room {
+            branch: Branch::empty(alloc),
+            names: Vec::new(alloc),
+        }
+    }
+
+    /// Makes room for agents with numbers below this one. Refused only when out of memory.
+    pub(crate) fn reach(&mut self, numbers: u32) -> Result<(), AllocError>
+        ensures reached { OnOk result (numbers ≤ length self.new.branch.marks.items) }
+        ensures grown { KeepsRoom self.old self.new }
     {
-        Ok(Room {
-            branch: empty(alloc, numbers)?,
-            names: vec![in alloc; CellNo(0); numbers as usize]?,
-        })
+        self.branch.reach(numbers)
+    }
+
+    /// Makes room for that many new numbers. Refused only when out of memory.
+    pub(crate) fn reach_names(&mut self, numbers: usize) -> Result<(), AllocError>
+        ensures reached { OnOk result (numbers ≤ length self.new.names.items) }
+        ensures grown { KeepsRoom self.old self.new }
+        ensures branch { self.new.branch ≡ self.old.branch }
+    {
+        for _place in self.names.len()..numbers {
+            self.names.push(CellNo(0))?;
+        }
+        Ok(())
     }
 }

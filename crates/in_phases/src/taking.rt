@@ -1,12 +1,12 @@
 // A part is taken out of a net, and brought back.
-ghost use Rattle.std.specs.Prelude.{◌≡◌, ◌≤◌, ◌+◌, ◌*◌, ℕ, true, length, MatchOption, IfSome};
+ghost use Rattle.std.specs.Prelude.{◌≡◌, ◌≤◌, ◌+◌, ◌*◌, ℕ, true, length, MatchOption, IfSome, OnOk};
 ghost use Rattle.in_arena.specs.declared.content.CellClass.{CellClass as Class};
 ghost use Rattle.in_arena.specs.Classes.{classes};
 ghost use Rattle.in_compile.specs.Cells.{agents_of, count_of};
 ghost use Rattle.in_compile.specs.Templates.{AreTemplatesOf};
 ghost use Rattle.in_phases.specs.Branches.{IsBranch};
 ghost use Rattle.in_phases.specs.Phases.{CanComeBack, HasFree, IsSplitBy, IsTakenOut};
-ghost use Rattle.in_phases.specs.Rooms.{IsForAsMany};
+ghost use Rattle.in_phases.specs.Rooms.{KeepsRoom};
 ghost use Rattle.in_reducer.specs.Limiting.{most_cells};
 ghost use Rattle.in_reducer.specs.Machines.{MachineParts};
 ghost use Rattle.in_reducer.specs.Parting.{ReducesTo};
@@ -17,8 +17,8 @@ use crate::cutting::{cut_off, join_up};
 use crate::room::Room;
 use in_base::use_promise;
 use in_compile::Templates;
-use in_reducer::{CellNo, MOST_CELLS, MOST_FREE_ENDS, Reducer, Seam};
-use std::alloc::Global;
+use in_reducer::{CellClass, CellNo, MOST_CELLS, MOST_FREE_ENDS, Reducer, Seam};
+use std::alloc::{AllocError, Global};
 
 /// A part that was split off, and the seam at which it comes back; how many cuts there were, and how many cells of each class it has.
 #[derive(Drop)]
@@ -55,7 +55,7 @@ fn split<'a>(
     {
         return None;
     }
-    if names.len() != reducer.numbers() as usize || 3 * cells > names.len() {
+    if names.len() < reducer.bound() as usize || names.len() < CellClass::ALL.len() * cells {
         return None;
     }
     let cells = cells as u32;
@@ -95,6 +95,21 @@ pub(crate) fn bring_back(reducer: &mut Reducer, taken: Taken, names: &mut [CellN
     join_up(reducer, cuts);
 }
 
+/// Gathers the trees behind the first `pairs` pairs, with room for the numbers that they get in a part with `share` free cells of each class besides
+/// those of its agents. Refused only when out of memory.
+fn gather(reducer: &Reducer, pairs: u32, share: u32, room: &mut Room) -> Result<(), AllocError>
+    requires pairs { pairs ≤ length reducer.now.queue }
+    ensures branch { OnOk result (IsBranch reducer.now room.new.branch) }
+    ensures grown { KeepsRoom room.old room.new }
+{
+    let bound = reducer.bound();
+    room.reach(bound)?;
+    room.branch.gather(reducer, pairs)?;
+    let cells = room.branch.agents.len() + share as usize;
+    let part = CellClass::ALL.len() * cells.min(MOST_CELLS as usize);
+    room.reach_names(part.max(bound as usize))
+}
+
 /// Takes the trees behind the first `pairs` pairs out of a net, as a part with `share` free cells of each class besides those of its agents.
 /// `floor` cells of each class stay free in the rest, besides as many as the part has. Nothing where memory or cells run out for that: then
 /// the net is what it was, but for the numbers of its agents.
@@ -114,14 +129,11 @@ pub(crate) fn take_part<'a>(
     ensures taken { MatchOption result (ReducesTo reducer.old 0 reducer.new × HasFree reducer.new floor) (λ t. IsTakenOut reducer.old t.cuts t.cells t.seam t.part reducer.new × HasFree reducer.new (floor + t.cells)) }
     ensures templates { AreTemplatesOf reducer.new.program templates.now }
     ensures part_templates { IfSome result (λ t. AreTemplatesOf t.part.program templates.now) }
-    ensures room { IsForAsMany room.old room.new }
+    ensures room { KeepsRoom room.old room.new }
     ensures fits { IfSome result (λ t. length classes * t.cells ≤ length room.new.names.items) }
 {
     use_promise!(reducer.pairs());
-    if !room.branch.is_for(reducer.numbers()) {
-        return None;
-    }
-    let Ok(()) = room.branch.gather(reducer, pairs) else {
+    let Ok(()) = gather(reducer, pairs, share, room) else {
         return None;
     };
     let cuts = cut_off(reducer, &room.branch);

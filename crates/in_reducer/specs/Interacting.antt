@@ -14,6 +14,7 @@ use Rattle.in_cells.specs.Between.{Interaction, IsDone, AddsMade}
 use Rattle.in_cells.specs.Shown.{IsShown}
 use Rattle.in_compile.specs.Templates.{AreUnmarked, TemplateParts, IsTemplateOf}
 use Rattle.in_overwriting.specs.Overwriting.{NoneLeadsBack}
+use Rattle.in_typing.specs.TypedNets.{IsTypedNet}
 use Rattle.in_reducer.specs.declared.sides.Pair.{Pair}
 use Rattle.in_compile.specs.Putting.{IsPut}
 
@@ -35,7 +36,9 @@ interaction_of s ns = record { net = s.net; rule = s.rule; one = s.one; two = s.
 pub record IsAbout (t : Tables) (s : PairSetting) (p : TemplateParts) (pair : Pair) (own : ℕ) (a : ArenaView) (ends : List End) : Type 0 where
   pub net : IsNet (signature_of t) (net_of s.net)
   pub over : IsOver t s.net
+  pub typed : IsTypedNet (signature_of t) (net_of s.net)
   pub inside : IsNet (signature_of t) (net_of s.rule.member)
+  pub typed_inside : IsTypedNet (signature_of t) (net_of s.rule.member)
   pub member_over : IsOver t s.rule.member
   pub redex : IsRedex (signature_of t) (net_of s.net) (redex_at s.rule s.one.0 s.two.0)
   pub template : IsTemplateOf t s.rule p

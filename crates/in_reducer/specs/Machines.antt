@@ -1,6 +1,6 @@
 -- What contracts see of a reducer, and of the machine around it. Lafont 1990 reduces a net by interactions of its active pairs, in any
 -- order; the queue of pairs and the cells are this project's own choice.
-use Rattle.std.specs.Prelude.{◌≡◌, ◌+◌, ℕ, List, Option}
+use Rattle.std.specs.Prelude.{◌≡◌, ◌<◌, ◌+◌, ℕ, List, Option, IsSome}
 use Rattle.in_arena.specs.declared.content.CellClass.{CellClass}
 use Rattle.in_arena.specs.declared.content.End.{End}
 use Rattle.in_arena.specs.declared.content.End.TheVariants as end
@@ -10,7 +10,7 @@ use Rattle.in_net.specs.declared.nets.Point as points
 use Rattle.in_net.specs.declared.nets.Point.TheVariants as point
 use Rattle.in_interaction.specs.Listing.{unlisted}
 use Rattle.in_interaction.specs.Queues.{IsQueueOf}
-use Rattle.in_net.specs.Parts.{Parts}
+use Rattle.in_net.specs.Parts.{Parts, symbol_in}
 use Rattle.in_check.specs.Plain.{PlainParts}
 use Rattle.in_check.specs.Programs.{Program}
 use Rattle.in_compile.specs.declared.cells.Need.{Need}
@@ -44,3 +44,7 @@ HasItsPairs m = IsQueueOf m.program.tables (parts_of m) m.queue
 -- of each class it has `cells` cells, free ones and those of its agents
 abbrev pub HasCells : ℕ → MachineParts → Type 0
 HasCells cells m = (c : CellClass) → count_of m.vacant c + agents_of m.program.tables c m.agents ≡ cells
+
+-- the number of each agent is below this one
+abbrev pub AreNumbersBelow : MachineParts → ℕ → Type 0
+AreNumbersBelow m many = (y : ℕ) → IsSome (symbol_in (parts_of m) y) → y < many

@@ -1,8 +1,12 @@
--- Symbols of pairs that are read ahead of their interactions. That they are is this project's own choice.
-use Rattle.std.specs.Prelude.{◌≡◌, ◌+◌, ◌≤◌, ℕ, Some, slice_get}
+-- Symbols of pairs that are read ahead of their interactions, and cells that are left free. That they are is this project's own choice.
+use Rattle.std.specs.Prelude.{◌≡◌, ◌⊎◌, ◌+◌, ◌-◌, ◌≤◌, ℕ, [], length, Some, slice_get}
+use Rattle.in_arena.specs.declared.content.CellClass.{CellClass}
 use Rattle.in_symbols.specs.declared.symbols.SymbolNo.{SymbolNo}
 use Rattle.in_reducer.specs.declared.taking.Ahead.{Ahead}
+use Rattle.in_compile.specs.declared.cells.Need.{Need}
+use Rattle.in_compile.specs.Cells.{count_of}
 use Rattle.in_reducer.specs.Machines.{MachineParts}
+use Rattle.in_reducer.specs.Steps.{NeedsAt}
 use Rattle.in_reducer.specs.Templates.{HasHeadsAt}
 
 -- how many are read together
@@ -13,3 +17,11 @@ together = 8
 pub record AreAhead (m : MachineParts) (a : Ahead) : Type 0 where
   pub next : a.next ≤ together
   pub heads : (k : ℕ) (h : SymbolNo × SymbolNo) → slice_get a.heads (a.next + k) ≡ Some h → HasHeadsAt m k h
+
+-- what that pair needs is free, and `floor` cells of each class besides
+abbrev pub HasRoomBesides : MachineParts → ℕ → ℕ → Type 0
+HasRoomBesides m i floor = (need : Need) × NeedsAt m i need × ((c : CellClass) → floor + count_of need c ≤ count_of m.vacant c)
+
+-- no pair is left, or what the last one needs isn't free with `floor` cells of each class besides
+abbrev pub TakesNoLast : ℕ → MachineParts → Type 0
+TakesNoLast floor m = (m.queue ≡ []) ⊎ (HasRoomBesides m (length m.queue - 1) floor → ⊥)

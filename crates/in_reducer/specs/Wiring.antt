@@ -1,11 +1,11 @@
 -- An interaction in place, over cells: new agents are begun in cells of their own, beside the pair, and the wires of the right member are
 -- written one after another, each at its two sides. Lafont 1990: the right member takes the place of the active pair on the same boundary
 -- ends. That an interaction is done so where no wire leads back to its pair is this project's own choice.
-use Rattle.std.specs.Prelude.{◌≡◌, ◌≢◌, ◌⊎◌, IsTrue, ◌↔◌, ◌≤◌, ◌<◌, ◌+◌, ◌++◌, ℕ, suc, List, length, map, take, slice_get, slice_index_or, Some, None}
+use Rattle.std.specs.Prelude.{◌≡◌, ◌⊎◌, IsTrue, ◌↔◌, ◌≤◌, ◌<◌, ◌+◌, ◌-◌, ◌++◌, ℕ, suc, Bool, cond, List, [], ◌∷◌, length, map, take, slice_get, slice_index_or, Some, None}
 use Rattle.in_arena.specs.Arenas.{ArenaView, free_of, state_at}
 use Rattle.in_arena.specs.Changes.{HasAllCells}
 use Rattle.in_arena.specs.Classes.{IsNumberOf}
-use Rattle.in_arena.specs.States.{IsBegun, word_of, places}
+use Rattle.in_arena.specs.States.{IsBegun, IsLive, word_of, end_at, places}
 use Rattle.in_arena.specs.declared.content.CellNo.{CellNo}
 use Rattle.in_arena.specs.declared.content.End.{End}
 use Rattle.in_arena.specs.declared.content.End.TheVariants.{Cell}
@@ -13,11 +13,11 @@ use Rattle.in_symbols.specs.Tables.{Tables}
 use Rattle.in_net.specs.Built.{IsOver}
 use Rattle.in_net.specs.declared.nets.AgentNo.{AgentNo}
 use Rattle.in_net.specs.NetFaults.{max_member_agents}
-use Rattle.in_net.specs.Nets.{Point, Free, signature_of}
+use Rattle.in_net.specs.Nets.{Point, Free, net_of, signature_of}
 use Rattle.in_interaction.specs.Queues.{numbers_of}
 use Rattle.in_cells.specs.Between.{Interaction, before, redex_of}
-use Rattle.in_cells.specs.Cells.{HasSymbols, KeepsCells}
-use Rattle.in_cells.specs.Pairs.{IsAtLive}
+use Rattle.in_cells.specs.Cells.{KeepsCells}
+use Rattle.in_cells.specs.Pairs.{IsNoPair, IsPrincipal}
 use Rattle.in_cells.specs.Shown.{end_of, stands_at}
 use Rattle.in_compile.specs.Cells.{count_of, IsEnough}
 use Rattle.in_compile.specs.Members.{AgentParts, MemberParts}
@@ -26,10 +26,10 @@ use Rattle.in_compile.specs.Wires.{both_points, over_of, over_point, within_of}
 use Rattle.in_overwriting.specs.InTurn.{AreAllWiresOf, in_two_parts}
 use Rattle.in_overwriting.specs.MadeByWires.{CanOverwriteAt, MakeInTurn}
 use Rattle.in_overwriting.specs.Overwriting.{IsSideAt}
+use Rattle.in_typing.specs.TypedNets.{IsTypedNet}
 use Rattle.in_reducer.specs.declared.sides.Pair.{Pair}
 use Rattle.in_reducer.specs.Inside.{most_ends, most_points}
 use Rattle.in_reducer.specs.Interacting.{PairSetting, IsAbout, interaction_of}
-use Rattle.in_reducer.specs.Sides.{port_at}
 
 -- ---- the new agents
 
@@ -90,22 +90,26 @@ wires_of m = in_two_parts (map over_point (over_of m)) (map both_points (within_
 abbrev pub IsAtPlace : End → ℕ → End → Type 0
 IsAtPlace x place y = ((place ≡ 0) × (y ≡ x)) ⊎ ((c : CellNo) × (x ≡ Cell c 0) × (y ≡ Cell c place))
 
--- the pair has a port for this boundary end
-abbrev pub HasPortAt : ArenaView → Pair → ℕ → Type 0
-HasPortAt a p e = (port_at p e).1 < places (state_at a (port_at p e).0.0)
-
--- it has one for each of these boundary ends, and there are points for them
+-- both are live, and have as many auxiliary ports as these boundary ends are, those of the first one first; and there are points for them
 pub record CanRead (a : ArenaView) (p : Pair) (many : ℕ) (points : List End) : Type 0 where
-  pub ports : (e : ℕ) → e < many → HasPortAt a p e
+  pub one : IsLive (state_at a p.one.0)
+  pub other : IsLive (state_at a p.other.0)
+  pub order : p.first_ends ≤ many
+  pub first : p.first_ends < places (state_at a p.one.0)
+  pub second : many < p.first_ends + places (state_at a p.other.0)
   pub few : many ≤ most_ends
   pub long : most_points ≤ length points
 
--- the two are of live cells, which have symbols, and differ
-pub record CanPair (t : Tables) (a : ArenaView) (x y : End) : Type 0 where
-  pub one : IsAtLive a x
-  pub other : IsAtLive a y
-  pub differ : x ≢ y
-  pub symbols : HasSymbols t a
+-- at the points from `first` to before `to` stands what the agent's auxiliary ports lead to, in their order. All other points are as they were
+pub record HasPortsIn (a : ArenaView) (c : CellNo) (first to : ℕ) (old new : List End) : Type 0 where
+  pub read : (e : ℕ) → first ≤ e → e < to → slice_get new e ≡ end_at (state_at a c.0) (suc (e - first))
+  pub others : (k : ℕ) → (k < first) ⊎ (to ≤ k) → slice_get new k ≡ slice_get old k
+  pub long : length new ≡ length old
+
+-- the pair of two principal ports is added, the second one's agent first where the first one is an input. Nothing is, if one of them is none
+abbrev pub AddsInOrder : Bool → End → End → List (ℕ × ℕ) → List (ℕ × ℕ) → Type 0
+AddsInOrder input x y old new =
+    (IsNoPair x y × (new ≡ old)) ⊎ ((c : ℕ) × (d : ℕ) × IsPrincipal c x × IsPrincipal d y × (new ≡ old ++ cond input (d, c) (c, d) ∷ []))
 
 -- after the points of 32 boundary ends come those of the agents, which have these cells: their principal ports
 abbrev pub AreAtAgents : List CellNo → List End → Type 0
@@ -118,9 +122,10 @@ pub record AreSidesIn (t : Tables) (x : Interaction) (ns : List CellNo) (points 
 
 -- in an interaction of this template, whose agents have these cells, the first k wires are written
 pub record IsWiring (t : Tables) (s : PairSetting) (p : TemplateParts) (own : ℕ) (ns : List CellNo) (points : List End) (k : ℕ) (a : ArenaView) (ends : List End) : Type 0 where
-  pub over : IsOver t s.net
   pub member_over : IsOver t s.rule.member
   pub template : IsTemplateOf t s.rule p
+  pub typed : IsTypedNet (signature_of t) (net_of s.net)
+  pub typed_inside : IsTypedNet (signature_of t) (net_of s.rule.member)
   pub many : length ns ≡ length p.member.agents
   pub sides : AreSidesIn t (interaction_of s ns) ns points
   pub from : AreFirstWired t (interaction_of s ns) own (wires_of p.member) k a ends

@@ -2,10 +2,13 @@
 ghost use Rattle.std.specs.Prelude.{◌≡◌, ◌*◌, ◌≤◌, ◌<◌, ◌+◌, ◌++◌, ℕ, length, map, All, vec_len, vec_capacity};
 ghost use Rattle.in_arena.specs.Arenas.{NoneLeased};
 ghost use Rattle.in_arena.specs.declared.content.CellClass.{CellClass as Class};
-ghost use Rattle.in_arena.specs.Classes.{classes};
+ghost use Rattle.in_arena.specs.Changes.{HasAllCells};
+ghost use Rattle.in_arena.specs.Classes.{class_no, classes};
 ghost use Rattle.in_compile.specs.Cells.{agents_of, count_of};
 ghost use Rattle.in_cells.specs.Copying.{IsListOfLive, moved_end, name_in, number_in};
+ghost use Rattle.in_cells.specs.CopyingSteps.{AreListedBelow};
 ghost use Rattle.in_reducer.specs.Gluing.{CanAppend, IsCellWithin, IsFreeWithin, glued, in_turn};
+ghost use Rattle.in_reducer.specs.Limiting.{most_cells};
 ghost use Rattle.in_reducer.specs.Parting.{IsGluedOn, place_of_two};
 ghost use Rattle.in_reducer.specs.Reserved.{IsReserved};
 
@@ -15,7 +18,8 @@ use crate::cut_ends::Cuts;
 use crate::numbered::numbered_end;
 use crate::reducer::Reducer;
 use crate::seam::Seam;
-use in_arena::{Arena, CellNo, EndWord};
+use in_arena::{Arena, CellClass, CellNo, EndWord};
+use in_base::use_promise;
 use in_cells::{copy, moved_end, number_anew};
 
 /// What the free ends of the part and of the rest lead to, with the new numbers of the part's cells, and of the free ends of both.
@@ -54,17 +58,36 @@ fn list_part_numbers(cuts: Cuts, numbers: &mut Vec<u32>)
     }
 }
 
-/// The live cells of an arena that has no cell on lease, in the order of their numbers. No memory is taken.
-fn list_live(arena: &Arena, cells: &mut Vec<CellNo>)
-    requires leased { NoneLeased arena.now }
-    requires cells { IsReserved (length arena.now.states) cells.old }
-    ensures { IsListOfLive arena.now cells.new.items }
+/// Adds the live cells of a class, in the order of their numbers, to those of the classes before. Those that were never used aren't looked at.
+/// No memory is taken.
+fn list_class(arena: &Arena, class: CellClass, cells: &mut Vec<CellNo>)
+    requires leased { NoneLeased arena.now × HasAllCells arena.now }
+    requires small { arena.now.cells ≤ most_cells }
+    requires listed { AreListedBelow arena.now (class_no class * arena.now.cells) cells.old.items }
+    requires few { vec_len cells.old ≤ class_no class * arena.now.cells }
+    requires room { length arena.now.states ≤ vec_capacity cells.old }
+    ensures listed { AreListedBelow arena.now ((class_no class + 1) * arena.now.cells) cells.new.items }
+    ensures few { vec_len cells.new ≤ (class_no class + 1) * arena.now.cells }
+    ensures room { vec_capacity cells.new ≡ vec_capacity cells.old }
 {
-    for number in 0..arena.all_cells() {
+    for number in class.number() * arena.cells()..arena.used(class) {
         let cell = CellNo(number);
         if arena.is_live(cell) {
             cells.push_reserved(cell);
         }
+    }
+}
+
+/// The live cells of an arena that has no cell on lease, in the order of their numbers. No memory is taken.
+fn list_live(arena: &Arena, cells: &mut Vec<CellNo>)
+    requires leased { NoneLeased arena.now }
+    requires small { arena.now.cells ≤ most_cells }
+    requires cells { IsReserved (length arena.now.states) cells.old }
+    ensures { IsListOfLive arena.now cells.new.items }
+{
+    use_promise!(arena.cells());
+    for class in CellClass::ALL {
+        list_class(arena, class, cells);
     }
 }
 

@@ -4,7 +4,7 @@ ghost use Rattle.in_symbols.specs.Tables.{arity_of};
 ghost use Rattle.in_net.specs.Parts.{IsPointOf, symbol_in, partner_in, free_name_in};
 ghost use Rattle.in_arena.specs.declared.content.CellClass.{CellClass as Class};
 ghost use Rattle.in_compile.specs.Cells.{count_of};
-ghost use Rattle.in_reducer.specs.Machines.{parts_of, point_at};
+ghost use Rattle.in_reducer.specs.Machines.{AreNumbersBelow, parts_of, point_at};
 ghost use Rattle.in_reducer.specs.Reducers.{IsReducer};
 
 use crate::body::OwnEnd;
@@ -67,6 +67,14 @@ impl<'a> Reducer<'a> {
         ensures { result ≡ length self.now.agents }
     {
         self.body.arena.all_cells()
+    }
+
+    /// A number above those of all agents: the cells from there on were never used.
+    pub fn bound(&self) -> u32
+        ensures above { AreNumbersBelow self.now result }
+        ensures few { result ≤ length self.now.agents }
+    {
+        self.body.arena.bound()
     }
 
     /// How many agents there are.

@@ -16,6 +16,8 @@ pub(crate) fn take_out(queue: &mut VecDeque<(u32, u32)>, number: usize)
 {
     if number == 0 {
         queue.pop_front();
+    } else if number + 1 == queue.len() {
+        queue.pop_back();
     } else {
         queue.remove(number);
     }

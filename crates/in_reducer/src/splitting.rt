@@ -12,6 +12,7 @@ ghost use Rattle.in_interaction.specs.Queues.{both};
 ghost use Rattle.in_cells.specs.Copying.{IsEndWithin, moved_end, name_in, number_in};
 ghost use Rattle.in_reducer.specs.Laying.{IsFresh};
 ghost use Rattle.in_reducer.specs.Limiting.{most_cells};
+ghost use Rattle.in_reducer.specs.Machines.{AreNumbersBelow};
 ghost use Rattle.in_reducer.specs.Parting.{CanSplit, IsSplitOff, place_of_two};
 ghost use Rattle.in_reducer.specs.Splitting.{AreListsFor, AreNumbersOfTwo, ArePicked, ArePickedWithRoom, HasRoomForEnds, goes, stays};
 
@@ -161,8 +162,8 @@ fn split_queue(
     part: &mut VecDeque<(u32, u32)>,
 )
     requires none { NoneLeased arena.now }
-    requires there { (k : ℕ) (q : ℕ × ℕ) → slice_get queue.old.items k ≡ Some q → (q.0 < length arena.now.states) × (q.1 < length arena.now.states) }
-    requires names { length arena.now.states ≤ length names.now }
+    requires there { (k : ℕ) (q : ℕ × ℕ) → slice_get queue.old.items k ≡ Some q → q.0 < length arena.now.states }
+    requires names { (k : ℕ) (q : ℕ × ℕ) → slice_get queue.old.items k ≡ Some q → (q.0 < length names.now) × (q.1 < length names.now) }
     requires part { (part.old.items ≡ []) × (length (filter (goes arena.now) queue.old.items) ≤ deque_capacity part.old) }
     ensures rest { queue.new.items ≡ filter (stays arena.now) queue.old.items }
     ensures rest_room { deque_capacity queue.new ≡ deque_capacity queue.old }
@@ -185,7 +186,7 @@ impl<'a> Reducer<'a> {
     /// Splits these agents off, as a reducer by itself with `cells` cells of each class, which shares nothing with the rest. They and the first
     /// ends of `cuts` cuts, which came after `own` free ends, are to lead to each other alone, so that both agents of a pair go or stay. The
     /// part has the first ends of the cuts, in their order, and the rest the others. The new numbers of the agents are written in `names`, which
-    /// is as long as there are numbers. Refused only when out of memory, and then the reducer is as it was.
+    /// is long enough for the number of each agent. Refused only when out of memory, and then the reducer is as it was.
     pub fn split_off(
         &mut self,
         alloc: Global,
@@ -198,7 +199,7 @@ impl<'a> Reducer<'a> {
         requires can { CanSplit self.old agents.now own cuts }
         requires fits { length agents.now ≤ cells }
         requires cells { cells ≤ most_cells }
-        requires names { length names.old ≡ length self.old.agents }
+        requires names { AreNumbersBelow self.old (length names.old) }
         ensures split { IfOk result (λ part. IsSplitOff self.old agents.now own cuts cells self.new part) }
         ensures names { length names.new ≡ length names.old }
         ensures refused { OnErr result (self.new ≡ self.old) }

@@ -96,7 +96,7 @@ impl<'a> Reducer<'a> {
 
     /// The template of the pair of that number, as above.
     #[inline(always)]
-    fn template<'b>(&self, templates: &'b Templates, number: u32) -> &'b Template
+    pub(crate) fn template<'b>(&self, templates: &'b Templates, number: u32) -> &'b Template
         requires templates { AreTemplatesOf self.now.program templates.now }
         requires pair { number < length self.now.queue }
         ensures { IsTemplateAt self.now number result.now }
@@ -164,7 +164,6 @@ impl<'a> Reducer<'a> {
         use_promise!(body.arena.cells());
         take_out(&mut body.queue, number as usize);
         wire_up(
-            body.checked.symbols(),
             template,
             pair,
             &mut body.arena,
@@ -183,7 +182,7 @@ impl<'a> Reducer<'a> {
 
     /// The interaction of the pair of that number, as `step` says.
     #[inline(always)]
-    fn step_by(&mut self, template: &Template, number: u32)
+    pub(crate) fn step_by(&mut self, template: &Template, number: u32)
         requires at { IsTemplateAt self.old number template.now }
         requires room { HasRoomAt self.old number }
         ensures { StepsAt self.old number self.new }

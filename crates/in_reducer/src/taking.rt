@@ -1,15 +1,18 @@
-// Interactions of the first pairs, one after another.
-ghost use Rattle.std.specs.Prelude.{◌≡◌, ◌⊎◌, ◌≤◌, ◌<◌, ℕ, true, false, [], length, Some, slice_get};
+// Interactions of the first pairs, or of the last ones, one after another.
+ghost use Rattle.std.specs.Prelude.{◌≡◌, ◌⊎◌, ◌↔◌, ◌≤◌, ◌<◌, ◌-◌, ℕ, IsTrue, true, false, [], length, Some, slice_get};
+ghost use Rattle.in_arena.specs.declared.content.CellClass.{CellClass};
 ghost use Rattle.in_symbols.specs.declared.symbols.SymbolNo.{SymbolNo as Symbol};
+ghost use Rattle.in_compile.specs.Cells.{count_of};
 ghost use Rattle.in_compile.specs.Templates.{AreTemplatesOf};
+ghost use Rattle.in_reducer.specs.Parting.{ReducesTo};
 ghost use Rattle.in_reducer.specs.Runs.{Runs};
 ghost use Rattle.in_reducer.specs.Steps.{HasRoomAt, StepsAt};
-ghost use Rattle.in_reducer.specs.Taking.{AreAhead, together};
-ghost use Rattle.in_reducer.specs.Templates.{HasHeadsAt};
+ghost use Rattle.in_reducer.specs.Taking.{AreAhead, HasRoomBesides, TakesNoLast, together};
+ghost use Rattle.in_reducer.specs.Templates.{HasHeadsAt, IsTemplateAt};
 
 use crate::reducer::Reducer;
 use in_base::use_promise;
-use in_compile::Templates;
+use in_compile::{Need, Template, Templates};
 use in_symbols::SymbolNo;
 
 /// The symbols of how many pairs are read together, so that their cells are fetched at once: more than eight gain nothing. This project's own
@@ -88,6 +91,54 @@ impl<'a> Reducer<'a> {
         while count < most {
             self.look_ahead(&mut ahead);
             if !self.step_next(templates, &mut ahead) {
+                return count;
+            }
+            count += 1;
+        }
+        count
+    }
+
+    /// Whether what the template of the pair of that number needs is free, and `floor` cells of each class besides.
+    #[inline(always)]
+    fn fits_besides(&self, template: &Template, number: u32, floor: u32) -> bool
+        requires { IsTemplateAt self.now number template.now }
+        ensures { IsTrue result ↔ HasRoomBesides self.now number floor }
+    {
+        let _ = number;
+        Need::free_in(&self.body.arena).has_besides(template.need(), floor)
+    }
+
+    /// The interaction of the last pair, as `step` says, where what it needs is free and `floor` cells of each class besides. Returns whether it
+    /// was done. There is a pair.
+    #[inline(always)]
+    fn step_last(&mut self, templates: &Templates, floor: u32) -> bool
+        requires templates { AreTemplatesOf self.old.program templates.now }
+        requires pair { 0 < length self.old.queue }
+        ensures done { result ≡ true → StepsAt self.old (length self.old.queue - 1) self.new × HasRoomBesides self.old (length self.old.queue - 1) floor }
+        ensures none { result ≡ false → (self.new ≡ self.old) × (HasRoomBesides self.old (length self.old.queue - 1) floor → ⊥) }
+    {
+        let number = self.pairs() - 1;
+        let template = self.template(templates, number);
+        if !self.fits_besides(template, number, floor) {
+            return false;
+        }
+        self.step_by(template, number);
+        true
+    }
+
+    /// Interactions of the last pair of the queue, one after another, at most `most`, the newest pair first: what was made last is still in the
+    /// cache, and a net that is reduced from there stays small. Fewer only where no pair is left, or what the last one needs isn't free with
+    /// `floor` cells of each class besides. Returns how many they were. The templates are those of the program. It takes no memory.
+    pub fn take_newest(&mut self, templates: &Templates, floor: u32, most: u64) -> u64
+        requires { AreTemplatesOf self.old.program templates.now }
+        ensures reduces { ReducesTo self.old result self.new }
+        ensures most { result ≤ most }
+        ensures floor { ((c : CellClass) → floor ≤ count_of self.old.vacant c) → (c : CellClass) → floor ≤ count_of self.new.vacant c }
+        ensures fewer { result < most → TakesNoLast floor self.new }
+    {
+        let mut count = 0;
+        while count < most {
+            if self.pairs() == 0 || !self.step_last(templates, floor) {
                 return count;
             }
             count += 1;

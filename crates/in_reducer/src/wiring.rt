@@ -1,26 +1,26 @@
 // One interaction in place: new agents are begun beside the pair, and the wires of the right member are written.
-ghost use Rattle.std.specs.Prelude.{◌≡◌, ◌≤◌, ◌<◌, ◌+◌, ◌++◌, ℕ, List, length, map, Some, slice_get};
+ghost use Rattle.std.specs.Prelude.{◌≡◌, ◌≤◌, ◌<◌, ◌+◌, ◌++◌, ℕ, Bool, List, length, map, Some, slice_get};
 ghost use Rattle.std.specs.VecDeque.{deque_len, deque_capacity};
+ghost use Rattle.in_arena.specs.Arenas.{state_at};
+ghost use Rattle.in_arena.specs.States.{IsLive, places};
 ghost use Rattle.in_arena.specs.declared.content.CellNo.{CellNo as Number};
 ghost use Rattle.in_arena.specs.declared.content.End.{End};
 ghost use Rattle.in_arena.specs.declared.content.End.TheVariants.{Cell};
 ghost use Rattle.in_symbols.specs.Tables.{Tables};
 ghost use Rattle.in_interaction.specs.Queues.{both};
 ghost use Rattle.in_cells.specs.Cells.{KeepsCells};
-ghost use Rattle.in_cells.specs.Pairs.{AddsPair};
 ghost use Rattle.in_compile.specs.Wires.{over_of, over_point};
 ghost use Rattle.in_reducer.specs.Inside.{most_ends};
 ghost use Rattle.in_reducer.specs.Interacting.{PairSetting, interaction_of, named};
 ghost use Rattle.in_reducer.specs.Sides.{end_there, port_at};
-ghost use Rattle.in_reducer.specs.Wiring.{AreAtAgents, AreOwnPairs, CanBegin, CanPair, CanRead, CanWireUp, HasBegun, HasQueued, IsAtPlace, IsWiredUp, IsWiring, wires_of};
+ghost use Rattle.in_reducer.specs.Wiring.{AddsInOrder, AreAtAgents, AreOwnPairs, CanBegin, CanRead, CanWireUp, HasBegun, HasPortsIn, HasQueued, IsAtPlace, IsWiredUp, IsWiring, wires_of};
 
 use crate::limits::MOST_ENDS;
 use crate::sides::Pair;
 use in_arena::{Arena, CellNo, EndWord};
-use in_cells::{exchange, pair_of};
+use in_cells::exchange;
 use in_compile::{Member, Template};
 use in_net::MAX_MEMBER_AGENTS;
-use in_symbols::Symbols;
 use std::collections::VecDeque;
 
 /// How many points a right member has at most: a boundary end each, and an agent each.
@@ -40,6 +40,21 @@ fn begin_agents(member: &Member, arena: &mut Arena, points: &mut [EndWord])
     }
 }
 
+/// Reads what the auxiliary ports of a live agent lead to, in their order, at the points from `first` to before `to`. It has so many.
+#[inline(always)]
+fn read_agent(arena: &Arena, cell: CellNo, first: u8, to: u8, points: &mut [EndWord])
+    requires live { IsLive (state_at arena.now cell.0) }
+    requires order { first ≤ to }
+    requires ports { to < first + places (state_at arena.now cell.0) }
+    requires room { to ≤ length points.old }
+    ensures { HasPortsIn arena.now cell first to points.old points.new }
+{
+    let ends = arena.ends(cell);
+    for number in first..to {
+        points[number as usize] = ends[(number - first) as usize + 1];
+    }
+}
+
 /// Reads what the pair's ports lead to, at the points of their boundary ends.
 #[inline(always)]
 fn read_ports(arena: &Arena, pair: Pair, many: u8, points: &mut [EndWord])
@@ -47,10 +62,8 @@ fn read_ports(arena: &Arena, pair: Pair, many: u8, points: &mut [EndWord])
     ensures read { (e : ℕ) → e < many → slice_get points.new e ≡ end_there arena.now (port_at pair e) }
     ensures others { (k : ℕ) → many ≤ k → slice_get points.new k ≡ slice_get points.old k }
 {
-    for end in 0..many {
-        let (cell, place) = pair.port(end);
-        points[end as usize] = arena.word(cell, place);
-    }
+    read_agent(arena, pair.one, 0, pair.first_ends, points);
+    read_agent(arena, pair.other, pair.first_ends, many, points);
 }
 
 /// The side of a wire that is read at this point, at this place.
@@ -62,40 +75,45 @@ fn side(points: &[EndWord], slot: u8, place: u8) -> EndWord
     points[slot as usize].at(place)
 }
 
-/// Queues the pair of two principal ports, if both are.
+/// Queues the pair that a wire with this lowest boundary end makes, if both its sides are principal ports. Where the boundary end is an output, its
+/// side is an input, and the agent of the other side comes first.
 #[inline(always)]
 fn queue_pair(
-    arena: &Arena,
-    symbols: &Symbols,
-    one: EndWord,
-    other: EndWord,
+    template: &Template,
+    end: u8,
+    outer: EndWord,
+    inner: EndWord,
     queue: &mut VecDeque<(u32, u32)>,
 )
-    requires ends { CanPair symbols.now arena.now one other }
+    requires there { end < length template.now.outputs }
     requires room { deque_len queue.old < deque_capacity queue.old }
-    ensures added { AddsPair symbols.now arena.now one other queue.old.items queue.new.items }
+    ensures added { (input : Bool) → slice_get template.now.outputs end ≡ Some input → AddsInOrder input outer inner queue.old.items queue.new.items }
     ensures longer { deque_len queue.new ≤ deque_len queue.old + 1 }
     ensures capacity { deque_capacity queue.new ≡ deque_capacity queue.old }
 {
-    if let Some((first, second)) = pair_of(arena, symbols, one, other) {
-        queue.push_back_reserved((first.0, second.0));
+    if let (Some(one), Some(other)) = (outer.principal(), inner.principal()) {
+        let pair = if template.is_output(end) {
+            (other.0, one.0)
+        } else {
+            (one.0, other.0)
+        };
+        queue.push_back_reserved(pair);
     }
 }
 
 /// Writes the wires with boundary ends, and queues the pairs that they make, by their lowest boundary ends.
 #[inline(always)]
 fn write_over(
-    symbols: &Symbols,
     template: &Template,
     points: &[EndWord],
     arena: &mut Arena,
     ends: &mut [EndWord],
     queue: &mut VecDeque<(u32, u32)>,
 )
-    requires ready { (s : PairSetting) × (own : ℕ) × (ns : List Number) × IsWiring symbols.now s template.now own ns points.now 0 arena.old ends.old }
+    requires ready { (t : Tables) × (s : PairSetting) × (own : ℕ) × (ns : List Number) × IsWiring t s template.now own ns points.now 0 arena.old ends.old }
     requires room { deque_len queue.old + length (over_of template.now.member) ≤ deque_capacity queue.old }
-    ensures written { (s : PairSetting) (own : ℕ) (ns : List Number) → IsWiring symbols.now s template.now own ns points.now 0 arena.old ends.old → IsWiring symbols.now s template.now own ns points.now (length (over_of template.now.member)) arena.new ends.new }
-    ensures queued { (s : PairSetting) (own : ℕ) (ns : List Number) → IsWiring symbols.now s template.now own ns points.now 0 arena.old ends.old → HasQueued symbols.now (interaction_of s ns) (map over_point (over_of template.now.member)) (length (over_of template.now.member)) queue.old.items queue.new.items }
+    ensures written { (t : Tables) (s : PairSetting) (own : ℕ) (ns : List Number) → IsWiring t s template.now own ns points.now 0 arena.old ends.old → IsWiring t s template.now own ns points.now (length (over_of template.now.member)) arena.new ends.new }
+    ensures queued { (t : Tables) (s : PairSetting) (own : ℕ) (ns : List Number) → IsWiring t s template.now own ns points.now 0 arena.old ends.old → HasQueued t (interaction_of s ns) (map over_point (over_of template.now.member)) (length (over_of template.now.member)) queue.old.items queue.new.items }
     ensures kept { KeepsCells arena.old arena.new }
     ensures long { length ends.new ≡ length ends.old }
     ensures capacity { deque_capacity queue.new ≡ deque_capacity queue.old }
@@ -106,7 +124,7 @@ fn write_over(
         let outer = points[wire.end() as usize];
         let inner = side(points, wire.slot(), wire.place());
         exchange(arena, ends, outer, inner);
-        queue_pair(arena, symbols, outer, inner, queue);
+        queue_pair(template, wire.end(), outer, inner, queue);
     }
 }
 
@@ -131,7 +149,6 @@ fn write_within(template: &Template, points: &[EndWord], arena: &mut Arena, ends
 /// queued. It takes no memory, and other cells may be on lease.
 #[inline(always)]
 pub(crate) fn wire_up(
-    symbols: &Symbols,
     template: &Template,
     pair: Pair,
     arena: &mut Arena,
@@ -139,16 +156,16 @@ pub(crate) fn wire_up(
     points: &mut [EndWord],
     queue: &mut VecDeque<(u32, u32)>,
 )
-    requires ready { CanWireUp symbols.now template.now pair arena.old ends.old points.old }
+    requires ready { (t : Tables) × CanWireUp t template.now pair arena.old ends.old points.old }
     requires room { deque_len queue.old + most_ends ≤ deque_capacity queue.old }
-    ensures wired { IsWiredUp symbols.now template.now pair arena.old ends.old queue.old.items arena.new ends.new points.new queue.new.items }
+    ensures wired { (t : Tables) → CanWireUp t template.now pair arena.old ends.old points.old → IsWiredUp t template.now pair arena.old ends.old queue.old.items arena.new ends.new points.new queue.new.items }
     ensures points { length points.new ≡ length points.old }
     ensures long { length ends.new ≡ length ends.old }
     ensures capacity { deque_capacity queue.new ≡ deque_capacity queue.old }
 {
     begin_agents(template.member(), arena, points);
     read_ports(arena, pair, template.boundary_ends(), points);
-    write_over(symbols, template, points, arena, ends, queue);
+    write_over(template, points, arena, ends, queue);
     write_within(template, points, arena, ends);
 }
 

@@ -14,26 +14,21 @@ use std::thread::Threads;
 /// How many pairs are taken before it is looked again whether a phase pays.
 const TURN: u64 = 1_024;
 
-/// Interactions of the newest pairs, at most `most`, while half of the cells are free and so is what the newest pair needs. Says how many
-/// they were. What was made last is still in the cache, and a net that is reduced from there stays small.
-fn take_newest(machine: &mut Machine, cells: u32, most: u64) -> u64
+/// Some interactions by this thread, at most `most`: of the newest pairs while half of the cells are free, else of the oldest ones. Returns how many
+/// they were.
+fn take_alone(machine: &mut Machine, limits: Limits, most: u64) -> u64
     ensures goes { (m : MachineParts) (k : ℕ) → RunsAnyhow m k machine.old → RunsAnyhow m (result + k) machine.new }
     ensures most { result ≤ most }
 {
-    let mut count = 0;
-    while count < most && machine.least_free() >= cells / 2 {
-        let pairs = machine.pairs();
-        if pairs == 0 || !machine.has_room(pairs - 1) {
-            return count;
-        }
-        machine.step(pairs - 1);
-        count += 1;
+    let count = machine.take_newest(limits.cells() / 2, most);
+    if count != 0 {
+        return count;
     }
-    count
+    count + machine.take_first(most)
 }
 
-/// Interactions of several workers' long run, of which `left` are left: a phase where it pays and there is memory for its room, else those of
-/// some pairs by this thread, the newest ones first while no phase is tried. Says how many they were.
+/// Interactions of several workers' long run, of which `left` are left: a phase where it pays, else those of some pairs by this thread, the newest
+/// ones first while no phase is tried. Returns how many they were.
 fn by_parts<R: Threads>(
     rt: &R,
     alloc: Global,
@@ -48,17 +43,13 @@ fn by_parts<R: Threads>(
     ensures most { result ≤ left }
 {
     if pace.waits(interactions) {
-        return take_newest(machine, limits.cells(), TURN.min(left));
+        return take_alone(machine, limits, TURN.min(left));
     }
     let Some(sharing) = sharing(machine, limits, left) else {
         return machine.take_first(TURN.min(left));
     };
-    let Some(mut room) = pace.take_room(alloc, machine) else {
-        return take_newest(machine, limits.cells(), TURN.min(left));
-    };
     let agents = machine.agents();
-    let worked = phase(rt, alloc, machine, sharing, &mut room);
-    pace.room = Some(room);
+    let worked = phase(rt, alloc, machine, sharing, &mut pace.room);
     pace.note(
         worked,
         agents,
@@ -67,9 +58,9 @@ fn by_parts<R: Threads>(
     worked.interactions
 }
 
-/// Of one worker as many interactions of the oldest pairs as there are up to the limit. Else that of the oldest pair, which has to have room, and
-/// in a long run some more after it, at most up to the limit: a phase where it pays, else those of some pairs one after another. Returns how
-/// many they were.
+/// Interactions of the oldest pairs, as many as there are up to the limit, by one worker and at the beginning of several workers' run. Later that
+/// of the oldest pair, which has to have room, and some more after it, at most up to the limit: a phase where it pays, else those of some
+/// pairs one after another. Returns how many they were.
 #[inline(always)]
 pub(crate) fn advance<R: Threads>(
     rt: &R,
@@ -85,13 +76,14 @@ pub(crate) fn advance<R: Threads>(
     ensures some { 1 ≤ result }
     ensures most { result + interactions ≤ limits.limit }
 {
+    let left = limits.limit() - interactions;
     if limits.workers() == 1 {
-        return machine.take_first(limits.limit() - interactions);
+        return machine.take_first(left);
+    }
+    if interactions < PHASES_FROM {
+        return machine.take_first(left.min(PHASES_FROM - interactions));
     }
     machine.step(0);
-    if interactions < PHASES_FROM {
-        return 1;
-    }
-    let left = limits.limit() - interactions - 1;
+    let left = left - 1;
     1 + by_parts(rt, alloc, machine, limits, interactions, left, pace)
 }

@@ -31,36 +31,31 @@ const MOST_FOR_EACH_AGENT: u64 = 16;
 
 const MOST_BESIDES: u64 = 32_768;
 
-/// What a phase costs beside copying agents, for each thread: as much as this many interactions.
-const COST_OF_A_THREAD: u64 = 1_700;
+/// What a phase costs for each agent of the net, some of which are copied there and back: as much as this many interactions.
+const COST_OF_AN_AGENT: u64 = 4;
+
+/// .. and besides for each thread.
+const COST_OF_A_THREAD: u64 = 4_000;
 
 /// How long is waited after a phase that hasn't paid, in what it cost; twice as long after each further one.
 const FIRST_WAIT: u64 = 4;
 
 /// What a run of several workers keeps from one look at its machine to the next: from how many interactions on a phase is looked at, how many
-/// times its cost is waited after the next phase that doesn't pay, and the room for phases, from the first one on.
+/// times its cost is waited after the next phase that doesn't pay, and the room for phases.
 #[derive(Drop)]
 pub(crate) struct Pace {
     phase_from: u64,
     wait: u64,
-    pub(crate) room: Option<Room>,
+    pub(crate) room: Room,
 }
 
 impl Pace {
     /// That of the beginning of a run.
-    pub(crate) fn begin() -> Pace {
+    pub(crate) fn begin(alloc: Global) -> Pace {
         Pace {
             phase_from: PHASES_FROM,
             wait: FIRST_WAIT,
-            room: None,
-        }
-    }
-
-    /// Takes the room for phases out, which is made the first time; none when out of memory.
-    pub(crate) fn take_room(&mut self, alloc: Global, machine: &Machine) -> Option<Room> {
-        match self.room.take() {
-            Some(room) => Some(room),
-            None => Room::new(alloc, machine.numbers()).ok(),
+            room: Room::new(alloc),
         }
     }
 
@@ -73,7 +68,8 @@ impl Pace {
     /// the other parts did beside the longest one is at least twice what it cost, and a quarter of all.
     pub(crate) fn note(&mut self, worked: Worked, agents: u32, interactions: u64) {
         let gain = worked.interactions.saturating_sub(worked.longest);
-        let cost = u64::from(agents) + COST_OF_A_THREAD * u64::from(worked.parts);
+        let cost = COST_OF_AN_AGENT * u64::from(agents)
+            + COST_OF_A_THREAD * u64::from(worked.parts);
         if gain >= 2 * cost && gain >= worked.interactions / 4 {
             self.wait = FIRST_WAIT;
         } else {

@@ -62,7 +62,7 @@ pub fn run<'a, R: Threads + Wait, G: Gate + Sync>(
         Err(fault) => return Err(RunFault::Start(fault)),
     };
     let mut interactions = 0;
-    let mut pace = Pace::begin();
+    let mut pace = Pace::begin(alloc);
     loop {
         if let Some(stop) = stop(&machine, limits.limit(), interactions) {
             return Ok(Outcome {

@@ -1,14 +1,14 @@
 -- Which steps are left for others to name.
 use Rattle.std.proofs.Common.{◌≡◌, ◌<◌, ◌≤◌, ◌+◌, ℕ, zero, suc, Option, Some, None, List, [], ◌∷◌, ◌++◌, length, length-append, slice_get, take, refl, sym, subst, ap, inl, inr, ◌∙◌, arith}
 use Rattle.std.proofs.Math.ListN.{set}
-use Rattle.std.proofs.lemmas.List.{length-set}
+use Rattle.std.proofs.lemmas.List.{length-set, take_more}
+use Rattle.std.proofs.lemmas.Option.{get_or_from_slice_get, slice_get_within}
 use Rattle.in_simple.specs.declared.verifying.Built.{Built}
 use Rattle.in_open_nets.specs.declared.derivations.Step.{Step}
-use Rattle.in_open_nets.specs.Derivations.{named, one_if, times_in}
+use Rattle.in_open_nets.specs.Derivations.{named, one_if, times, times_in}
 use Rattle.in_simple.specs.Checking.{left_of, left_at, TakesNamed}
 use Rattle.in_base.proofs.Places.{set_here, set_there}
-use Rattle.in_base.proofs.Places.{some_same}
-use Rattle.in_open_nets.proofs.Public.{one_same, one_other, same_nat}
+use Rattle.in_open_nets.proofs.Public.{one_same, one_other, same_nat, times_in_app}
 
 pub take_one : (parts : List (Option Built)) (k : ℕ) (b : Built) → k < length parts → slice_get parts k ≡ Some (Some b) → TakesNamed (k ∷ []) parts (set parts k None)
 take_one parts k b l h = record {
@@ -29,23 +29,11 @@ take_one parts k b l h = record {
 pub take_none : (parts : List (Option Built)) → TakesNamed [] parts parts
 take_none parts = record { size = refl; each = λ i. omega arith }
 
-pub take_more : {X : Type 0} (xs : List X) (k : ℕ) (x : X) → slice_get xs k ≡ Some x → take (suc k) xs ≡ take k xs ++ x ∷ []
-take_more [] k x h = cc
-take_more (y ∷ xs) zero x h = ap (λ z. z ∷ []) (some_same (Some y) y x refl h)
-take_more (y ∷ xs) (suc k) x h = ap (λ z. y ∷ z) (take_more xs k x h)
-
-pub take_next : {X : Type 0} (xs : List X) (k : ℕ) (x : X) → slice_get xs k ≡ Some x → take (k + 1) xs ≡ take k xs ++ x ∷ []
-take_next xs k x h = let e : suc k ≡ k + 1 = omega arith in subst (λ z. take z xs ≡ take k xs ++ x ∷ []) e (take_more xs k x h)
-
 pub take_whole : {X : Type 0} (xs : List X) (k : ℕ) → length xs ≤ k → take k xs ≡ xs
 take_whole [] zero h = refl
 take_whole [] (suc k) h = refl
 take_whole (x ∷ xs) zero h = absurd (omega arith)
 take_whole (x ∷ xs) (suc k) h = ap (λ z. x ∷ z) (take_whole xs k (omega arith))
-
-times_in_more : (i : ℕ) (xs ys : List Step) → times_in named i (xs ++ ys) ≡ times_in named i xs + times_in named i ys
-times_in_more i [] ys = omega arith
-times_in_more i (x ∷ xs) ys = let r = times_in_more i xs ys in omega arith
 
 pub left_app : (parts : List (Option Built)) (b : Built) (i : ℕ) → left_at (parts ++ Some b ∷ []) i ≡ left_at parts i + one_if i (length parts)
 left_app [] b zero = refl
@@ -57,6 +45,14 @@ left_app (x ∷ xs) b (suc i) =
       | inl e ↦ let o = one_same i (length xs) e in let p = one_same (suc i) (suc (length xs)) (omega arith) in omega arith
       | inr d ↦ let o = one_other i (length xs) d in let p = one_other (suc i) (suc (length xs)) (λ e. d (omega arith)) in omega arith
     ]
+
+-- one step more
+pub times_next : (f : Step → List ℕ) (n : ℕ) (steps : List Step) (k : ℕ) (step : Step) → slice_get steps k ≡ Some step → times_in f n (take (k + 1) steps) ≡ times_in f n (take k steps) + times n (f step)
+times_next f n steps k step e =
+    let a : times_in f n (take (k + 1) steps) ≡ times_in f n (take k steps ++ step ∷ []) =
+    ap (times_in f n) (take_more steps k step (slice_get_within steps k step e) ∙ ap (λ z. take k steps ++ z ∷ []) (get_or_from_slice_get steps k step step e)) in
+    let b = times_in_app f n (take k steps) (step ∷ []) in
+    omega arith
 
 -- the steps so far, each left or named once
 pub record AreLeft (steps : List Step) (k : ℕ) (parts : List (Option Built)) : Type 0 where
@@ -80,7 +76,6 @@ left_more steps k parts parts' step b h e t = record {
     sum : (i : ℕ) → left_at (parts' ++ Some b ∷ []) i + times_in named i (take (k + 1) steps) ≡ left_at parts i + times_in named i (take k steps) + one_if i (length parts')
     sum i =
         let a = left_app parts' b i in
-        let c : times_in named i (take (k + 1) steps) ≡ times_in named i (take k steps ++ step ∷ []) = ap (times_in named i) (take_next steps k step e) in
-        let d = times_in_more i (take k steps) (step ∷ []) in
+        let c = times_next named i steps k step e in
         let g = t.each i in
         omega arith

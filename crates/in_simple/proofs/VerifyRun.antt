@@ -6,8 +6,8 @@ use Rattle.in_open_nets.specs.OpenNets.{OpenNet, IsOpenNet}
 use Rattle.in_open_nets.specs.declared.derivations.Step.{Step}
 use Rattle.in_open_nets.specs.Derivations.{Part, named, own_nodes, is_among, HaveNoRepeats, AreEarlier, BuildsPart, IsDerivation, is_free, times, times_in}
 use Rattle.in_simple.specs.Checking.{AreSizedBuilt, AreHeld, AllHold, Again, IsBuiltPart, IsLastBuilt, IsMadeByStep, IsWholeNet, IsSizedBuilt, IsTaken, Took, MakesPart, OnStep, OnAlone, OnPair, has_node, in_one, left_of, left_at, times_left}
-use Rattle.in_simple.proofs.Named.{AreLeft, left_start, left_more, left_app, take_next, take_whole}
-use Rattle.in_open_nets.proofs.Public.{get_past, get_cases, times_in_app, same_nat, at_most, one_same, one_other, earlier_of, times_among}
+use Rattle.in_simple.proofs.Named.{AreLeft, left_start, left_more, left_app, take_whole, times_next}
+use Rattle.in_open_nets.proofs.Public.{get_past, get_cases, same_nat, at_most, one_same, one_other, earlier_of, times_among}
 use Rattle.in_open_nets.proofs.Public.{is_node}
 use Rattle.in_base.proofs.Options.{snoc_parts}
 use Rattle.in_base.proofs.Places.{kept_at, unsnoc}
@@ -141,12 +141,6 @@ take_most f n [] zero = omega arith
 take_most f n [] (suc k) = omega arith
 take_most f n (x ∷ xs) zero = omega arith
 take_most f n (x ∷ xs) (suc k) = let r = take_most f n xs k in omega arith
-
-times_next : (f : Step → List ℕ) (n : ℕ) (steps : List Step) (k : ℕ) (step : Step) → slice_get steps k ≡ Some step → times_in f n (take (k + 1) steps) ≡ times_in f n (take k steps) + times n (f step)
-times_next f n steps k step e =
-    let a : times_in f n (take (k + 1) steps) ≡ times_in f n (take k steps ++ step ∷ []) = ap (times_in f n) (take_next steps k step e) in
-    let b = times_in_app f n (take k steps) (step ∷ []) in
-    omega arith
 
 module _ (o : OpenNet) (steps : List Step) where
   pub built_start : (parts : List (Option Built)) → parts ≡ [] → AreBuilt o steps 0 parts

@@ -112,7 +112,7 @@ module _ (t : Tables) (r : RuleParts) (p q : TemplateParts) (a : IsTemplateOf t 
   unmarked = same_truth p.unmarked q.unmarked ((λ h. b.unmarked.1 (a.unmarked.0 h)), (λ h. a.unmarked.1 (b.unmarked.0 h)))
 
   pub one_template : p ≡ q
-  one_template = λ i. record { heads = heads i; first_ends = first_ends i; unmarked = unmarked i; member = one_member t r.member p.member q.member a.member b.member i }
+  one_template = λ i. record { heads = heads i; first_ends = first_ends i; unmarked = unmarked i; outputs = (a.outputs ∙ sym b.outputs) i; member = one_member t r.member p.member q.member a.member b.member i }
 
 -- ---- the template of two symbols
 

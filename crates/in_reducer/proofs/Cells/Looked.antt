@@ -1,9 +1,9 @@
 -- What accessors read of the net that cells show.
-use Rattle.std.proofs.Common.{◌≡◌, ◌<◌, ◌≤◌, ◌+◌, ◌-◌, ◌*◌, ℕ, zero, suc, Option, Some, None, IsSome, List, [], ◌∷◌, length, take, get_or, slice_get, sum_by, unwrap_or, refl, sym, ap, ◌∙◌, arith}
+use Rattle.std.proofs.Common.{◌≡◌, ◌<◌, ◌≤◌, ◌+◌, ◌-◌, ◌*◌, ℕ, zero, suc, Option, Some, None, IsSome, List, [], ◌∷◌, length, take, get_or, slice_get, sum_by, unwrap_or, refl, ap, ◌∙◌, arith}
 use Rattle.std.specs.Prelude.{is_some, option_map, option_and_then}
 use Rattle.std.proofs.lemmas.List.{take_all}
 use Rattle.std.proofs.lemmas.List.Sums.{sum_by-cons, sum_by_more, sum_by_more_le}
-use Rattle.std.proofs.lemmas.Option.{slice_get-get_or, slice_get-map, unwrap_or-slice_get}
+use Rattle.std.proofs.lemmas.Option.{slice_get-map, unwrap_or-slice_get}
 use Rattle.in_arena.specs.Arenas.{ArenaView, free_of, state_at}
 use Rattle.in_arena.specs.Classes.{classes}
 use Rattle.in_arena.specs.States.{State, Vacant, Leased, Live, end_at}
@@ -23,10 +23,6 @@ use Rattle.in_compile.specs.Cells.{agents_of}
 use Rattle.in_reducer.specs.Machines.{point_at}
 use Rattle.in_reducer.specs.Standing.{agent_in, agents_in, leading_to, IsNetIn}
 use Rattle.in_reducer.proofs.Cells.Counted.{all_cells}
-
--- what is read at a number that is there
-pub read_at : {X : Type 0} (xs : List X) (k : ℕ) (x : X) → k < length xs → x ≡ get_or xs k x → slice_get xs k ≡ Some x
-read_at {X} xs k x l is = slice_get-get_or xs k x l ∙ ap (λ (z : X). Some z) (sym is)
 
 -- ---- agents
 

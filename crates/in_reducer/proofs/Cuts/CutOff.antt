@@ -45,7 +45,7 @@ use Rattle.in_reducer.proofs.Cells.AtRest.{rests}
 use Rattle.in_reducer.proofs.Cells.Counted.{cells_at_rest}
 use Rattle.in_reducer.proofs.Cells.Looked.{cell_is}
 use Rattle.in_reducer.proofs.Cells.Shown.{is_over, is_shown, partner_seen, same_kinds, same_many, same_names}
-use Rattle.in_reducer.proofs.Steps.StillNet.{as_many, good_of, kept_alike, kept_good, net_in as net_stays}
+use Rattle.in_reducer.proofs.Steps.StillNet.{as_many, good_of, kept_alike, kept_good, net_in as net_stays, still_unleased}
 
 -- ---- symbols
 
@@ -281,9 +281,6 @@ module _ (r : Body) (k : KeepsNet r) (c i : ℕ) (can : CanCut (reducer_view r) 
       cells = (b.cells, (let e = kept.cells in let f = k.few in omega (arith, e, f)), λ d. cells_at_rest t b still_net d);
     }
 
-    pub none_after : NoneLeased r.arena → NoneLeased b
-    none_after none n low leased = none n (let e = as_many r.arena b kept in omega (arith, e, low)) ((kept_alike r.arena b kept).none n (let e = as_many r.arena b kept in omega (arith, e, low)) leased)
-
     pub cuts : NoneLeased r.arena → CutsAt (reducer_view r) c i after
     unfolding once
     cuts none = record {
@@ -292,7 +289,7 @@ module _ (r : Body) (k : KeepsNet r) (c i : ℕ) (can : CanCut (reducer_view r) 
       here = refl;
       names = same_names gs list listed ∙ ap (map (λ (f : FreeEnd). f.name)) all_free ∙ map-append (λ (f : FreeEnd). f.name) fs (ends_of kind ∷ ends_of (opposite kind) ∷ []) ∙ ap (λ (ns : List (List ℕ)). ns ++ ([] ∷ [] ∷ [])) (sym (same_names fs r.ends.items fits));
       queue = refl;
-      vacant = ap vacant_in (rests b (none_after none)) ∙ (λ j. record { small = kept.free Small j; large = kept.free Large j; wide = kept.free Wide j }) ∙ ap vacant_in (sym (rests r.arena none));
+      vacant = ap vacant_in (rests b (still_unleased r.arena b (kept_alike r.arena b kept) none)) ∙ (λ j. record { small = kept.free Small j; large = kept.free Large j; wide = kept.free Wide j }) ∙ ap vacant_in (sym (rests r.arena none));
     }
 
 -- the free ends are the program's, or cut ones, as before

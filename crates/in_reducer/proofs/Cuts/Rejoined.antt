@@ -41,7 +41,7 @@ use Rattle.in_reducer.proofs.Cells.Counted.{cells_at_rest}
 use Rattle.in_reducer.proofs.Cuts.CutOff.{symbol_by, symbols_stay}
 use Rattle.in_reducer.proofs.Pairs.Queues.{short_queue}
 use Rattle.in_reducer.proofs.Cells.Shown.{is_over, is_shown, partner_seen, same_kinds, same_many, same_names, seen, symbol_seen}
-use Rattle.in_reducer.proofs.Steps.StillNet.{as_many, good_of, kept_alike, kept_good, net_in as net_stays}
+use Rattle.in_reducer.proofs.Steps.StillNet.{as_many, good_of, kept_alike, kept_good, net_in as net_stays, still_unleased}
 use Rattle.in_base.proofs.Places.{last_at}
 use Rattle.in_base.proofs.Each.{at_index}
 
@@ -350,9 +350,6 @@ module _ (r : Body) (k : KeepsNet r) (two : 2 ≤ length r.free.items) (own : �
         let room = k.queue in
         omega (arith, short, one, other, e, room)
 
-    pub none_after : NoneLeased r.arena → NoneLeased b
-    none_after none n low leased = none n (let e = as_many r.arena b kept in omega (arith, e, low)) ((kept_alike r.arena b kept).none n (let e = as_many r.arena b kept in omega (arith, e, low)) leased)
-
     pub joins_last : NoneLeased r.arena → (added behind : List (ℕ × ℕ)) → behind ≡ r.queue.items ++ added → JoinsLast (reducer_view r) (after behind)
     unfolding once
     joins_last none added behind is = record {
@@ -365,7 +362,7 @@ module _ (r : Body) (k : KeepsNet r) (two : 2 ≤ length r.free.items) (own : �
       );
       made = added;
       queue = is;
-      vacant = ap vacant_in (rests b (none_after none)) ∙ (λ j. record { small = kept.free Small j; large = kept.free Large j; wide = kept.free Wide j }) ∙ ap vacant_in (sym (rests r.arena none));
+      vacant = ap vacant_in (rests b (still_unleased r.arena b (kept_alike r.arena b kept) none)) ∙ (λ j. record { small = kept.free Small j; large = kept.free Large j; wide = kept.free Wide j }) ∙ ap vacant_in (sym (rests r.arena none));
     }
 
     pub fewer_free : length new ≡ own

@@ -1,5 +1,5 @@
 -- The active pairs of two nets side by side are those of both.
-use Rattle.std.proofs.Common.{◌≡◌, ◌⊎◌, inl, inr, ◌+◌, ℕ, zero, suc, Some, IsSome, List, [], ◌∷◌, ◌++◌, length, map, slice_get, refl, sym, ap, subst, ◌∙◌, arith}
+use Rattle.std.proofs.Common.{◌≡◌, ◌⊎◌, inl, inr, ◌+◌, ℕ, zero, suc, Some, IsSome, List, ◌++◌, length, map, slice_get, refl, sym, ap, subst, ◌∙◌, arith}
 use Rattle.std.proofs.lemmas.Option.{same_Some}
 use Rattle.in_base.proofs.Places.{kept_at, of_mapped, to_mapped, is_some as there}
 use Rattle.in_symbols.specs.Tables.{Tables}
@@ -17,21 +17,8 @@ use Rattle.in_gluing.specs.AsGluing.{old_and_new, two_parts}
 use Rattle.in_gluing.specs.Joining.{IsAtNumber}
 use Rattle.in_gluing.specs.SideBySide.{StandBeside}
 use Rattle.in_order.proofs.Public.{no_wire}
-use Rattle.in_reducer.proofs.Pairs.Requeued.{StandOnce}
-
--- ---- lists
-
--- what stands in two lists, one after the other
-in_either : {X : Type 0} (xs ys : List X) (k : ℕ) (x : X) → slice_get (xs ++ ys) k ≡ Some x → (slice_get xs k ≡ Some x) ⊎ ((j : ℕ) × (k ≡ length xs + j) × (slice_get ys j ≡ Some x))
-in_either [] ys k x e = inr (k, (let z : k ≡ 0 + k = omega arith in z), e)
-in_either (y ∷ xs) ys zero x e = inl e
-in_either (y ∷ xs) ys (suc k) x e = elim (in_either xs ys k x e) [ inl h ↦ inl h | inr h ↦ inr (h.0, (let f = h.1 in let z : suc k ≡ suc (length xs) + h.0 = omega (arith, f) in z), h.2) ]
-
-after_at : {X : Type 0} (xs ys : List X) (k : ℕ) (x : X) → slice_get ys k ≡ Some x → slice_get (xs ++ ys) (length xs + k) ≡ Some x
-after_at [] ys k x e = ap (slice_get ys) (let z : 0 + k ≡ k = omega arith in z) ∙ e
-after_at (y ∷ xs) ys k x e = ap (slice_get (y ∷ (xs ++ ys))) (let z : suc (length xs) + k ≡ suc (length xs + k) = omega arith in z) ∙ after_at xs ys k x e
-
--- ---- pairs
+use Rattle.in_cells.proofs.Public.{past_first}
+use Rattle.in_reducer.proofs.Pairs.Requeued.{StandOnce, in_part}
 
 module _ (t : Tables) (n m w : Parts) (f : ℕ → ℕ) (ends : List (ℕ × ℕ)) (net_n : IsNet (signature_of t) (net_of n)) (net_m : IsNet (signature_of t) (net_of m)) (stand : StandBeside (net_of n) (net_of m) f ends (net_of w))
     (opposed : AreOpposed t m) where
@@ -137,7 +124,7 @@ module _ (t : Tables) (n m w : Parts) (f : ℕ → ℕ) (ends : List (ℕ × ℕ
 
   module _ (qs rs : List (ℕ × ℕ)) (queue_n : IsQueueOf t n qs) (queue_m : IsQueueOf t m rs) where
     once : StandOnce (qs ++ map (both f) rs)
-    once j k q e d = go (in_either qs (map (both f) rs) j q e) (in_either qs (map (both f) rs) k q d)
+    once j k q e d = go (in_part qs (map (both f) rs) j q e) (in_part qs (map (both f) rs) k q d)
       where
         go : (slice_get qs j ≡ Some q) ⊎ ((l : ℕ) × (j ≡ length qs + l) × (slice_get (map (both f) rs) l ≡ Some q)) → (slice_get qs k ≡ Some q) ⊎ ((l : ℕ) × (k ≡ length qs + l) × (slice_get (map (both f) rs) l ≡ Some q)) → j ≡ k
         go (inl a) (inl b) = queue_n.once j k q a b
@@ -152,7 +139,7 @@ module _ (t : Tables) (n m w : Parts) (f : ℕ → ℕ) (ends : List (ℕ × ℕ
 
     pub queue_beside : IsQueueOf t w (qs ++ map (both f) rs)
     queue_beside = record {
-      pairs = λ k q e. elim (in_either qs (map (both f) rs) k q e) [
+      pairs = λ k q e. elim (in_part qs (map (both f) rs) k q e) [
         | inl a ↦ own_pair (agents_at q) (queue_n.pairs k q a)
         | inr a ↦ (let z = of_mapped (both f) rs a.0 q a.2 in subst (λ (v : ℕ × ℕ). IsActivePair t w (agents_at v)) z.2 (their_pair z.0 (queue_m.pairs a.0 z.0 z.1)))
       ];
@@ -160,7 +147,7 @@ module _ (t : Tables) (n m w : Parts) (f : ℕ → ℕ) (ends : List (ℕ × ℕ
         | inl a ↦ (let k = queue_n.all q a in (k.0, kept_at qs (map (both f) rs) k.0 (numbers_of q) k.1))
         | inr a ↦ (
             let k = queue_m.all (agents_at a.0) a.2 in
-            (length qs + k.0, after_at qs (map (both f) rs) k.0 (numbers_of q) (to_mapped (both f) rs k.0 a.0 k.1 ∙ ap (λ (z : ℕ × ℕ). Some z) a.1))
+            (length qs + k.0, past_first qs (map (both f) rs) k.0 ∙ to_mapped (both f) rs k.0 a.0 k.1 ∙ ap (λ (z : ℕ × ℕ). Some z) a.1)
             )
       ];
       once = once;

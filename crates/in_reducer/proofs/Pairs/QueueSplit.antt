@@ -1,7 +1,8 @@
 -- A queue is split into the pairs that stay and those that go.
-use Rattle.std.proofs.Common.{◌≡◌, ◌⊎◌, inl, inr, ◌<◌, ◌+◌, ℕ, zero, suc, Bool, true, false, cond, Some, None, IsSome, List, [], ◌∷◌, ◌++◌, length, map, take, drop, slice_get, refl, sym, ap, subst, ◌∙◌, append_assoc, arith}
+use Rattle.std.proofs.Common.{◌≡◌, ◌⊎◌, inl, inr, ◌<◌, ◌≤◌, ◌+◌, ℕ, zero, suc, Bool, true, false, cond, Some, None, IsSome, List, [], ◌∷◌, ◌++◌, count_by, get_or, length, map, take, drop, slice_get, refl, sym, ap, subst, ◌∙◌, append_assoc, arith}
 use Rattle.std.specs.List.{filter}
-use Rattle.std.proofs.lemmas.Option.{same_Some}
+use Rattle.std.proofs.lemmas.List.Sums.{length-filter, sum_by_more_le}
+use Rattle.std.proofs.lemmas.Option.{get_or_from_slice_get, same_Some, slice_get_within}
 use Rattle.in_symbols.specs.Tables.{Tables}
 use Rattle.in_net.specs.ActivePairs.{IsActivePair}
 use Rattle.in_net.specs.Nets.{IsNet, net_of, signature_of}
@@ -28,10 +29,6 @@ module _ {X : Type 0} (P : X → Bool) where
   one_of true x xs = refl
   one_of false x xs = refl
 
-  long : (b : Bool) (x : X) (xs : List X) → length (cond b (x ∷ xs) xs) ≡ cond b 1 0 + length xs
-  long true x xs = let z : suc (length xs) ≡ 1 + length xs = omega arith in z
-  long false x xs = let z : length xs ≡ 0 + length xs = omega arith in z
-
   pub filter_next : (xs : List X) (i : ℕ) (x : X) → slice_get xs i ≡ Some x → filter P (take (suc i) xs) ≡ filter P (take i xs) ++ cond (P x) (x ∷ []) []
   filter_next [] i x e = absurd (let f : None ≡ Some x = e in cc)
   filter_next (y ∷ xs) zero x e = ap (λ (z : X). cond (P z) (z ∷ []) []) (same_Some y x e)
@@ -41,16 +38,12 @@ module _ {X : Type 0} (P : X → Bool) where
 
   -- there is room for one more of those that pass
   pub room_for : (xs : List X) (i : ℕ) (x : X) → slice_get xs i ≡ Some x → P x ≡ true → length (filter P (take i xs)) < length (filter P xs)
-  room_for [] i x e p = absurd (let f : None ≡ Some x = e in cc)
-  room_for (y ∷ xs) zero x e p =
-      let one : ◌≡◌ {A = ℕ} (cond (P y) 1 0) 1 = ap (λ (b : Bool). cond b 1 0) (ap P (same_Some y x e) ∙ p) in
-      let l = long (P y) y (filter P xs) in
-      omega (arith, one, l)
-  room_for (y ∷ xs) (suc i) x e p =
-      let l = long (P y) y (filter P xs) in
-      let k = long (P y) y (filter P (take i xs)) in
-      let r = room_for xs i x e p in
-      omega (arith, l, k, r)
+  room_for xs i x e p =
+      let before = length-filter P (take i xs) in
+      let all = length-filter P xs in
+      let more : count_by P (take i xs) + cond (P (get_or xs i x)) 1 0 ≤ count_by P xs = sum_by_more_le (λ (y : X). cond (P y) 1 0) xs i x (slice_get_within xs i x e) in
+      let one : ◌≡◌ {A = ℕ} (cond (P (get_or xs i x)) 1 0) 1 = ap (λ (b : Bool). cond b 1 0) (ap P (get_or_from_slice_get xs i x x e) ∙ p) in
+      omega (arith, before, all, more, one)
 
   -- what passes is in the list, and passes
   pub of_filter : (xs : List X) (j : ℕ) (x : X) → slice_get (filter P xs) j ≡ Some x → (k : ℕ) × (slice_get xs k ≡ Some x) × (P x ≡ true)

@@ -1,6 +1,6 @@
 -- The queue of a reducer is one of its net, and no longer than half the number of its agents.
 use Rattle.std.proofs.Common.{◌≡◌, ◌≢◌, ◌⊎◌, inl, inr, ◌≤◌, ◌+◌, ◌*◌, ℕ, zero, suc, Bool, true, false, cond, Option, Some, None, List, [], ◌∷◌, length, count_by, is_some, slice_get, refl, sym, ap, subst, ◌∙◌, arith}
-use Rattle.std.specs.Prelude.{option_map, option_and_then}
+use Rattle.std.specs.Prelude.{option_map}
 use Rattle.std.specs.List.{AllByRecursion}
 use Rattle.std.proofs.lemmas.Bool.Decides.{nat_tests}
 use Rattle.std.proofs.lemmas.List.Sums.{sum_by-cons}
@@ -17,11 +17,11 @@ use Rattle.in_net.specs.declared.nets.Point as coded
 use Rattle.in_net.specs.declared.nets.Point.TheVariants as code
 use Rattle.in_net.specs.ActivePairs.{AreActive, IsActivePair}
 use Rattle.in_net.specs.Built.{HaveFewPorts}
-use Rattle.in_net.specs.Nets.{Port, IsNet, net_of, point_of, signature_of}
-use Rattle.in_net.specs.Parts.{Parts, cell_in, symbol_in, partner_in}
+use Rattle.in_net.specs.Nets.{Port, IsNet, net_of, signature_of}
+use Rattle.in_net.specs.Parts.{Parts, symbol_in, partner_in}
 use Rattle.in_interaction.specs.Pieces.{AreDifferent}
-use Rattle.in_net.proofs.Public.{symbol_of, map_is}
-use Rattle.in_interaction.proofs.Public.{net_wire, few, apart, back_in, same_numbers}
+use Rattle.in_net.proofs.Public.{flipped, symbol_of, map_is}
+use Rattle.in_interaction.proofs.Public.{net_wire, few, apart, back_in, same_numbers, symbol_number}
 use Rattle.in_check.specs.NetText.{IsQueue, agents_of}
 use Rattle.in_check.specs.Programs.{Program}
 use Rattle.in_check.specs.Promises.{IsAsPromised}
@@ -32,35 +32,35 @@ use Rattle.in_compile.specs.Cells as machines
 use Rattle.in_compile.specs.Cells.{takes}
 use Rattle.in_reducer.specs.Machines.{MachineParts, parts_of, plain_of}
 use Rattle.in_reducer.specs.Reducers.{IsReducer}
+use Rattle.in_reducer.proofs.Cells.AsMany as cells
 use Rattle.in_reducer.proofs.Starts.Accepted.{few_ports}
 use Rattle.in_reducer.proofs.Steps.Ordered.{stands, stands_other}
 
 -- ---- the agents of a net, by number
 
--- the numbers of the cells with an agent, the first cell having this one
-abbrev pub agent_numbers : ℕ → List (Option Cell) → List ℕ
-agent_numbers i [] = []
-agent_numbers i (None ∷ cs) = agent_numbers (suc i) cs
-agent_numbers i (Some c ∷ cs) = i ∷ agent_numbers (suc i) cs
+-- the numbers of the cells with an agent
+abbrev pub agent_numbers : List (Option Cell) → List ℕ
+agent_numbers = cells.places is_some 0
 
-pub as_many : (i : ℕ) (cs : List (Option Cell)) → length (agent_numbers i cs) ≡ count_by is_some cs
-as_many i [] = refl
-as_many i (None ∷ cs) = let d = as_many (suc i) cs in let e = sum_by-cons (λ c. cond (is_some c) 1 0) None cs in omega arith
-as_many i (Some c ∷ cs) = ap suc (as_many (suc i) cs) ∙ (let e = sum_by-cons (λ c. cond (is_some c) 1 0) (Some c) cs in omega arith)
+pub as_many : (cs : List (Option Cell)) → length (agent_numbers cs) ≡ count_by is_some cs
+as_many = cells.as_many is_some 0
 
-pub numbered : (i : ℕ) (cs : List (Option Cell)) (k : ℕ) (c : Cell) → option_and_then (λ c. c) (slice_get cs k) ≡ Some c → IsAmong (i + k) (agent_numbers i cs)
-numbered i [] k c e = cc
-numbered i (None ∷ cs) zero c e = cc
-numbered i (None ∷ cs) (suc k) c e = subst (λ z. IsAmong z (agent_numbers (suc i) cs)) (let z : suc i + k ≡ i + suc k = omega arith in z) (numbered (suc i) cs k c e)
-numbered i (Some d ∷ cs) zero c e = inl (let z : i ≡ i + 0 = omega arith in z)
-numbered i (Some d ∷ cs) (suc k) c e = inr (subst (λ z. IsAmong z (agent_numbers (suc i) cs)) (let z : suc i + k ≡ i + suc k = omega arith in z) (numbered (suc i) cs k c e))
+pub numbered : (cs : List (Option Cell)) (k : ℕ) (c : Cell) → slice_get cs k ≡ Some (Some c) → IsAmong k (agent_numbers cs)
+numbered cs k c e = subst (λ (z : ℕ). IsAmong z (agent_numbers cs)) (let z : 0 + k ≡ k = omega arith in z) (cells.in_places is_some 0 cs k (Some c) e refl)
 
-cell_of : (n : Parts) (x : ℕ) (s : SymbolNo) → symbol_in n x ≡ Some s → (c : Cell) × (cell_in n x ≡ Some c)
-cell_of n x s e = go (cell_in n x) refl e
+-- .. each once, and no other number
+pub numbered_once : (cs : List (Option Cell)) → AreDifferent (agent_numbers cs)
+numbered_once = cells.different is_some 0
+
+pub numbered_only : (cs : List (Option Cell)) (k : ℕ) → IsAmong k (agent_numbers cs) → (c : Cell) × (slice_get cs k ≡ Some (Some c))
+numbered_only cs k among = go h.cell (subst (λ (z : ℕ). slice_get cs z ≡ Some h.cell) (let e = h.is in let z : h.at ≡ k = omega (arith, e) in z) h.stands) h.holds
   where
-    go : (o : Option Cell) → cell_in n x ≡ o → option_map (λ (c : Cell). c.symbol) o ≡ Some s → (c : Cell) × (cell_in n x ≡ Some c)
-    go None is f = cc
-    go (Some c) is f = (c, is)
+    h : cells.HoldsAt is_some 0 cs k
+    h = cells.of_places is_some 0 cs k among
+
+    go : (o : Option Cell) → slice_get cs k ≡ Some o → is_some o ≡ true → (c : Cell) × (slice_get cs k ≡ Some (Some c))
+    go None e holds = cc
+    go (Some c) e holds = (c, e)
 
 -- each agent takes a cell of one class
 module _ (t : Tables) (few : HaveFewPorts t) where
@@ -87,7 +87,14 @@ module _ (t : Tables) (few : HaveFewPorts t) where
 
 -- ---- lists of pairs
 
-module _ (t : Tables) (n : Parts) (back : (p q : coded.Point) → partner_in n p ≡ Some q → partner_in n q ≡ Some p) (alone : (p : coded.Point) → partner_in n p ≢ Some p) where
+-- the agents of a pair differ
+pub apart_agents : (t : Tables) (n : Parts) (q : ℕ × ℕ) → IsActivePair t n (agents_at q) → q.0 ≢ q.1
+apart_agents t n q h e =
+    let a : AgentNo = record { 0 = q.0 } in
+    let same : IsActivePair t n (a, a) = subst (λ (z : ℕ). IsActivePair t n (agents_at (q.0, z))) (sym e) h in
+    flipped t n a a same same
+
+module _ (t : Tables) (n : Parts) (back : (p q : coded.Point) → partner_in n p ≡ Some q → partner_in n q ≡ Some p) where
   abbrev AreActivePairs : List (ℕ × ℕ) → Type 0
   AreActivePairs qs = (k : ℕ) (q : ℕ × ℕ) → slice_get qs k ≡ Some q → IsActivePair t n (agents_at q)
 
@@ -96,9 +103,6 @@ module _ (t : Tables) (n : Parts) (back : (p q : coded.Point) → partner_in n p
 
   numbers_apart : (x y : ℕ) → x ≡ y → ◌≡◌ {A = AgentNo} (record { 0 = x }) (record { 0 = y })
   numbers_apart x y e = ap (λ (z : ℕ). let a : AgentNo = record { 0 = z } in a) e
-
-  differ : (q : ℕ × ℕ) → IsActivePair t n (agents_at q) → q.0 ≢ q.1
-  differ q h e = alone (code.Port (agents_at q).0 0) (h.active ∙ ap (λ (z : AgentNo). Some (code.Port z 0)) (sym (numbers_apart q.0 q.1 e)))
 
   -- an agent of one pair stands in no other of them
   elsewhere : (q : ℕ × ℕ) (x : ℕ) → IsActivePair t n (agents_at q) → (x ≡ q.0) ⊎ (x ≡ q.1) → (qs : List (ℕ × ℕ)) → AreActivePairs qs → ((k : ℕ) → slice_get qs k ≡ Some q → ⊥) → AllByRecursion (λ y. x ≢ y) (agents_of qs)
@@ -120,15 +124,15 @@ module _ (t : Tables) (n : Parts) (back : (p q : coded.Point) → partner_in n p
   different [] each once = tt
   different (q ∷ qs) each once =
       let none : (k : ℕ) → slice_get qs k ≡ Some q → ⊥ = λ k e. absurd (let z : 0 ≡ suc k = once 0 (suc k) q refl e in omega (arith, z)) in (
-        (differ q (each 0 q refl), elsewhere q q.0 (each 0 q refl) (inl refl) qs (λ k. each (suc k)) none),
+        (apart_agents t n q (each 0 q refl), elsewhere q q.0 (each 0 q refl) (inl refl) qs (λ k. each (suc k)) none),
         (elsewhere q q.1 (each 0 q refl) (inr refl) qs (λ k. each (suc k)) none, different qs (λ k. each (suc k)) (λ j k p e f. (let z : suc j ≡ suc k = once (suc j) (suc k) p e f in omega (arith, z)))),
       )
 
   -- each of their agents is one of the net
-  there : (qs : List (ℕ × ℕ)) → AreActivePairs qs → (x : ℕ) → IsAmong x (agents_of qs) → IsAmong x (agent_numbers 0 n.cells)
+  there : (qs : List (ℕ × ℕ)) → AreActivePairs qs → (x : ℕ) → IsAmong x (agents_of qs) → IsAmong x (agent_numbers n.cells)
   there [] each x h = absurd h
-  there (q ∷ qs) each x (inl e) = let h = each 0 q refl in let c = cell_of n q.0 h.first h.one in subst (λ z. IsAmong z (agent_numbers 0 n.cells)) ((let z : 0 + q.0 ≡ q.0 = omega arith in z) ∙ e) (numbered 0 n.cells q.0 c.0 c.1)
-  there (q ∷ qs) each x (inr (inl e)) = let h = each 0 q refl in let c = cell_of n q.1 h.second h.two in subst (λ z. IsAmong z (agent_numbers 0 n.cells)) ((let z : 0 + q.1 ≡ q.1 = omega arith in z) ∙ e) (numbered 0 n.cells q.1 c.0 c.1)
+  there (q ∷ qs) each x (inl e) = let h = each 0 q refl in let c = cells.cell_at n q.0 h.first.0 (symbol_number (symbol_in n q.0) h.first h.one) in subst (λ z. IsAmong z (agent_numbers n.cells)) e (numbered n.cells q.0 c.0 c.1)
+  there (q ∷ qs) each x (inr (inl e)) = let h = each 0 q refl in let c = cells.cell_at n q.1 h.second.0 (symbol_number (symbol_in n q.1) h.second h.two) in subst (λ z. IsAmong z (agent_numbers n.cells)) e (numbered n.cells q.1 c.0 c.1)
   there (q ∷ qs) each x (inr (inr h)) = there qs (λ k. each (suc k)) x h
 
   twice : (qs : List (ℕ × ℕ)) → length (agents_of qs) ≡ 2 * length qs
@@ -137,9 +141,9 @@ module _ (t : Tables) (n : Parts) (back : (p q : coded.Point) → partner_in n p
 
   pub half : (qs : List (ℕ × ℕ)) → AreActivePairs qs → StandOnce qs → 2 * length qs ≤ count_by is_some n.cells
   half qs each once =
-      let a = few (agents_of qs) (agent_numbers 0 n.cells) (different qs each once) (there qs each) in
+      let a = few (agents_of qs) (agent_numbers n.cells) (different qs each once) (there qs each) in
       let b = twice qs in
-      let d = as_many 0 n.cells in
+      let d = as_many n.cells in
       omega arith
 
 -- ---- the queue of a net that is as promised
@@ -151,11 +155,8 @@ module _ (p : Program) (n : Parts) (promised : IsAsPromised (system_of p) (net_o
   pub back_of : (u v : coded.Point) → partner_in n u ≡ Some v → partner_in n v ≡ Some u
   back_of = back_in p.tables n net
 
-  pub alone_of : (u : coded.Point) → partner_in n u ≢ Some u
-  alone_of u e = net.apart (point_of u) (net_wire n u u e)
-
   pub half_of : 2 * length qs ≤ count_by is_some n.cells
-  half_of = half p.tables n back_of alone_of qs queue.pairs queue.once
+  half_of = half p.tables n back_of qs queue.pairs queue.once
 
   active : (qs : List (ℕ × ℕ)) → ((k : ℕ) (q : ℕ × ℕ) → slice_get qs k ≡ Some q → IsActivePair p.tables n (agents_at q)) → AllByRecursion (λ q. (net_of n).partner (Port q.0 0) ≡ Some (Port q.1 0)) qs
   active [] each = tt
@@ -206,7 +207,7 @@ module _ (p : Program) (n : Parts) (promised : IsAsPromised (system_of p) (net_o
           (first_in qs k.0 (y, x) k.1).1
 
   pub is_queue : IsQueue (net_of n) qs
-  is_queue = record { active = active qs queue.pairs; all = all; once = different p.tables n back_of alone_of qs queue.pairs queue.once }
+  is_queue = record { active = active qs queue.pairs; all = all; once = different p.tables n back_of qs queue.pairs queue.once }
 
 -- ---- reducers
 

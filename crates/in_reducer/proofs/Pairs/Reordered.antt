@@ -10,7 +10,7 @@ use Rattle.in_net.specs.declared.nets.Point.TheVariants as code
 use Rattle.in_net.specs.ActivePairs.{IsActivePair, StandsFirst}
 use Rattle.in_net.specs.Nets.{Point, Port, Free, Net, net_of}
 use Rattle.in_net.specs.Parts.{Parts, partner_in, symbol_in}
-use Rattle.in_net.proofs.Public.{flipped, map_is, no_both, port_agent}
+use Rattle.in_net.proofs.Public.{map_is, no_both, port_agent}
 use Rattle.in_interaction.specs.Queues.{IsQueueOf, agents_at, both}
 use Rattle.in_interaction.proofs.Public.{has_value, net_wire}
 use Rattle.in_check.specs.Runs.{IsRenamed}
@@ -20,6 +20,7 @@ use Rattle.in_gluing.specs.Joining.{IsAtNumber}
 use Rattle.in_gluing.specs.SideBySide.{IsThere, IsWiredWithin, StandBeside}
 use Rattle.in_reducer.specs.PartingLaws.{AreSameTwo, IsReordered}
 use Rattle.in_reducer.proofs.Starts.Started.{lives, symbol_back, symbol_moved}
+use Rattle.in_reducer.proofs.Pairs.Queues.{apart_agents}
 
 -- ---- wires between agents that are there
 
@@ -91,12 +92,6 @@ one_order t n m kept p q h g (inr e) =
 -- ---- pairs under other numbers
 
 module _ (t : Tables) (n : Parts) where
-  apart_agents : (q : ℕ × ℕ) → IsActivePair t n (agents_at q) → q.0 ≢ q.1
-  apart_agents q h e =
-      let a : AgentNo = record { 0 = q.0 } in
-      let same : IsActivePair t n (a, a) = subst (λ (z : ℕ). IsActivePair t n (agents_at (q.0, z))) (sym e) h in
-      flipped t n a a same same
-
   -- two agents whose principal ports are one wire are an active pair
   is_pair : (a b : ℕ) (c d : SymbolNo) → a ≢ b → (net_of n).partner (Port a 0) ≡ Some (Port b 0) → (net_of n).partner (Port b 0) ≡ Some (Port a 0) → symbol_in n a ≡ Some c → symbol_in n b ≡ Some d →
       (r : ℕ × ℕ) × IsActivePair t n (agents_at r) × AreSameTwo (a, b) r

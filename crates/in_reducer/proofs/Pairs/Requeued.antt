@@ -18,6 +18,7 @@ use Rattle.in_interaction.specs.Made.{AreMadeOverEnds, IsOwn}
 use Rattle.in_interaction.specs.OutcomeLaws.{IsOtherPair}
 use Rattle.in_interaction.proofs.Public.{apart, back_in, kept_or_made, not_made, net_wire}
 use Rattle.in_interaction.specs.Queues.{agents_at, numbers_of, both, IsQueueOf}
+use Rattle.in_cells.proofs.Public.{past_first}
 
 -- ---- lists
 
@@ -48,14 +49,11 @@ module _ {X : Type 0} where
   remove_once (y ∷ ys) (suc i) once (suc j) zero x e f = let r = was_there ys i j x e in absurd (let z : suc r.0 ≡ 0 = once (suc r.0) 0 x r.2 f in omega (arith, z))
   remove_once (y ∷ ys) (suc i) once (suc j) (suc k) x e f = ap suc (remove_once ys i (λ j k x e f. (let z : suc j ≡ suc k = once (suc j) (suc k) x e f in omega (arith, z))) j k x e f)
 
-  in_part : (xs ys : List X) (k : ℕ) (x : X) → slice_get (xs ++ ys) k ≡ Some x → (slice_get xs k ≡ Some x) ⊎ ((j : ℕ) × (k ≡ length xs + j) × (slice_get ys j ≡ Some x))
+  -- what stands in two lists, one after the other
+  pub in_part : (xs ys : List X) (k : ℕ) (x : X) → slice_get (xs ++ ys) k ≡ Some x → (slice_get xs k ≡ Some x) ⊎ ((j : ℕ) × (k ≡ length xs + j) × (slice_get ys j ≡ Some x))
   in_part [] ys k x e = inr (k, (let z : k ≡ 0 + k = omega arith in z), e)
   in_part (y ∷ zs) ys zero x e = inl e
   in_part (y ∷ zs) ys (suc k) x e = elim (in_part zs ys k x e) [ inl h ↦ inl h | inr h ↦ inr (h.0, (let a = h.1 in omega (arith, a)), h.2) ]
-
-  in_second : (xs ys : List X) (j : ℕ) (x : X) → slice_get ys j ≡ Some x → slice_get (xs ++ ys) (length xs + j) ≡ Some x
-  in_second [] ys j x e = ap (slice_get ys) (let z : 0 + j ≡ j = omega arith in z) ∙ e
-  in_second (y ∷ zs) ys j x e = ap (slice_get (y ∷ (zs ++ ys))) (let z : suc (length zs) + j ≡ suc (length zs + j) = omega arith in z) ∙ in_second zs ys j x e
 
   append_once : (xs ys : List X) → StandOnce xs → StandOnce ys → ((j k : ℕ) (x : X) → slice_get xs j ≡ Some x → slice_get ys k ≡ Some x → ⊥) → StandOnce (xs ++ ys)
   append_once xs ys one two none j k x e f = go (in_part xs ys j x e) (in_part xs ys k x f)
@@ -97,8 +95,8 @@ module _ (t : Tables) (n : Parts) (r : RuleParts) (a b : AgentNo) (name : ℕ �
   naming = act.step.naming
 
   -- what is left of the queue are pairs of other agents
-  others : (k : ℕ) (q : ℕ × ℕ) → slice_get qs k ≡ Some q → k ≢ i → IsOtherPair t n a b (agents_at q)
-  others = other_pair t n a b qs i net queue stands
+  left : (k : ℕ) (q : ℕ × ℕ) → slice_get (remove qs i) k ≡ Some q → IsOtherPair t n a b (agents_at q)
+  left k q e = let x = was_there qs i k q e in other_pair t n a b qs i net queue stands x.0 q x.2 x.1
 
   -- ---- the right member's own
 
@@ -154,16 +152,14 @@ module _ (t : Tables) (n : Parts) (r : RuleParts) (a b : AgentNo) (name : ℕ �
 
   old_and_made : (j k : ℕ) (q : ℕ × ℕ) → slice_get (remove qs i) j ≡ Some q → slice_get (map numbers_of made) k ≡ Some q → ⊥
   old_and_made j k q e f =
-      let x = was_there qs i j q e in
       let y = made_at k q f in
       let h = are_made.each y.0 (agents_at q) y.1 in
-      let g = others x.0 q x.2 x.1 in
+      let g = left j q e in
       not_made t n r a b name m net inside can act Outer (agents_at q) (net_wire n (code.Port (agents_at q).0 0) (code.Port (agents_at q).1 0) g.0.active) h.0 h.1
 
   old_and_own : (j k : ℕ) (q : ℕ × ℕ) → slice_get (remove qs i) j ≡ Some q → slice_get (map (both name) own) k ≡ Some q → ⊥
   old_and_own j k q e f =
-      let x = was_there qs i j q e in
-      let g = others x.0 q x.2 x.1 in
+      let g = left j q e in
       let h = own_at k q f in
       let none : (net_of n).symbol q.0 ≡ None = ap (net_of n).symbol (sym h.named.0) ∙ naming.fresh h.inner.0.0 h.first.0 (as_number r.member h.inner.0.0 h.first h.one) in
       let z : ◌≡◌ {A = Option ℕ} None (Some g.0.first.0) = sym none ∙ as_number n q.0 g.0.first g.0.one in
@@ -196,7 +192,7 @@ module _ (t : Tables) (n : Parts) (r : RuleParts) (a b : AgentNo) (name : ℕ �
 
       pairs : (k : ℕ) (q : ℕ × ℕ) → slice_get (remove qs i ++ (map numbers_of made ++ map (both name) own)) k ≡ Some q → IsActivePair t m (agents_at q)
       pairs k q e = elim (in_part (remove qs i) (map numbers_of made ++ map (both name) own) k q e) [
-        | inl f ↦ (let x = was_there qs i k q f in (kept (agents_at q)).1 (inl (others x.0 q x.2 x.1)))
+        | inl f ↦ (kept (agents_at q)).1 (inl (left k q f))
         | inr f ↦ new f.0 q f.2
       ]
 
@@ -211,12 +207,12 @@ module _ (t : Tables) (n : Parts) (r : RuleParts) (a b : AgentNo) (name : ℕ �
         | inr o ↦ elim o [
           | inl g ↦ (
             length (remove qs i) + g.0,
-            in_second (remove qs i) (map numbers_of made ++ map (both name) own) g.0 (numbers_of q) (kept_at (map numbers_of made) (map (both name) own) g.0 (numbers_of q) (to_mapped numbers_of made g.0 q g.1)),
+            past_first (remove qs i) (map numbers_of made ++ map (both name) own) g.0 ∙ kept_at (map numbers_of made) (map (both name) own) g.0 (numbers_of q) (to_mapped numbers_of made g.0 q g.1),
           )
           | inr g ↦ (
               let k = of_own q g in (
                 length (remove qs i) + (length (map numbers_of made) + k.0),
-                in_second (remove qs i) (map numbers_of made ++ map (both name) own) (length (map numbers_of made) + k.0) (numbers_of q) (in_second (map numbers_of made) (map (both name) own) k.0 (numbers_of q) k.1),
+                past_first (remove qs i) (map numbers_of made ++ map (both name) own) (length (map numbers_of made) + k.0) ∙ past_first (map numbers_of made) (map (both name) own) k.0 ∙ k.1,
               )
               )
         ]

@@ -1,5 +1,5 @@
 -- A reducer after a part was glued on: the free ends of its own, and then by turns one of the part and one of the rest.
-use Rattle.std.proofs.Common.{◌≡◌, ◌<◌, ◌≤◌, ◌+◌, ℕ, zero, suc, Option, Some, List, ◌++◌, length, map, take, slice_get, refl, sym, ap, subst, ◌∙◌, arith}
+use Rattle.std.proofs.Common.{◌≡◌, ◌<◌, ◌≤◌, ◌+◌, ℕ, zero, suc, Option, Some, List, ◌++◌, length, length-append, map, take, slice_get, refl, sym, ap, subst, ◌∙◌, arith}
 use Rattle.std.specs.VecDeque.{deque_capacity}
 use Rattle.std.proofs.lemmas.List.{length-map, length-take-le}
 use Rattle.std.proofs.lemmas.Option.{slice_get-map, slice_get_within}
@@ -188,8 +188,9 @@ module _ (r o : Body) (k : KeepsNet r) (l : KeepsNet o) (can : CanAppend (reduce
       pub few_free : own + cuts + cuts ≤ most_free → length new ≤ most_free
       few_free low = let e = many_new in omega (arith, e, low)
 
+      -- there is room after the free ends
       pub enough_ends : length sides ≡ most_ends + most_ends → length new + most_ends + most_ends ≤ length list
-      enough_ends = together.enough_ends r b new shown_ends sides list queue many_shown is_shown_list
+      enough_ends many_sides = let e = ap length is_shown_list ∙ length-append shown_ends sides in let f = many_shown in omega (arith, e, f, many_sides)
 
       abbrev name_of : FreeEnd → List ℕ
       name_of f = f.name

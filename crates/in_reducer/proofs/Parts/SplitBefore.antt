@@ -1,23 +1,26 @@
 -- A reducer, and agents of its net that can be split off.
-use Rattle.std.proofs.Common.{◌≡◌, ◌<◌, ◌≤◌, ◌+◌, ℕ, suc, Some, None, List, length, take, slice_get, sym, ap, subst, ◌∙◌, arith}
-use Rattle.std.specs.Prelude.{option_map}
+use Rattle.std.proofs.Common.{◌≡◌, ◌⊎◌, inl, inr, ◌<◌, ◌≤◌, ◌+◌, ℕ, suc, Some, None, List, length, take, slice_get, refl, sym, ap, subst, ◌∙◌, arith}
+use Rattle.std.specs.Prelude.{option_map, IsSome}
+use Rattle.std.proofs.lemmas.Bool.{cases_lt}
 use Rattle.std.proofs.lemmas.List.{length-map, length-take-le}
 use Rattle.std.proofs.lemmas.List.Sums.{count_by-le-length}
 use Rattle.in_arena.specs.Arenas.{ArenaView, free_of, state_at}
 use Rattle.in_arena.specs.Classes.{holds}
-use Rattle.in_arena.specs.States.{end_at, places, word_of}
+use Rattle.in_arena.specs.States.{Vacant, end_at, places, word_of}
 use Rattle.in_arena.specs.declared.content.CellClass.{CellClass}
 use Rattle.in_arena.specs.declared.content.CellNo.{CellNo}
 use Rattle.in_arena.specs.declared.content.End.{End}
 use Rattle.in_arena.specs.declared.content.End.TheVariants as end
 use Rattle.in_arena.proofs.Public.{state_inside, word_live}
 use Rattle.in_symbols.specs.Tables.{Tables, arity_of}
+use Rattle.in_symbols.specs.declared.symbols.SymbolNo.{SymbolNo}
 use Rattle.in_net.specs.declared.nets.FreeEnd.{FreeEnd}
 use Rattle.in_net.specs.Nets.{Port, Free, Net, signature_of}
 use Rattle.in_net.specs.Parts.{symbol_in}
 use Rattle.in_net.proofs.Public.{symbol_of}
 use Rattle.in_interaction.proofs.Public.{has_value, symbol_number}
 use Rattle.in_gluing.specs.Joining.{WiresLeadBack}
+use Rattle.in_gluing.proofs.Public.{mapped}
 use Rattle.in_cells.specs.Shown.{point_of}
 use Rattle.in_cells.specs.Copying.{ArePart, AreClosed, HasCellsFor, IsEndWithin, LeadsInto, is_for}
 use Rattle.in_cells.specs.Laws.{LeadsIntoPart, ShowsAll}
@@ -26,7 +29,7 @@ use Rattle.in_cells.proofs.Public.{led_to}
 use Rattle.in_reducer.specs.declared.body.Body.{Body}
 use Rattle.in_reducer.specs.Cutting.{net_in}
 use Rattle.in_reducer.specs.Inside.{KeepsNet, declared_as, own_free, reducer_view}
-use Rattle.in_reducer.specs.Machines.{parts_of}
+use Rattle.in_reducer.specs.Machines.{AreNumbersBelow, parts_of}
 use Rattle.in_reducer.specs.Parting.{CanSplit, IsInPart, ends_of_two}
 use Rattle.in_reducer.specs.Standing.{leading_to}
 use Rattle.in_reducer.proofs.Cells.Shown.{is_shown, partner_seen, places_seen, same_many, symbol_seen}
@@ -76,24 +79,43 @@ module _ (r : Body) (k : KeepsNet r) where
   symbol_inside : (y s : ℕ) → m.symbol y ≡ Some s → y < length r.arena.states
   symbol_inside y s e = state_inside r.arena y (λ f. (let g : None ≡ Some s = sym (ap word_of f) ∙ sym (symbol_seen r.arena fs es y) ∙ e in cc))
 
-  -- a free end leads within the net
-  pub end_within : (j : ℕ) (e : End) → slice_get own_ends j ≡ Some e → IsEndWithin (length r.arena.states) (length r.free.items) e
-  end_within j e at = go e (back.0 (Free j) (point_of e) (partner_seen r.arena fs es (Free j) ∙ ap (option_map point_of) at))
-    where
-      go : (e : End) → m.partner (point_of e) ≡ Some (Free j) → IsEndWithin (length r.arena.states) (length r.free.items) e
-      go (end.Cell c i) h = let s = symbol_of (signature_of t) (m.symbol c.0) i (k.reducer.net.sound.net.points (Port c.0 i) (Free j) h) in symbol_inside c.0 s.0 s.1
-      go (end.Free n) h =
-          let low : n < length m.free = k.reducer.net.sound.net.points (Free n) (Free j) h in
-          let e = many_free in
-          let f = many in
-          let z : n < length r.free.items = omega (arith, low, e, f) in
-          z
+  pub below_all : AreNumbersBelow (reducer_view r) (length r.arena.states)
+  below_all y some = let s = has_value (symbol_in (parts_of (reducer_view r)) y) some in symbol_inside y s.0.0 (symbol_number (symbol_in (parts_of (reducer_view r)) y) s.0 s.1)
 
-  -- .. and a pair is of agents that are there
-  pub pair_within : (j : ℕ) (q : ℕ × ℕ) → slice_get r.queue.items j ≡ Some q → (q.0 < length r.arena.states) × (q.1 < length r.arena.states)
-  pair_within j q at =
-      let h = k.reducer.queue.pairs j q at in
-      (symbol_inside q.0 h.first.0 (symbol_number (symbol_in (parts_of (reducer_view r)) q.0) h.first h.one), symbol_inside q.1 h.second.0 (symbol_number (symbol_in (parts_of (reducer_view r)) q.1) h.second h.two))
+  -- .. and in none that was never used
+  pub below_bound : (b : ℕ) → ((n : ℕ) → b ≤ n → n < length r.arena.states → state_at r.arena n ≡ Vacant) → AreNumbersBelow (reducer_view r) b
+  below_bound b rest y some = go (cases_lt y b)
+    where
+      go : (y < b) ⊎ (b ≤ y) → y < b
+      go (inl low) = low
+      go (inr high) =
+          let s = has_value (symbol_in (parts_of (reducer_view r)) y) some in
+          let word = symbol_number (symbol_in (parts_of (reducer_view r)) y) s.0 s.1 in
+          let f : None ≡ Some s.0.0 = sym (ap word_of (rest y high (below_all y some))) ∙ sym (symbol_seen r.arena fs es y) ∙ word in
+          absurd (let g : None ≡ Some s.0.0 = f in cc)
+
+  module _ (most : ℕ) (below : AreNumbersBelow (reducer_view r) most) where
+    pub symbol_below : (y s : ℕ) → m.symbol y ≡ Some s → y < most
+    symbol_below y s e = let q = mapped (λ (s : SymbolNo). s.0) (symbol_in (parts_of (reducer_view r)) y) s e in below y (subst IsSome (sym q.1) refl)
+
+    -- a free end leads within the net
+    pub end_within : (j : ℕ) (e : End) → slice_get own_ends j ≡ Some e → IsEndWithin most (length r.free.items) e
+    end_within j e at = go e (back.0 (Free j) (point_of e) (partner_seen r.arena fs es (Free j) ∙ ap (option_map point_of) at))
+      where
+        go : (e : End) → m.partner (point_of e) ≡ Some (Free j) → IsEndWithin most (length r.free.items) e
+        go (end.Cell c i) h = let s = symbol_of (signature_of t) (m.symbol c.0) i (k.reducer.net.sound.net.points (Port c.0 i) (Free j) h) in symbol_below c.0 s.0 s.1
+        go (end.Free n) h =
+            let low : n < length m.free = k.reducer.net.sound.net.points (Free n) (Free j) h in
+            let e = many_free in
+            let f = many in
+            let z : n < length r.free.items = omega (arith, low, e, f) in
+            z
+
+    -- .. and a pair is of agents that are there
+    pub pair_within : (j : ℕ) (q : ℕ × ℕ) → slice_get r.queue.items j ≡ Some q → (q.0 < most) × (q.1 < most)
+    pair_within j q at =
+        let h = k.reducer.queue.pairs j q at in
+        (below q.0 (subst IsSome (sym h.one) refl), below q.1 (subst IsSome (sym h.two) refl))
 
   module _ (agents : List CellNo) (own cuts : ℕ) (can : CanSplit (reducer_view r) agents own cuts) where
     pub whole : length fs ≡ own + (cuts + cuts)

@@ -37,7 +37,7 @@ use Rattle.in_reducer.specs.declared.body.Body.{Body}
 use Rattle.in_reducer.specs.declared.body.OwnEnd.{OwnEnd}
 use Rattle.in_reducer.specs.Gluing.{CanAppend, IsCellWithin, IsFreeWithin}
 use Rattle.in_reducer.specs.Cutting.{net_in}
-use Rattle.in_reducer.specs.Inside.{KeepsNet, declared_as, most_ends, own_free, reducer_view}
+use Rattle.in_reducer.specs.Inside.{KeepsNet, declared_as, own_free, reducer_view}
 use Rattle.in_reducer.specs.Machines.{MachineParts, parts_of}
 use Rattle.in_reducer.specs.Reducers.{IsReducer}
 use Rattle.in_reducer.specs.Standing.{AreLeasedAlike, IsNetIn, agents_in, at_rest, leading_to, vacant_in}
@@ -46,7 +46,7 @@ use Rattle.in_reducer.proofs.Cells.LiveCounted.{agents_listed}
 use Rattle.in_reducer.proofs.Pairs.QueueBeside.{queue_beside}
 use Rattle.in_reducer.proofs.Pairs.Queues.{short_queue}
 use Rattle.in_reducer.proofs.Cells.Shown.{is_over, is_shown, partner_seen, places_seen, same_kinds, same_many, same_names, symbol_seen}
-use Rattle.in_reducer.proofs.Steps.StillNet.{IsGood, good_of, net_in as net_stays}
+use Rattle.in_reducer.proofs.Steps.StillNet.{IsGood, good_of, net_in as net_stays, still_unleased}
 use Rattle.in_reducer.proofs.Parts.SplitCells.{vacant_is, to_holds}
 
 -- ---- names
@@ -193,10 +193,6 @@ module _ (r : Body) (b : ArenaView) (new : List OwnEnd) (shown_ends sides list :
   pub names_after : map (λ (f : FreeEnd). f.name) (leading_to hs list) ≡ map (λ (f : FreeEnd). f.name) hs
   names_after = same_names hs list listed
 
-  -- there is room after the free ends
-  pub enough_ends : length sides ≡ most_ends + most_ends → length new + most_ends + most_ends ≤ length list
-  enough_ends many_sides = let e = ap length is_list ∙ length-append shown_ends sides in let f = many_shown in omega (arith, e, f, many_sides)
-
 -- ---- two reducers
 
 module _ (r o : Body) (k : KeepsNet r) (l : KeepsNet o) (can : CanAppend (reducer_view r) (reducer_view o)) where
@@ -280,15 +276,12 @@ module _ (r o : Body) (k : KeepsNet r) (l : KeepsNet o) (can : CanAppend (reduce
         ];
       }
 
-      pub none_after : NoneLeased r.arena → NoneLeased b
-      none_after none y low leased = let e = alike.many in none y (omega (arith, e, low)) (alike.none y (omega (arith, e, low)) leased)
-
       -- the other's agents have taken as many free cells
       pub vacant_after : NoneLeased r.arena → (c : CellClass) → count_of (vacant_in (at_rest b)) c + agents_of t c (agents_in o.arena) ≡ count_of (vacant_in (at_rest r.arena)) c
       vacant_after none c =
           let e = copied.free c in
           let f = counted_more c in
-          let g = vacant_is b (none_after none) c in
+          let g = vacant_is b (still_unleased r.arena b alike none) c in
           let h = vacant_is r.arena none c in
           let i = anew.free c in
           omega (arith, e, f, g, h, i)

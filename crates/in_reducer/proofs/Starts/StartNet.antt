@@ -37,6 +37,7 @@ use Rattle.in_compile.proofs.Public.{inside_of, joints_many, sound}
 use Rattle.in_reducer.specs.Inside.{most_ends}
 use Rattle.in_reducer.specs.Interacting.{named}
 use Rattle.in_compile.specs.Putting.{IsPut}
+use Rattle.in_reducer.specs.Wiring.{HasBegun}
 use Rattle.in_reducer.specs.Sides.{HasJoint, inner_of}
 use Rattle.in_reducer.specs.Standing.{agent_in, agents_in, at_rest, leading_to, vacant_in, IsNetIn}
 use Rattle.in_reducer.specs.Starts.{IsStart}
@@ -48,7 +49,7 @@ use Rattle.in_reducer.proofs.Steps.Laid.{in_or_out}
 use Rattle.in_reducer.proofs.Pairs.Queues.{all_classes, half_of}
 use Rattle.in_reducer.proofs.Cells.Shown.{is_over, partner_seen, same_kinds, same_names, seen, symbol_seen}
 use Rattle.in_reducer.proofs.Starts.Started.{net_at, sound_at}
-use Rattle.in_reducer.proofs.Steps.StillNet.{net_in, put_good, put_leased}
+use Rattle.in_reducer.proofs.Steps.StillNet.{begun_good, begun_unleased, net_in}
 
 -- ---- an empty arena
 
@@ -159,15 +160,18 @@ module _ (text : List ℕ) (p : Program) (accepted : IsAccepted text p) (m : Mem
   -- ---- placed
 
   module _ (ns : List CellNo) (a b : ArenaView) (cells : ℕ) (same : a.cells ≡ cells) (empty : a.states ≡ replicate (length classes * cells) Vacant) (put : IsPut m ns a b) where
+    begun : HasBegun m ns a b
+    begun = laid.begun_of p.tables p.net over m of ns a b put
+
     empty_at_rest : IsNetIn p.tables (at_rest a)
     empty_at_rest = subst (IsNetIn p.tables) (sym (rests a (empty_none a cells same empty))) (empty_net a cells same empty p.tables)
 
     pub net_in_cells : IsNetIn p.tables (at_rest b)
-    net_in_cells = net_in p.tables a b (all_at_rest a (empty_all a cells same empty)) put.cells put.many (put_good p.tables p.net over m of ns a b put empty_at_rest)
+    net_in_cells = net_in p.tables a b (all_at_rest a (empty_all a cells same empty)) put.cells put.many (begun_good p.tables p.net over m of ns a b begun empty_at_rest)
 
     -- no cell is on lease
     pub none_after : NoneLeased b
-    none_after n l leased = empty_none a cells same empty n (subst (λ (z : ℕ). n < z) put.many l) (put_leased p.tables p.net over m of ns a b put n leased)
+    none_after = begun_unleased p.tables p.net over m of ns a b begun (empty_none a cells same empty)
 
     pub cells_after : b.cells ≡ cells
     cells_after = put.cells ∙ same
@@ -179,7 +183,7 @@ module _ (text : List ℕ) (p : Program) (accepted : IsAccepted text p) (m : Mem
         go : laid.InOrOut ns y → (k : ℕ) × (named ns k ≡ y) × ((net_of p.net).symbol k ≡ Some s)
         go (inr out) = absurd (let f : None ≡ Some s = sym (no_word a cells same empty y) ∙ sym (ap word_of (put.others y out)) ∙ w in cc)
         go (inl at) =
-            let x = laid.whose p.tables p.net over m of ns a b put at.0 y at.1 in
+            let x = laid.begun_whose p.tables p.net over m of ns a b begun at.0 y at.1 in
             let there : word_of (state_at b y) ≡ Some x.0.symbol.0 = ap (λ (z : ℕ). word_of (state_at b z)) (sym x.2) ∙ ap word_of (laid.stands_there p.tables p.net over m of ns a b put at.0 x.0 x.1) in
             (at.0, x.2, laid.symbol_of p.tables p.net over m of at.0 x.0 x.1 ∙ sym there ∙ w)
 
@@ -190,9 +194,9 @@ module _ (text : List ℕ) (p : Program) (accepted : IsAccepted text p) (m : Mem
         go : laid.InOrOut ns y → (k : ℕ) × (named ns k ≡ y) × IsPoint (signature_of p.tables) (net_of p.net) (Port k i)
         go (inr out) = absurd (let f : None ≡ Some e = sym (no_end a cells same empty y i) ∙ sym (ap (λ (x : State). end_at x i) (put.others y out)) ∙ h in cc)
         go (inl at) =
-            let x = laid.whose p.tables p.net over m of ns a b put at.0 y at.1 in
+            let x = laid.begun_whose p.tables p.net over m of ns a b begun at.0 y at.1 in
             let is = laid.symbol_of p.tables p.net over m of at.0 x.0 x.1 in
-            let many = laid.places_there p.tables p.net over m of ns a b put at.0 x.0.symbol.0 is in
+            let many = laid.begun_places p.tables p.net over m of ns a b begun at.0 x.0.symbol.0 is in
             let l = place_within (state_at b y) i e h in
             let f : places (state_at b y) ≡ places (state_at b (named ns at.0)) = ap (λ (z : ℕ). places (state_at b z)) (sym x.2) in
             let low : i ≤ arity_of p.tables x.0.symbol.0 = omega (arith, l, f, many) in
@@ -250,11 +254,11 @@ module _ (text : List ℕ) (p : Program) (accepted : IsAccepted text p) (m : Mem
             let r = has_value ((net_of p.net).symbol y) k in
             let c = laid.agent_at p.tables p.net over m of x s.0 s.1 in
             let d = laid.agent_at p.tables p.net over m of y r.0 r.1 in
-            laid.named_once p.tables p.net over m of ns a b put x y c.0 d.0 c.1 d.1 e
+            laid.begun_once p.tables p.net over m of ns a b begun x y c.0 d.0 c.1 d.1 e
             );
         agents = λ y s. (
           (λ e. whose y s (sym (symbol_seen b p.net.free es y) ∙ e)),
-          (λ h. symbol_seen b p.net.free es y ∙ ap (λ (z : ℕ). word_of (state_at b z)) (sym h.1) ∙ laid.word_there p.tables p.net over m of ns a b put h.0 s h.2),
+          (λ h. symbol_seen b p.net.free es y ∙ ap (λ (z : ℕ). word_of (state_at b z)) (sym h.1) ∙ laid.begun_word p.tables p.net over m of ns a b begun h.0 s h.2),
         );
         wires = λ u v. (
           (λ e. (

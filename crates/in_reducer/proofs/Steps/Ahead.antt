@@ -1,9 +1,9 @@
 -- What was read ahead of pairs stays while pairs before them interact.
-use Rattle.std.proofs.Common.{◌≡◌, ◌⊎◌, inl, inr, ◌<◌, ◌+◌, ℕ, zero, suc, Some, List, [], ◌∷◌, ◌++◌, ◌≢◌, length, map, remove, set, slice_get, sym, ap, subst, ◌∙◌, arith}
+use Rattle.std.proofs.Common.{◌≡◌, ◌⊎◌, inl, inr, ◌<◌, ◌+◌, ℕ, suc, Some, List, [], ◌∷◌, ◌++◌, ◌≢◌, length, map, remove, set, slice_get, sym, ap, subst, ◌∙◌, arith}
 use Rattle.std.proofs.lemmas.Bool.{cases_eq}
 use Rattle.std.proofs.lemmas.List.{length-set}
 use Rattle.std.proofs.lemmas.Option.{same_Some, slice_get_within}
-use Rattle.in_base.proofs.Places.{set_here, set_there}
+use Rattle.in_base.proofs.Places.{kept_at, set_here, set_there}
 use Rattle.in_symbols.specs.declared.symbols.SymbolNo.{SymbolNo}
 use Rattle.in_net.specs.Parts.{symbol_in}
 use Rattle.in_interaction.specs.Queues.{agents_at, numbers_of}
@@ -20,12 +20,7 @@ use Rattle.in_reducer.proofs.Steps.StepsOn.{can_at, inside_at, net_at}
 -- what stood behind the first one stands one place before
 moved_up : {X : Type 0} (xs ys : List X) (i : ℕ) (x : X) → slice_get xs (suc i) ≡ Some x → slice_get (remove xs 0 ++ ys) i ≡ Some x
 moved_up [] ys i x e = cc
-moved_up (y ∷ xs) ys i x e = in_front xs ys i x e
-  where
-    in_front : {X : Type 0} (xs ys : List X) (i : ℕ) (x : X) → slice_get xs i ≡ Some x → slice_get (xs ++ ys) i ≡ Some x
-    in_front [] ys i x e = cc
-    in_front (y ∷ xs) ys zero x e = e
-    in_front (y ∷ xs) ys (suc i) x e = in_front xs ys i x e
+moved_up (y ∷ xs) ys i x e = kept_at xs ys i x e
 
 module _ (m n : MachineParts) (h : IsReducer m) (s : StepsAt m 0 n) where
   -- the agents of another pair keep their symbols

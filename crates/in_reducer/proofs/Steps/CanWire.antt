@@ -1,23 +1,17 @@
 -- Where new agents are begun beside a pair to which no wire leads back, the wires can be written; and when they are, the pair is retired.
-use Rattle.std.proofs.Common.{◌≡◌, ◌≢◌, ◌⊎◌, ◌↔◌, inl, inr, ◌<◌, ◌≤◌, ◌-◌, ℕ, suc, Bool, cond, nat_lt, Option, Some, None, List, length, map, take, slice_get, refl, sym, ap, subst, ◌∙◌, get_or-set_same, get_or-set_other, arith}
+use Rattle.std.proofs.Common.{◌≡◌, ◌≢◌, ◌⊎◌, ◌↔◌, inl, inr, ◌<◌, ◌≤◌, ◌+◌, ◌-◌, ℕ, suc, Bool, cond, nat_lt, Option, Some, None, List, length, map, take, slice_get, refl, sym, ap, subst, ◌∙◌, get_or-set_same, get_or-set_other, arith}
 use Rattle.std.specs.Prelude.{option_map, IsSomeAnd, IsTrue}
 use Rattle.in_arena.specs.Arenas.{ArenaView, changed, state_at}
 use Rattle.in_arena.specs.States.{State, Vacant, Leased, Live, IsLive, word_of, end_at, places}
 use Rattle.in_arena.specs.declared.content.CellNo.{CellNo}
 use Rattle.in_arena.specs.declared.content.End.{End}
 use Rattle.in_arena.proofs.Public.{live_inside, word_live}
-use Rattle.in_symbols.specs.Tables.{Tables, IsSymbol, arity_of}
-use Rattle.in_symbols.specs.declared.symbols.SymbolNo.{SymbolNo}
-use Rattle.in_net.specs.Built.{IsOver}
+use Rattle.in_symbols.specs.Tables.{Tables, arity_of}
 use Rattle.in_net.specs.Interactions.{end_agent, end_place}
 use Rattle.in_net.specs.Nets.{Point, Port, Free, Net, net_of, signature_of}
-use Rattle.in_net.specs.Parts.{Parts, symbol_in}
-use Rattle.in_net.proofs.Public.{symbol_known}
 use Rattle.in_interaction.proofs.Public.{has_value}
 use Rattle.in_base.proofs.Each.{at_index}
-use Rattle.in_gluing.proofs.Public.{mapped}
 use Rattle.in_cells.specs.Between.{Interaction, IsDone, before, redex_of}
-use Rattle.in_cells.specs.Cells.{HasSymbols}
 use Rattle.in_cells.specs.Shown.{end_of, point_of, stands_at}
 use Rattle.in_cells.proofs.Public.{place_within, point_end, take_at}
 use Rattle.in_compile.specs.Templates.{TemplateParts}
@@ -25,15 +19,16 @@ use Rattle.in_compile.specs.Wires.{both_points, over_of, over_point, within_of}
 use Rattle.in_compile.proofs.Public.{over_ends, wires_within}
 use Rattle.in_overwriting.specs.MadeByWires.{CanOverwriteAt}
 use Rattle.in_overwriting.specs.InTurn.{AreAllWiresOf}
-use Rattle.in_overwriting.proofs.Public.{sides_are_apart, wires_in_two_parts}
+use Rattle.in_overwriting.proofs.Public.{wires_in_two_parts}
 use Rattle.in_reducer.specs.declared.sides.Pair.{Pair}
+use Rattle.in_reducer.specs.Inside.{most_ends, most_points}
 use Rattle.in_reducer.specs.Interacting.{PairSetting, IsAbout, interaction_of, named}
 use Rattle.in_reducer.specs.Sides.{end_there, port_at}
-use Rattle.in_reducer.specs.Wiring.{AreAtAgents, HasBegun, HasPortAt, IsSideOf, IsWiring, wires_of}
+use Rattle.in_reducer.specs.Wiring.{AreAtAgents, CanRead, HasBegun, IsSideOf, IsWiring, wires_of}
 use Rattle.in_reducer.proofs.Steps.Laid as laid
 use Rattle.in_reducer.proofs.Steps.Laid.{in_or_out}
 use Rattle.in_reducer.proofs.Steps.SetUp as ready
-use Rattle.in_reducer.proofs.Steps.SetUp.{port_is}
+use Rattle.in_reducer.proofs.Steps.SetUp.{AgentsStay, port_is}
 use Rattle.in_reducer.proofs.Steps.Wired as wires
 
 module _ (t : Tables) (s : PairSetting) (p : TemplateParts) (pair : Pair) (own : ℕ) (old : ArenaView) (ends : List End) (about : IsAbout t s p pair own old ends) (ns : List CellNo) (now : ArenaView) (begun : HasBegun p.member ns old now) (unmarked : IsTrue p.unmarked) where
@@ -57,7 +52,7 @@ module _ (t : Tables) (s : PairSetting) (p : TemplateParts) (pair : Pair) (own :
   abbrev IsAgent : ℕ → ℕ → Type 0
   IsAgent y z = ((before x).symbol y ≡ Some z) ⊎ ((k : ℕ) × (x.name k ≡ y) × (m.symbol k ≡ Some z))
 
-  stays : (y z : ℕ) → (net_of s.net).symbol y ≡ Some z → state_at now y ≡ state_at old y
+  stays : AgentsStay (net_of s.net) old now
   stays = ready.begun_stays t s p pair own old ends about ns now begun
 
   symbols : (y z : ℕ) → (word_of (state_at now y) ≡ Some z) ↔ IsAgent y z
@@ -140,10 +135,29 @@ module _ (t : Tables) (s : PairSetting) (p : TemplateParts) (pair : Pair) (own :
           → end_at (state_at now (cond b s.one.0 s.two.0)) (cond b (suc e) (suc (e - arity_of t s.rule.heads.0.0))) ≡ Some (end_of u) → end_there now (port_at pair e) ≡ Some (end_of u)
       at_port b is stands = ap (λ (z : ℕ). end_at (state_at now z) (port_at pair e).1) is.0 ∙ ap (end_at (state_at now (cond b s.one.0 s.two.0))) is.1 ∙ stands
 
-  pub has_port : (e : ℕ) → e < length p.member.joints → HasPortAt now pair e
-  has_port e low =
-      let u = (sides_are_apart (signature_of t) (before x) (redex_of x) x.name can).side (Free e) (subst (λ (n : ℕ). e < n) many_is low) in
-      place_within (state_at now (port_at pair e).0.0) (port_at pair e).1 (end_of u.0) (port_stands e u.0 u.1)
+  one_word : word_of (state_at now pair.one.0) ≡ Some s.rule.heads.0.0
+  one_word = (symbols pair.one.0 s.rule.heads.0.0).1 (inl (ap (net_of s.net).symbol about.one ∙ about.redex.one))
+
+  other_word : word_of (state_at now pair.other.0) ≡ Some s.rule.heads.1.0
+  other_word = (symbols pair.other.0 s.rule.heads.1.0).1 (inl (ap (net_of s.net).symbol about.two ∙ about.redex.two))
+
+  -- the pair's ports can be read
+  pub can_read : (points : List End) (many : ℕ) → many ≡ length p.member.joints → many ≤ most_ends → most_points ≤ length points → CanRead now pair many points
+  can_read points many is few long =
+      let one = all_places pair.one.0 s.rule.heads.0.0 one_word in
+      let two = all_places pair.other.0 s.rule.heads.1.0 other_word in
+      let ends : length m.free ≡ arity_of t s.rule.heads.0.0 + arity_of t s.rule.heads.1.0 = about.redex.ends in
+      let first : pair.first_ends ≡ arity_of t s.rule.heads.0.0 = about.first_ends ∙ about.template.first_ends in
+      let joints = many_is in
+      record {
+        one = word_live (state_at now pair.one.0) s.rule.heads.0.0 one_word;
+        other = word_live (state_at now pair.other.0) s.rule.heads.1.0 other_word;
+        order = omega (arith, is, joints, ends, first);
+        first = omega (arith, one, first);
+        second = omega (arith, two, is, joints, ends, first);
+        few = few;
+        long = long;
+      }
 
   all_wires : AreAllWiresOf m (wires_of p.member)
   all_wires =
@@ -154,9 +168,10 @@ module _ (t : Tables) (s : PairSetting) (p : TemplateParts) (pair : Pair) (own :
   pub can_wire : (points : List End) → ((e : ℕ) → e < length p.member.joints → slice_get points e ≡ end_there now (port_at pair e)) → AreAtAgents ns points
       → IsWiring t s p own ns points 0 now ends
   can_wire points at_ends at_agents = record {
-    over = about.over;
     member_over = about.member_over;
     template = about.template;
+    typed = about.typed;
+    typed_inside = about.typed_inside;
     many = begun.count;
     sides = record { ends = λ e u low side. at_ends e (subst (λ (n : ℕ). e < n) (sym many_is) low) ∙ port_stands e u side; agents = at_agents };
     from = record {
@@ -170,16 +185,6 @@ module _ (t : Tables) (s : PairSetting) (p : TemplateParts) (pair : Pair) (own :
       still = λ u v w out. still u v w;
     };
   }
-
-  pub has_symbols : HasSymbols t now
-  has_symbols y z w = go ((symbols y z).0 w)
-    where
-      known : (n : Parts) (y : ℕ) → IsOver t n → (net_of n).symbol y ≡ Some z → IsSymbol t z
-      known n y over e = let q = mapped (λ (s : SymbolNo). s.0) (symbol_in n y) z e in subst (IsSymbol t) q.2 (symbol_known t n y q.0 over q.1)
-
-      go : IsAgent y z → IsSymbol t z
-      go (inl f) = known s.net y about.over f
-      go (inr f) = known s.rule.member f.0 about.member_over f.2
 
 -- ---- all are written
 

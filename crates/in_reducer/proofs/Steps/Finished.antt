@@ -1,7 +1,7 @@
 -- An interaction that is finished where the right member stands beside its pair: what its steps owe, and what it leaves.
-use Rattle.std.proofs.Common.{◌≡◌, ◌<◌, ◌≤◌, ◌+◌, ℕ, List, [], ◌++◌, map, remove, reverse, length, get_or, slice_get, Some, sym, ap, subst, ◌∙◌, arith}
+use Rattle.std.proofs.Common.{◌≡◌, ◌<◌, ◌≤◌, ◌+◌, ℕ, List, [], ◌++◌, map, remove, reverse, length, get_or, slice_get, Some, sym, ap, subst, ◌∙◌, arith, refl}
 use Rattle.std.specs.VecDeque.{deque_capacity}
-use Rattle.std.proofs.lemmas.Option.{same_Some, slice_get_within}
+use Rattle.std.proofs.lemmas.Option.{same_Some, slice_get_within, slice_get_read}
 use Rattle.in_arena.specs.Arenas.{ArenaView}
 use Rattle.in_arena.specs.declared.content.CellNo.{CellNo}
 use Rattle.in_arena.specs.declared.content.End.{End}
@@ -15,8 +15,8 @@ use Rattle.in_reducer.specs.Machines.{MachineParts}
 use Rattle.in_reducer.specs.Reducers.{IsReducer}
 use Rattle.in_reducer.specs.Standing.{IsNetIn, agents_in, at_rest, leading_to, vacant_in}
 use Rattle.in_reducer.specs.Steps.{StepsAt}
-use Rattle.in_reducer.proofs.Cells.Looked.{read_at}
 use Rattle.in_reducer.proofs.Steps.Stepped as stepped
+use Rattle.in_reducer.proofs.Steps.Laid as laid
 use Rattle.in_reducer.proofs.Steps.StillNet as still
 
 module _ (r : Body) (a : ArenaView) (i : ℕ) (p : TemplateParts) (sb : StandsBeside r a i p) where
@@ -34,7 +34,8 @@ module _ (r : Body) (a : ArenaView) (i : ℕ) (p : TemplateParts) (sb : StandsBe
 
   pub put_net : (tables : Tables) → tables ≡ r.checked.now.tables → IsNetIn tables (at_rest r.arena)
   put_net tables same = subst (λ (u : Tables). IsNetIn u (at_rest r.arena)) (sym same)
-      (still.net_in t a r.arena sb.net.net.all sb.put.cells sb.put.many (still.put_good t sb.at.rule.member sb.at.is_rule.over.member p.member sb.at.template.member ns a r.arena sb.put sb.net.net))
+      (still.net_in t a r.arena sb.net.net.all sb.put.cells sb.put.many (still.begun_good t sb.at.rule.member sb.at.is_rule.over.member p.member sb.at.template.member ns a r.arena
+      (laid.begun_of t sb.at.rule.member sb.at.is_rule.over.member p.member sb.at.template.member ns a r.arena sb.put) sb.net.net))
 
   pub few : length p.member.joints ≤ most_ends
   few = stepped.few_joints (over a r) sb.net i p sb.at
@@ -48,7 +49,7 @@ module _ (r : Body) (a : ArenaView) (i : ℕ) (p : TemplateParts) (sb : StandsBe
   pub beside : (q : ℕ × ℕ) → q ≡ get_or r.queue.items i q → (tables : Tables) → tables ≡ r.checked.now.tables → (first : ℕ) → first ≡ p.first_ends → (own : ℕ) → own ≡ length r.free.items → (ends : List End) → ends ≡ r.ends.items
       → HasBeside tables (stepped.setting (over a r) sb.net i p sb.at) p (record { one = record { 0 = q.0 }; other = record { 0 = q.1 }; first_ends = first }) own r.tools.placed.cells r.arena ends
   beside q read tables same first is_first own is_own ends is_ends =
-      let same_pair : sb.at.pair ≡ q = same_Some sb.at.pair q (sym sb.at.stands ∙ read_at r.queue.items i q low read) in (
+      let same_pair : sb.at.pair ≡ q = same_Some sb.at.pair q (sym sb.at.stands ∙ slice_get_read r.queue.items (length r.queue.items) i q refl low read) in (
         a,
         stepped.is_about (over a r) sb.net i p sb.at tables same (record { one = record { 0 = q.0 }; other = record { 0 = q.1 }; first_ends = first })
             (ap (λ (z : ℕ × ℕ). z.0) (sym same_pair)) (ap (λ (z : ℕ × ℕ). z.1) (sym same_pair)) is_first own (own_is own is_own) ends is_ends,

@@ -4,7 +4,7 @@ use Rattle.std.specs.VecDeque.{deque_capacity}
 use Rattle.std.proofs.lemmas.List.{length-map, length-reverse, length-set, take_all}
 use Rattle.std.proofs.lemmas.List.Edits.{length-remove}
 use Rattle.std.specs.Prelude.{IsTrue}
-use Rattle.std.proofs.lemmas.Option.{same_Some, slice_get_within}
+use Rattle.std.proofs.lemmas.Option.{same_Some, slice_get_within, slice_get_read}
 use Rattle.in_arena.specs.Arenas.{ArenaView, NoneLeased, changed, state_at}
 use Rattle.in_arena.specs.Changes.{HasAllCells}
 use Rattle.in_arena.specs.States.{Vacant, IsLive}
@@ -32,7 +32,6 @@ use Rattle.in_reducer.specs.Steps.{HasRoomAt, StepsAt}
 use Rattle.in_reducer.specs.Templates.{IsTemplateAt}
 use Rattle.in_reducer.specs.Wiring.{CanWireUp, IsWiredUp, IsWiring, wires_of}
 use Rattle.in_reducer.proofs.Cells.Counted.{cells_at_rest}
-use Rattle.in_reducer.proofs.Cells.Looked.{read_at as looked}
 use Rattle.in_reducer.proofs.Pairs.Queues.{short_queue}
 use Rattle.in_reducer.proofs.Steps.CanWire as can
 use Rattle.in_reducer.proofs.Steps.StillNet as still
@@ -55,7 +54,7 @@ module _ (r : Body) (k : KeepsNet r) (i : ℕ) (p : TemplateParts) (at : IsTempl
     pair_read = record { one = record { 0 = q.0 }; other = record { 0 = q.1 }; first_ends = first }
 
     same_pair : at.pair ≡ q
-    same_pair = same_Some at.pair q (sym at.stands ∙ looked r.queue.items i q (slice_get_within r.queue.items i at.pair at.stands) read)
+    same_pair = same_Some at.pair q (sym at.stands ∙ slice_get_read r.queue.items (length r.queue.items) i q refl (slice_get_within r.queue.items i at.pair at.stands) read)
 
     pub about_in : (tables : Tables) → tables ≡ t → IsAbout tables setting p pair_read own_ends r.arena ends
     about_in tables same =
@@ -154,11 +153,7 @@ module _ (r : Body) (k : KeepsNet r) (i : ℕ) (p : TemplateParts) (at : IsTempl
           (still.retired_alike (changed a pair.one.0 Vacant) b pair.other.0 other_live retired))
 
       pub none_leased : NoneLeased b
-      none_leased n low leased =
-          let same = alike.many in
-          let all = as_many in
-          let before = alike.none n (let l : n < length up.middle.states = omega (arith, low, same) in l) leased in
-          none n (let l : n < length r.arena.states = omega (arith, low, all) in l) (still.begun_leased t at.rule.member at.is_rule.over.member p.member at.template.member ns r.arena up.middle up.begun n before)
+      none_leased = still.still_unleased up.middle b alike (still.begun_unleased t at.rule.member at.is_rule.over.member p.member at.template.member ns r.arena up.middle up.begun none)
 
       -- ---- the queue
 

@@ -165,26 +165,8 @@ module _ (t : Tables) (n : Parts) (over : IsOver t n) (m : MemberParts) (of : Is
   }
 
   module _ (ns : List CellNo) (old new : ArenaView) (put : IsPut m ns old new) where
-    pub cell_there : (k : ℕ) (a : AgentParts) → slice_get m.agents k ≡ Some a → slice_get ns k ≡ Some (slice_index_or ns k (record { 0 = 0 }))
-    cell_there = own_cell ns old new (begun_of ns old new put)
-
-    pub was_free : (k : ℕ) (a : AgentParts) → slice_get m.agents k ≡ Some a → word_of (state_at old (named ns k)) ≡ None
-    was_free = begun_free ns old new (begun_of ns old new put)
-
     pub stands_there : (k : ℕ) (a : AgentParts) → slice_get m.agents k ≡ Some a → state_at new (named ns k) ≡ content ns a
-    stands_there k a e = (put.each k a (slice_index_or ns k (record { 0 = 0 })) e (cell_there k a e)).2
-
-    pub named_once : (k l : ℕ) (a b : AgentParts) → slice_get m.agents k ≡ Some a → slice_get m.agents l ≡ Some b → named ns k ≡ named ns l → k ≡ l
-    named_once = begun_once ns old new (begun_of ns old new put)
-
-    pub whose : (k y : ℕ) → slice_get ns k ≡ Some (record { 0 = y }) → (a : AgentParts) × (slice_get m.agents k ≡ Some a) × (named ns k ≡ y)
-    whose = begun_whose ns old new (begun_of ns old new put)
-
-    pub word_there : (k s : ℕ) → (net_of n).symbol k ≡ Some s → word_of (state_at new (named ns k)) ≡ Some s
-    word_there = begun_word ns old new (begun_of ns old new put)
-
-    pub places_there : (k s : ℕ) → (net_of n).symbol k ≡ Some s → places (state_at new (named ns k)) ≡ suc (arity_of t s)
-    places_there = begun_places ns old new (begun_of ns old new put)
+    stands_there k a e = (put.each k a (slice_index_or ns k (record { 0 = 0 })) e (own_cell ns old new (begun_of ns old new put) k a e)).2
 
     by_joint : (k i : ℕ) (j : Joint) (o : Option AgentParts) → slice_get m.agents k ≡ o → option_and_then (λ (a : AgentParts). slice_get a.ends i) o ≡ Some j → end_at (state_at new (named ns k)) i ≡ Some (end_in ns j)
     by_joint k i j None is e = absurd (let f : None ≡ Some j = e in cc)

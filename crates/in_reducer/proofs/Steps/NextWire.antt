@@ -1,5 +1,5 @@
 -- The next wire of a right member: where its sides are read.
-use Rattle.std.proofs.Common.{◌≡◌, ◌<◌, ◌+◌, ◌++◌, ℕ, List, length, map, slice_get, Some, refl, ap, subst, ◌∙◌, inl, inr, arith}
+use Rattle.std.proofs.Common.{◌≡◌, ◌<◌, ◌+◌, ℕ, List, length, map, slice_get, Some, refl, ap, subst, ◌∙◌, inl, inr, arith}
 use Rattle.std.proofs.lemmas.List.{length-map}
 use Rattle.std.proofs.lemmas.Option.{slice_get-map, slice_get_within}
 use Rattle.std.specs.Prelude.{option_map, slice_index_or}
@@ -22,10 +22,6 @@ use Rattle.in_overwriting.proofs.Public.{sides_are_apart}
 use Rattle.in_reducer.specs.Interacting.{PairSetting, interaction_of, named}
 use Rattle.in_reducer.specs.Wiring.{IsAtPlace, IsSideOf, IsWiring, wires_of}
 use Rattle.in_reducer.proofs.Steps.Laid.{agent_at}
-
--- what a list that is appended has at its own places
-pub after_first : {X : Type 0} (xs ys : List X) (j : ℕ) (y : X) → slice_get ys j ≡ Some y → slice_get (xs ++ ys) (length xs + j) ≡ Some y
-after_first xs ys j y at = past_first xs ys j ∙ at
 
 module _ (t : Tables) (s : PairSetting) (p : TemplateParts) (own : ℕ) (ns : List CellNo) (points : List End) (k : ℕ) (a : ArenaView) (es : List End) (h : IsWiring t s p own ns points k a es) where
   abbrev x : Interaction
@@ -88,7 +84,7 @@ module _ (t : Tables) (s : PairSetting) (p : TemplateParts) (own : ℕ) (ns : Li
   pub within_wire : (i : ℕ) (j l : Joint) → slice_get (within_of p.member) i ≡ Some (j, l) → slice_get (wires_of p.member) (length (over_of p.member) + i) ≡ Some (point_at j, point_at l)
   within_wire i j l at =
       subst (λ (n : ℕ). slice_get (wires_of p.member) (n + i) ≡ Some (point_at j, point_at l)) many
-      (after_first over (map both_points (within_of p.member)) i (point_at j, point_at l) (slice_get-map both_points (within_of p.member) i ∙ ap (option_map both_points) at))
+      (past_first over (map both_points (within_of p.member)) i ∙ slice_get-map both_points (within_of p.member) i ∙ ap (option_map both_points) at)
     where
       many : length over ≡ length (over_of p.member)
       many = length-map (map over_point (over_of p.member)) (λ (w : ℕ × Point ℕ). (Free w.0, w.1)) ∙ length-map (over_of p.member) over_point

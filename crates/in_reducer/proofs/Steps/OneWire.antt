@@ -1,30 +1,34 @@
 -- One wire of a right member is written: what that asks, and what it leaves.
-use Rattle.std.proofs.Common.{◌≡◌, ◌≢◌, ◌⊎◌, ◌<◌, ◌+◌, ℕ, Some, List, length, map, slice_get, refl, sym, ap, subst, ◌∙◌, inl, inr, arith}
-use Rattle.std.specs.Prelude.{slice_index_or}
-use Rattle.std.proofs.lemmas.Option.{get_or_from_slice_get, slice_get_within}
+use Rattle.std.proofs.Common.{◌≡◌, ◌<◌, ◌+◌, ℕ, Bool, Some, List, length, map, slice_get, refl, sym, ap, subst, ◌∙◌, inl, inr, arith}
+use Rattle.std.specs.Prelude.{option_map, slice_index_or}
+use Rattle.std.proofs.lemmas.List.{length-map}
+use Rattle.std.proofs.lemmas.Option.{get_or_from_slice_get, slice_get-map, slice_get_within}
+use Rattle.in_base.proofs.Each.{at_index}
 use Rattle.in_arena.specs.Arenas.{ArenaView}
 use Rattle.in_arena.specs.declared.content.CellNo.{CellNo}
 use Rattle.in_arena.specs.declared.content.End.{End}
-use Rattle.in_symbols.specs.Tables.{Tables, IsSymbol}
-use Rattle.in_symbols.specs.declared.symbols.SymbolNo.{SymbolNo}
-use Rattle.in_net.specs.Built.{IsOver}
-use Rattle.in_net.specs.Nets.{net_of}
-use Rattle.in_net.specs.Parts.{Parts, symbol_in}
-use Rattle.in_net.proofs.Public.{symbol_known}
+use Rattle.in_symbols.specs.Tables.{Tables}
+use Rattle.in_symbols.specs.declared.symbols.PortType.{PortType}
+use Rattle.in_net.specs.declared.nets.FreeEnd.{FreeEnd}
+use Rattle.in_net.specs.Nets.{Free, net_of}
 use Rattle.in_gluing.proofs.Public.{mapped}
-use Rattle.in_cells.specs.Between.{Interaction, before, redex_of}
-use Rattle.in_cells.specs.Cells.{HasSymbols, KeepsCells}
-use Rattle.in_cells.specs.Pairs.{AddsPair}
-use Rattle.in_cells.specs.Shown.{AreExchanged, IsPlaceAt, end_of, point_of}
-use Rattle.in_cells.proofs.Public.{exchange_keeps, live_after, symbols_kept, writes_end_point as end_point}
+use Rattle.in_cells.specs.Between.{Interaction}
+use Rattle.in_cells.specs.Cells.{KeepsCells}
+use Rattle.in_cells.specs.Shown.{AreExchanged, IsPlaceAt, end_of}
+use Rattle.in_cells.proofs.Public.{exchange_keeps}
 use Rattle.in_compile.specs.declared.joints.Joint.{Joint}
 use Rattle.in_compile.specs.declared.joints.Joint.TheVariants.{ToBoundary}
 use Rattle.in_compile.specs.Templates.{TemplateParts}
 use Rattle.in_compile.specs.Wires.{over_of, over_point, place_in, point_at, slot_of, within_of}
 use Rattle.in_reducer.specs.Interacting.{PairSetting, interaction_of}
-use Rattle.in_reducer.specs.Wiring.{CanPair, HasQueued, IsAtPlace, IsWiring, wires_of}
+use Rattle.in_compile.proofs.Public.{over_ends}
+use Rattle.in_reducer.specs.Wiring.{AddsInOrder, HasQueued, IsAtPlace, IsWiring, wires_of}
 use Rattle.in_reducer.proofs.Steps.NextWire.{IsReadAt, inner_read, one_read, other_read, outer_read, over_at, over_wire, within_wire}
 use Rattle.in_reducer.proofs.Steps.Wired as wires
+
+-- an end stands at the slot and place of a joint
+abbrev pub CanBeRead : List End → Joint → Type 0
+CanBeRead points j = (slot place : ℕ) → slot ≡ slot_of j → place ≡ place_in j → (y : End) × (z : End) × (slice_get points slot ≡ Some y) × IsAtPlace y place z
 
 module _ (t : Tables) (s : PairSetting) (p : TemplateParts) (own : ℕ) (ns : List CellNo) (points : List End) (k : ℕ) (a : ArenaView) (es : List End) (h : IsWiring t s p own ns points k a es) where
   abbrev x : Interaction
@@ -36,7 +40,7 @@ module _ (t : Tables) (s : PairSetting) (p : TemplateParts) (own : ℕ) (ns : Li
   -- ---- reading
 
   -- a side is read at its slot and place
-  pub can_read : (j : Joint) (r : Read j) (slot place : ℕ) → slot ≡ slot_of j → place ≡ place_in j → (y : End) × (z : End) × (slice_get points slot ≡ Some y) × IsAtPlace y place z
+  pub can_read : (j : Joint) → Read j → CanBeRead points j
   can_read j r slot place is_slot is_place = (r.point, end_of r.side, ap (slice_get points) is_slot ∙ r.stands, subst (λ (n : ℕ). IsAtPlace r.point n (end_of r.side)) (sym is_place) r.at)
 
   pub is_read : (j : Joint) (r : Read j) (slot place : ℕ) → slot ≡ slot_of j → place ≡ place_in j → (result : End) → ((y z : End) → slice_get points slot ≡ Some y → IsAtPlace y place z → result ≡ z) → result ≡ end_of r.side
@@ -51,15 +55,12 @@ module _ (t : Tables) (s : PairSetting) (p : TemplateParts) (own : ℕ) (ns : Li
       itself (inl (zero, is)) = sym is
       itself (inr (c, at, is)) = at ∙ sym is
 
-  has_symbols : HasSymbols t a
-  has_symbols y z w = go ((h.from.symbols y z).0 w)
-    where
-      known : (n : Parts) (y : ℕ) → IsOver t n → (net_of n).symbol y ≡ Some z → IsSymbol t z
-      known n y over e = let q = mapped (λ (s : SymbolNo). s.0) (symbol_in n y) z e in subst (IsSymbol t) q.2 (symbol_known t n y q.0 over q.1)
-
-      go : ((before x).symbol y ≡ Some z) ⊎ ((l : ℕ) × (x.name l ≡ y) × ((redex_of x).member.symbol l ≡ Some z)) → IsSymbol t z
-      go (inl f) = known s.net y h.over f
-      go (inr (l, name, f)) = known s.rule.member l h.member_over f
+  -- the sign of a boundary end is that of the free end of the right member
+  declared : (e : ℕ) (input : Bool) → slice_get p.outputs e ≡ Some input → (z : PortType) × (slice_get (net_of s.rule.member).free e ≡ Some z) × (z.output ≡ input)
+  declared e input signed =
+      let f = mapped (λ (f : FreeEnd). f.kind.output) (slice_get s.rule.member.free e) input
+      (sym (slice_get-map (λ (f : FreeEnd). f.kind.output) s.rule.member.free e) ∙ ap (λ (os : List Bool). slice_get os e) (sym h.template.outputs) ∙ signed) in
+      (f.0.kind, slice_get-map (λ (f : FreeEnd). f.kind) s.rule.member.free e ∙ ap (option_map (λ (f : FreeEnd). f.kind)) f.1, f.2)
 
   -- ---- writing
 
@@ -70,43 +71,32 @@ module _ (t : Tables) (s : PairSetting) (p : TemplateParts) (own : ℕ) (ns : Li
     pub place_v : IsPlaceAt a es v
     place_v = subst (IsPlaceAt a es) (sym is_v) (wires.place_v t x (wires_of p.member) h.from.can h.from.all own k a es h.from (point_at i) (point_at j) one.side two.side at one.is_side two.is_side)
 
-    differ : u ≢ v
-    differ same =
-        wires.differ t x (wires_of p.member) h.from.can h.from.all own k a es h.from (point_at i) (point_at j) one.side two.side at one.is_side two.is_side
-        (sym (end_point one.side) ∙ ap point_of (sym is_u ∙ same ∙ is_v) ∙ end_point two.side)
-
     module _ (b : ArenaView) (fs : List End) (exchanged : AreExchanged u v a es b fs) where
       pub kept : KeepsCells a b × (length fs ≡ length es)
       kept = exchange_keeps u v a es b fs place_u place_v exchanged
-
-      pub can_pair : CanPair t b u v
-      can_pair = record {
-        one = live_after u a es b kept.0 place_u;
-        other = live_after v a es b kept.0 place_v;
-        differ = differ;
-        symbols = symbols_kept t a b kept.0 has_symbols;
-      }
 
       at_sides : AreExchanged (end_of one.side) (end_of two.side) a es b fs
       at_sides = subst (λ (z : End). AreExchanged z (end_of two.side) a es b fs) is_u (subst (λ (z : End). AreExchanged u z a es b fs) is_v exchanged)
 
       pub written : IsWiring t s p own ns points (k + 1) b fs
       written = record {
-        over = h.over;
         member_over = h.member_over;
         template = h.template;
+        typed = h.typed;
+        typed_inside = h.typed_inside;
         many = h.many;
         sides = h.sides;
         from = wires.one_more t x (wires_of p.member) h.from.can h.from.all own k a es h.from (point_at i) (point_at j) one.side two.side at one.is_side two.is_side b fs at_sides;
       }
 
       -- the pair that a wire with a boundary end makes
-      pub queued : (e : ℕ) → i ≡ ToBoundary e → slice_get (over_of p.member) k ≡ Some (e, j) → (first old new : List (ℕ × ℕ)) → HasQueued t x (map over_point (over_of p.member)) k first old → AddsPair t b u v old new
-          → HasQueued t x (map over_point (over_of p.member)) (k + 1) first new
-      queued e is listed first old new before added =
+      pub queued : (e : ℕ) → i ≡ ToBoundary e → slice_get (over_of p.member) k ≡ Some (e, j) → (input : Bool) → slice_get p.outputs e ≡ Some input → (first old new : List (ℕ × ℕ))
+          → HasQueued t x (map over_point (over_of p.member)) k first old → AddsInOrder input u v old new → HasQueued t x (map over_point (over_of p.member)) (k + 1) first new
+      queued e is listed input signed first old new before added =
+          let here = over_at t s p own ns points k a es h k e j listed in
           wires.one_more_queued t x (wires_of p.member) h.from.can h.from.all own k a es h.from (point_at i) (point_at j) one.side two.side at one.is_side two.is_side b fs at_sides
-          e (ap point_at is) (map over_point (over_of p.member)) (over_at t s p own ns points k a es h k e j listed) first old new before
-          (subst (λ (z : End). AddsPair t b z (end_of two.side) old new) is_u (subst (λ (z : End). AddsPair t b u z old new) is_v added))
+          e (ap point_at is) ((over_ends t s.rule.member p.member h.template.member).each k (e, point_at j) here) h.typed h.typed_inside input (declared e input signed) (map over_point (over_of p.member)) here first old new before
+          (subst (λ (z : End). AddsInOrder input z (end_of two.side) old new) is_u (subst (λ (z : End). AddsInOrder input u z old new) is_v added))
 
 -- ---- a wire with a boundary end
 
@@ -132,7 +122,19 @@ module _ (t : Tables) (s : PairSetting) (p : TemplateParts) (own : ℕ) (ns : Li
   pub over_low : (end : ℕ) → end ≡ w.0 → end < length points
   over_low end is = let l = slice_get_within points w.0 outer.point outer.stands in omega (arith, l, is)
 
-  pub over_can_read : (slot place : ℕ) → slot ≡ slot_of w.1 → place ≡ place_in w.1 → (y : End) × (z : End) × (slice_get points slot ≡ Some y) × IsAtPlace y place z
+  -- .. and has a sign
+  pub over_signed : (end : ℕ) → end ≡ w.0 → end < length p.outputs
+  over_signed end is =
+      let wire = (over_ends t s.rule.member p.member h.template.member).each k (w.0, point_at w.1) (over_at t s p own ns points k a es h k w.0 w.1 listed) in
+      let low : w.0 < length (net_of s.rule.member).free = h.from.can.inside.points (Free w.0) (point_at w.1) wire.wire in
+      let many = ap length h.template.outputs ∙ length-map s.rule.member.free (λ (f : FreeEnd). f.kind.output) in
+      let same = length-map s.rule.member.free (λ (f : FreeEnd). f.kind) in
+      omega (arith, low, many, same, is)
+
+  pub over_sign : (input : Bool) × (slice_get p.outputs w.0 ≡ Some input)
+  over_sign = at_index p.outputs w.0 (over_signed w.0 refl)
+
+  pub over_can_read : CanBeRead points w.1
   over_can_read = can_read t s p own ns points k a es h w.1 inner
 
   module _ (u v : End) (r : HasReadOver points w u v) where
@@ -155,13 +157,10 @@ module _ (t : Tables) (s : PairSetting) (p : TemplateParts) (own : ℕ) (ns : Li
       pub over_kept : KeepsCells a b × (length fs ≡ length es)
       over_kept = kept t s p own ns points k a es h (ToBoundary w.0) w.1 at_wire outer inner u v u_is v_is b fs exchanged
 
-      pub over_can_pair : CanPair t b u v
-      over_can_pair = can_pair t s p own ns points k a es h (ToBoundary w.0) w.1 at_wire outer inner u v u_is v_is b fs exchanged
-
       pub over_written : IsWiring t s p own ns points (k + 1) b fs
       over_written = written t s p own ns points k a es h (ToBoundary w.0) w.1 at_wire outer inner u v u_is v_is b fs exchanged
 
-      pub over_queued : (first old new : List (ℕ × ℕ)) → HasQueued t (interaction_of s ns) (map over_point (over_of p.member)) k first old → AddsPair t b u v old new
+      pub over_queued : (input : Bool) → slice_get p.outputs w.0 ≡ Some input → (first old new : List (ℕ × ℕ)) → HasQueued t (interaction_of s ns) (map over_point (over_of p.member)) k first old → AddsInOrder input u v old new
           → HasQueued t (interaction_of s ns) (map over_point (over_of p.member)) (k + 1) first new
       over_queued = queued t s p own ns points k a es h (ToBoundary w.0) w.1 at_wire outer inner u v u_is v_is b fs exchanged w.0 refl listed
 
@@ -191,10 +190,10 @@ module _ (t : Tables) (s : PairSetting) (p : TemplateParts) (own : ℕ) (ns : Li
   other_side : IsReadAt t s p own ns points k a es h w.1
   other_side = other_read t s p own ns points k a es h i w.0 w.1 listed
 
-  pub one_can_read : (slot place : ℕ) → slot ≡ slot_of w.0 → place ≡ place_in w.0 → (y : End) × (z : End) × (slice_get points slot ≡ Some y) × IsAtPlace y place z
+  pub one_can_read : CanBeRead points w.0
   one_can_read = can_read t s p own ns points k a es h w.0 one_side
 
-  pub other_can_read : (slot place : ℕ) → slot ≡ slot_of w.1 → place ≡ place_in w.1 → (y : End) × (z : End) × (slice_get points slot ≡ Some y) × IsAtPlace y place z
+  pub other_can_read : CanBeRead points w.1
   other_can_read = can_read t s p own ns points k a es h w.1 other_side
 
   module _ (u v : End) (r : HasReadWithin points w u v) where

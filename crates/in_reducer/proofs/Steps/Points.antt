@@ -1,16 +1,17 @@
 -- The points of a right member, filled one after another.
-use Rattle.std.proofs.Common.{◌≡◌, ◌≢◌, ◌⊎◌, inl, inr, ◌<◌, ◌≤◌, ◌+◌, ℕ, Some, List, [], ◌∷◌, ◌++◌, length, length-append, map, set, slice_get, sym, ap, subst, ◌∙◌, arith}
+use Rattle.std.proofs.Common.{◌≡◌, ◌≢◌, ◌⊎◌, inl, inr, ◌<◌, ◌≤◌, ◌+◌, ◌-◌, ℕ, suc, Bool, true, false, cond, nat_lt, Some, List, [], ◌∷◌, ◌++◌, length, length-append, map, set, slice_get, refl, sym, ap, subst, ◌∙◌, arith}
 use Rattle.std.specs.Prelude.{slice_index_or}
 use Rattle.std.proofs.lemmas.List.{length-map, length-set}
 use Rattle.std.proofs.lemmas.Bool.{cases_eq}
-use Rattle.std.proofs.lemmas.Option.{get_or_from_slice_get}
+use Rattle.std.proofs.lemmas.Bool.Decides.{nat_tests}
+use Rattle.std.proofs.lemmas.Option.{get_or_from_slice_get, slice_get_read}
 use Rattle.in_base.proofs.Places.{kept_at, last_at, set_here, set_there}
 use Rattle.std.specs.List.{enumerate_from}
 use Rattle.std.proofs.lemmas.List.FromFn.{length-enumerate_from}
 use Rattle.std.proofs.lemmas.List.Sums.{count_by-le-length, length-filter}
-use Rattle.in_arena.specs.Arenas.{ArenaView}
+use Rattle.in_arena.specs.Arenas.{ArenaView, state_at}
 use Rattle.in_arena.specs.Classes.{IsNumberOf}
-use Rattle.in_arena.specs.States.{word_of}
+use Rattle.in_arena.specs.States.{end_at, word_of}
 use Rattle.in_arena.specs.declared.content.CellNo.{CellNo}
 use Rattle.in_arena.specs.declared.content.End.{End}
 use Rattle.in_arena.specs.declared.content.End.TheVariants.{Cell}
@@ -19,10 +20,9 @@ use Rattle.in_compile.specs.Members.{MemberParts}
 use Rattle.in_compile.specs.Putting.{AreBegunBelow}
 use Rattle.in_compile.specs.Wires.{both_points, is_from_lowest, over_of, over_point, within_of}
 use Rattle.in_compile.proofs.Public.{read_at}
-use Rattle.in_reducer.proofs.Cells.Looked.{read_at as looked}
 use Rattle.in_reducer.specs.declared.sides.Pair.{Pair}
 use Rattle.in_reducer.specs.Sides.{end_there, port_at}
-use Rattle.in_reducer.specs.Wiring.{AreAtAgents, HasBegun, wires_of}
+use Rattle.in_reducer.specs.Wiring.{AreAtAgents, HasBegun, HasPortsIn, wires_of}
 
 -- ---- agents
 
@@ -53,31 +53,52 @@ module _ (ns : List CellNo) (n : CellNo) (points : List End) (x : ℕ) (here : l
 
 -- ---- boundary ends
 
--- the first x of them are read, and other points are as they were
-pub record AreRead (a : ArenaView) (p : Pair) (x : ℕ) (old new : List End) : Type 0 where
-  pub read : (e : ℕ) → e < x → slice_get new e ≡ end_there a (port_at p e)
-  pub others : (k : ℕ) → x ≤ k → slice_get new k ≡ slice_get old k
-  pub long : length new ≡ length old
+pub none_read : (a : ArenaView) (c : CellNo) (first : ℕ) (points : List End) → HasPortsIn a c first first points points
+none_read a c first points = record { read = λ e low high. absurd (omega (arith, low, high)); others = λ k out. λ i. slice_get points k; long = λ i. length points }
 
-pub none_read : (a : ArenaView) (p : Pair) (points : List End) → AreRead a p 0 points points
-none_read a p points = record { read = λ e low. absurd (omega (arith, low)); others = λ k low. λ i. slice_get points k; long = λ i. length points }
-
-pub one_more_read : (a : ArenaView) (p : Pair) (x : ℕ) (old points : List End) (v : End) → AreRead a p x old points → x < length points → Some v ≡ end_there a (port_at p x) → AreRead a p (x + 1) old (set points x v)
-one_more_read a p x old points v h low is = record {
-  read = λ e l. read e l (cases_eq e x);
-  others = λ k l. set_there points x k v (λ f. omega (arith, l, f)) ∙ h.others k (let z : x ≤ k = omega (arith, l) in z);
+-- one port more is read
+pub one_more_read : (a : ArenaView) (c : CellNo) (first x : ℕ) (old points : List End) (v : End) → HasPortsIn a c first x old points → first ≤ x → x < length points → end_at (state_at a c.0) (suc (x - first)) ≡ Some v
+    → HasPortsIn a c first (x + 1) old (set points x v)
+one_more_read a c first x old points v h order low is = record {
+  read = λ e from l. read e from l (cases_eq e x);
+  others = λ k out. set_there points x k v (apart k out) ∙ h.others k (further k out);
   long = length-set points x v ∙ h.long;
 }
   where
-    read : (e : ℕ) → e < x + 1 → (e ≡ x) ⊎ (e ≢ x) → slice_get (set points x v) e ≡ end_there a (port_at p e)
-    read e l (inl same) = ap (slice_get (set points x v)) same ∙ set_here points x v low ∙ is ∙ ap (λ (e : ℕ). end_there a (port_at p e)) (sym same)
-    read e l (inr other) = set_there points x e v other ∙ h.read e (let z : e < x = omega (arith, l, other) in z)
+    read : (e : ℕ) → first ≤ e → e < x + 1 → (e ≡ x) ⊎ (e ≢ x) → slice_get (set points x v) e ≡ end_at (state_at a c.0) (suc (e - first))
+    read e from l (inl same) = ap (slice_get (set points x v)) same ∙ set_here points x v low ∙ sym is ∙ ap (λ (e : ℕ). end_at (state_at a c.0) (suc (e - first))) (sym same)
+    read e from l (inr other) = set_there points x e v other ∙ h.read e from (let z : e < x = omega (arith, l, other) in z)
+
+    apart : (k : ℕ) → (k < first) ⊎ (x + 1 ≤ k) → k ≢ x
+    apart k (inl l) same = omega (arith, l, same, order)
+    apart k (inr l) same = omega (arith, l, same)
+
+    further : (k : ℕ) → (k < first) ⊎ (x + 1 ≤ k) → (k < first) ⊎ (x ≤ k)
+    further k (inl l) = inl l
+    further k (inr l) = inr (let z : x ≤ k = omega (arith, l) in z)
+
+-- those of the first agent, and then those of the second one
+pub both_read : (a : ArenaView) (p : Pair) (many : ℕ) (old middle new : List End) → p.first_ends ≤ many → HasPortsIn a p.one 0 p.first_ends old middle → HasPortsIn a p.other p.first_ends many middle new
+    → ((e : ℕ) → e < many → slice_get new e ≡ end_there a (port_at p e)) × ((k : ℕ) → many ≤ k → slice_get new k ≡ slice_get old k)
+both_read a p many old middle new order one two = ((λ e l. read e l (nat_lt e p.first_ends) refl), λ k l. two.others k (inr l) ∙ one.others k (inr (let z : p.first_ends ≤ k = omega (arith, l, order) in z)))
+  where
+    read : (e : ℕ) → e < many → (b : Bool) → nat_lt e p.first_ends ≡ b → slice_get new e ≡ end_there a (port_at p e)
+    read e l true is =
+        let low : e < p.first_ends = grind (arith, nat_tests, is) in
+        let from : e - 0 ≡ e = omega arith in
+        let here : slice_get new e ≡ end_there a (p.one, suc e) =
+        two.others e (inl low) ∙ one.read e (let z : 0 ≤ e = omega arith in z) low ∙ ap (λ (z : ℕ). end_at (state_at a p.one.0) (suc z)) from in
+        here ∙ ap (λ (b : Bool). end_there a (cond b (p.one, suc e) (p.other, suc (e - p.first_ends)))) (sym is)
+    read e l false is =
+        let high : p.first_ends ≤ e = grind (arith, nat_tests, is) in
+        let here : slice_get new e ≡ end_there a (p.other, suc (e - p.first_ends)) = two.read e high l in
+        here ∙ ap (λ (b : Bool). end_there a (cond b (p.one, suc e) (p.other, suc (e - p.first_ends)))) (sym is)
 
 -- ---- wires
 
 -- an element that is read of a list, which is this one
 pub listed_at : {X : Type 0} (xs ys : List X) (k : ℕ) (x : X) → ys ≡ xs → k < length ys → x ≡ slice_index_or ys k x → slice_get xs k ≡ Some x
-listed_at {X} xs ys k x same low is = ap (λ (zs : List X). slice_get zs k) (sym same) ∙ looked ys k x low is
+listed_at {X} xs ys k x same low is = ap (λ (zs : List X). slice_get zs k) (sym same) ∙ slice_get_read ys (length ys) k x refl low is
 
 -- no more wires have boundary ends than there are such ends
 pub over_few : (m : MemberParts) → length (over_of m) ≤ length m.joints

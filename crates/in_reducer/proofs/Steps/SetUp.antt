@@ -14,7 +14,7 @@ use Rattle.in_symbols.specs.Tables.{Tables, arity_of}
 use Rattle.in_net.specs.declared.nets.Point as coded
 use Rattle.in_net.specs.declared.nets.Point.TheVariants as code
 use Rattle.in_net.specs.Interactions.{redex_at, end_agent, end_place}
-use Rattle.in_net.specs.Nets.{Point, Port, Free, net_of, point_of, signature_of}
+use Rattle.in_net.specs.Nets.{Net, Point, Port, Free, net_of, point_of, signature_of}
 use Rattle.in_interaction.proofs.Public.{has_value}
 use Rattle.in_gluing.specs.AsGluing.{boundary_port}
 use Rattle.in_gluing.specs.EndByEnd.{IsOuterAt, IsInnerAt}
@@ -37,6 +37,10 @@ use Rattle.in_reducer.specs.Wiring.{HasBegun}
 use Rattle.in_reducer.specs.Sides.{AreSetBelow, HasJoint, HasPort, end_there, inner_of, outer_of, port_at}
 use Rattle.in_reducer.proofs.Steps.Laid as laid
 use Rattle.in_reducer.proofs.Steps.Laid.{in_or_out}
+
+-- the net's own agents still stand
+abbrev pub AgentsStay : Net ℕ → ArenaView → ArenaView → Type 0
+AgentsStay n old new = (y s : ℕ) → n.symbol y ≡ Some s → state_at new y ≡ state_at old y
 
 -- ---- ports
 
@@ -98,8 +102,7 @@ module _ (t : Tables) (s : PairSetting) (p : TemplateParts) (pair : Pair) (own :
     pub begun_with : IsWith t (interaction_of s ns) own (length p.member.joints)
     begun_with = record { can = begun_can; own_ends = own_many; boundary = boundary_many }
 
-    -- the net's own agents still stand
-    pub begun_stays : (y x : ℕ) → (net_of s.net).symbol y ≡ Some x → state_at now y ≡ state_at old y
+    pub begun_stays : AgentsStay (net_of s.net) old now
     begun_stays y x e = begun.others y (λ k at. (
         let a = laid.begun_whose t s.rule.member about.member_over p.member about.template.member ns old now begun k y at in
         not_vacant y x e (ap (λ (z : ℕ). word_of (state_at old z)) (sym a.2) ∙ laid.begun_free t s.rule.member about.member_over p.member about.template.member ns old now begun k a.0 a.1)
@@ -109,9 +112,6 @@ module _ (t : Tables) (s : PairSetting) (p : TemplateParts) (pair : Pair) (own :
     begun : HasBegun p.member ns old put
     begun = laid.begun_of t s.rule.member about.member_over p.member about.template.member ns old put is_put
 
-    fresh : (k x : ℕ) → (net_of s.rule.member).symbol k ≡ Some x → (net_of s.net).symbol (named ns k) ≡ None
-    fresh = begun_fresh ns put begun
-
     can : CanStepAt t s.net s.rule s.one s.two (named ns)
     can = begun_can ns put begun
 
@@ -120,7 +120,7 @@ module _ (t : Tables) (s : PairSetting) (p : TemplateParts) (pair : Pair) (own :
 
     -- ---- the pair still stands
 
-    pub stays : (y x : ℕ) → (net_of s.net).symbol y ≡ Some x → state_at put y ≡ state_at old y
+    pub stays : AgentsStay (net_of s.net) old put
     stays = begun_stays ns put begun
 
     one_stays : state_at put pair.one.0 ≡ state_at old pair.one.0
@@ -215,24 +215,24 @@ module _ (t : Tables) (s : PairSetting) (p : TemplateParts) (pair : Pair) (own :
         where
           go : laid.InOrOut ns y → IsNew (interaction_of s ns) y ⊎ (state_at after y ≡ state_at old y)
           go (inl at) =
-              let a = laid.whose t s.rule.member about.member_over p.member about.template.member ns old put is_put at.0 y at.1 in
+              let a = laid.begun_whose t s.rule.member about.member_over p.member about.template.member ns old put begun at.0 y at.1 in
               inl (at.0, a.0.symbol.0, laid.symbol_of t s.rule.member about.member_over p.member about.template.member at.0 a.0 a.1, a.2)
           go (inr out) = inr (as_put y f g ∙ is_put.others y out)
 
       -- a new agent is none of the pair
       not_one : (k x : ℕ) → (net_of s.rule.member).symbol k ≡ Some x → named ns k ≢ s.one.0
-      not_one k x e same = let f : None ≡ Some s.rule.heads.0.0 = sym (fresh k x e) ∙ ap (net_of s.net).symbol same ∙ about.redex.one in cc
+      not_one k x e same = let f : None ≡ Some s.rule.heads.0.0 = sym (begun_fresh ns put begun k x e) ∙ ap (net_of s.net).symbol same ∙ about.redex.one in cc
 
       not_two : (k x : ℕ) → (net_of s.rule.member).symbol k ≡ Some x → named ns k ≢ s.two.0
-      not_two k x e same = let f : None ≡ Some s.rule.heads.1.0 = sym (fresh k x e) ∙ ap (net_of s.net).symbol same ∙ about.redex.two in cc
+      not_two k x e same = let f : None ≡ Some s.rule.heads.1.0 = sym (begun_fresh ns put begun k x e) ∙ ap (net_of s.net).symbol same ∙ about.redex.two in cc
 
       new_as_put : (k x : ℕ) → (net_of s.rule.member).symbol k ≡ Some x → state_at after (named ns k) ≡ state_at put (named ns k)
       new_as_put k x e = as_put (named ns k) (not_one k x e) (not_two k x e)
 
       laid_after : AreLaid t (interaction_of s ns) after
       laid_after = record {
-        symbols = λ k x e. ap word_of (new_as_put k x e) ∙ laid.word_there t s.rule.member about.member_over p.member about.template.member ns old put is_put k x e;
-        places = λ k x e. ap places (new_as_put k x e) ∙ laid.places_there t s.rule.member about.member_over p.member about.template.member ns old put is_put k x e;
+        symbols = λ k x e. ap word_of (new_as_put k x e) ∙ laid.begun_word t s.rule.member about.member_over p.member about.template.member ns old put begun k x e;
+        places = λ k x e. ap places (new_as_put k x e) ∙ laid.begun_places t s.rule.member about.member_over p.member about.template.member ns old put begun k x e;
         wires = λ k i l j e. (
             let x = symbol_at_port k i (Port l j) e in
             ap (λ (z : State). end_at z i) (new_as_put k x.0 x.1) ∙ laid.wire_there t s.rule.member about.member_over p.member about.template.member ns old put is_put k i l j e

@@ -30,6 +30,7 @@ use Rattle.in_cells.specs.Shown.{IsShown}
 use Rattle.in_overwriting.specs.Flag.{IsCalm}
 use Rattle.in_overwriting.proofs.Public.{unmarked_pairs_are_apart}
 use Rattle.in_cells.proofs.Public.{shown_is_step}
+use Rattle.in_compile.specs.declared.cells.Need.{Need}
 use Rattle.in_compile.specs.Cells.{agents_of, count_of}
 use Rattle.in_compile.specs.Members.{AgentParts}
 use Rattle.in_compile.specs.Templates.{TemplateParts}
@@ -42,7 +43,7 @@ use Rattle.in_reducer.specs.Interacting.{IsAbout, IsInteracted, PairSetting, int
 use Rattle.in_reducer.specs.Machines.{MachineParts, parts_of}
 use Rattle.in_reducer.specs.Reducers.{IsReducer}
 use Rattle.in_reducer.specs.Standing.{IsNetIn, agents_in, at_rest, leading_to, vacant_in}
-use Rattle.in_reducer.specs.Steps.{HasRoomAt, StepsAt}
+use Rattle.in_reducer.specs.Steps.{HasRoomAt, NeedsAt, StepsAt}
 use Rattle.in_reducer.specs.Templates.{IsTemplateAt}
 use Rattle.in_reducer.proofs.Starts.Accepted.{few_ports}
 use Rattle.in_reducer.proofs.Cells.AtRest.{rests}
@@ -118,7 +119,9 @@ module _ (r : Body) (k : KeepsNet r) (i : ℕ) (p : TemplateParts) (at : IsTempl
   is_about tables same pair is_one is_two is_first own is_own ends is_ends = subst (λ (u : Tables). IsAbout u setting p pair own r.arena ends) (sym same) (record {
     net = k.reducer.net.sound.net;
     over = k.reducer.net.over;
+    typed = k.reducer.net.sound.typed;
     inside = steps.member_net (reducer_view r) k.reducer at.number at.rule at.is_rule.stands;
+    typed_inside = steps.member_typed (reducer_view r) k.reducer at.number at.rule at.is_rule.stands;
     member_over = at.is_rule.over.member;
     redex = steps.redex (reducer_view r) k.reducer one two at.active at.number at.rule at.is_rule;
     template = at.template;
@@ -133,17 +136,24 @@ module _ (r : Body) (k : KeepsNet r) (i : ℕ) (p : TemplateParts) (at : IsTempl
     room = room_there own is_own ends is_ends;
   })
 
-  -- what the template needs is free
-  pub enough : NoneLeased r.arena → HasRoomAt (reducer_view r) i → (c : CellClass) → count_of p.member.need c ≤ free_of r.arena c
-  enough none (need, needs, free) c =
+  -- what the pair needs is what the template does
+  pub same_need : (x : Need) → NeedsAt (reducer_view r) i x → (c : CellClass) → count_of x c ≡ count_of p.member.need c
+  same_need x needs c =
       let pair : needs.pair ≡ at.pair = same_Some needs.pair at.pair (sym needs.stands ∙ at.stands) in
       let rule : needs.rule ≡ at.rule =
       steps.same_rule (reducer_view r) k.reducer needs.pair at.pair needs.number at.number needs.rule at.rule pair needs.is_rule at.is_rule in
-      let a : count_of need c ≡ agents_of t c at.rule.member.cells = needs.is_need c ∙ ap (λ (z : RuleParts). agents_of t c z.member.cells) rule in
-      let b = at.template.member.need c in
+      needs.is_need c ∙ ap (λ (z : RuleParts). agents_of t c z.member.cells) rule ∙ sym (at.template.member.need c)
+
+  pub free_at_rest : NoneLeased r.arena → (c : CellClass) → count_of (vacant_in (at_rest r.arena)) c ≡ free_of r.arena c
+  free_at_rest none c = free_is (at_rest r.arena) c ∙ ap (λ (v : ArenaView). free_of v c) (rests r.arena none)
+
+  -- that is free
+  pub enough : NoneLeased r.arena → HasRoomAt (reducer_view r) i → (c : CellClass) → count_of p.member.need c ≤ free_of r.arena c
+  enough none (need, needs, free) c =
+      let a = same_need need needs c in
       let l = free c in
-      let e = free_is (at_rest r.arena) c ∙ ap (λ (v : ArenaView). free_of v c) (rests r.arena none) in
-      omega (arith, a, b, l, e)
+      let e = free_at_rest none c in
+      omega (arith, a, l, e)
 
   -- the pairs of the right member are of its agents
   pub pairs_there : (j : ℕ) (q : ℕ × ℕ) → slice_get p.member.pairs j ≡ Some q → (q.0 < length p.member.agents) × (q.1 < length p.member.agents)

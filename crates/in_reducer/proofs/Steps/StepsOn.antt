@@ -1,5 +1,6 @@
 -- An interaction of a reducer leaves a reducer, whatever numbers the new agents have.
 use Rattle.std.proofs.Common.{◌≡◌, ◌+◌, ℕ, suc, Some, List, ◌++◌, map, remove, slice_get, refl, sym, ap, subst, ◌∙◌}
+use Rattle.in_typing.specs.TypedNets.{IsTypedNet}
 use Rattle.in_net.specs.declared.nets.AgentNo.{AgentNo}
 use Rattle.in_net.specs.Interactions.{IsRedex, redex_at}
 use Rattle.in_net.specs.Nets.{Net, IsNet, net_of, signature_of}
@@ -39,6 +40,9 @@ module _ (m : MachineParts) (h : IsReducer m) where
 
     pub member_net : IsNet (signature_of m.program.tables) (net_of r.member)
     member_net = sound_rule.net
+
+    pub member_typed : IsTypedNet (signature_of m.program.tables) (net_of r.member)
+    member_typed = sound_rule.typed
 
     pub member_opposed : AreOpposed m.program.tables r.member
     member_opposed = opposed_in m.program.tables r.member sound_rule.typed

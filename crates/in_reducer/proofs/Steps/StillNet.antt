@@ -4,7 +4,7 @@ use Rattle.std.proofs.Math.ListN.{get_or-map}
 use Rattle.std.proofs.lemmas.List.{length-map, length-set}
 use native.Mathlib.Decide.{ℕ_discrete}
 use Rattle.std.proofs.lemmas.Bool.{cases_eq}
-use Rattle.in_arena.specs.Arenas.{ArenaView, changed, state_at}
+use Rattle.in_arena.specs.Arenas.{ArenaView, NoneLeased, changed, state_at}
 use Rattle.in_arena.specs.Changes.{HasAllCells}
 use Rattle.in_arena.specs.Classes.{classes, IsNumberOf}
 use Rattle.in_arena.specs.States.{State, Vacant, Leased, Live, IsLeased, IsLive, word_of}
@@ -18,7 +18,6 @@ use Rattle.in_cells.specs.Cells.{KeepsCells, outline}
 use Rattle.in_cells.proofs.Public.{word_kept}
 use Rattle.in_compile.specs.Cells.{is_of}
 use Rattle.in_compile.specs.Members.{MemberParts, IsMemberOf}
-use Rattle.in_compile.specs.Putting.{IsPut}
 use Rattle.in_reducer.specs.Wiring.{HasBegun}
 use Rattle.in_reducer.specs.Placed.{IsNoneOf}
 use Rattle.in_reducer.specs.Standing.{AreLeasedAlike, IsNetIn, at_rest}
@@ -66,20 +65,13 @@ module _ (t : Tables) (n : Parts) (over : IsOver t n) (m : MemberParts) (of : Is
           subst (λ (d : CellClass). is_of t d s ≡ true) one (subst (λ (z : ℕ). is_of t x.0.class z ≡ true) same (of.classes at.0 x.0 x.1))
           )
 
-  -- a cell on lease was so before
-  pub begun_leased : (y : ℕ) → IsLeased (state_at b y) → IsLeased (state_at a y)
-  begun_leased y leased = go (in_or_out ns y)
+  -- no cell is on lease where none was
+  pub begun_unleased : NoneLeased a → NoneLeased b
+  begun_unleased none y low leased = none y (let e = begun.many in omega (arith, e, low)) (go (in_or_out ns y))
     where
       go : laid.InOrOut ns y → IsLeased (state_at a y)
       go (inr out) = subst IsLeased (begun.others y out) leased
       go (inl at) = let x = laid.begun_whose t n over m of ns a b begun at.0 y at.1 in absurd (subst IsLeased (begun.each at.0 x.0 (record { 0 = y }) x.1 at.1).2.2 leased)
-
-module _ (t : Tables) (n : Parts) (over : IsOver t n) (m : MemberParts) (of : IsMemberOf t n m) (ns : List CellNo) (a b : ArenaView) (put : IsPut m ns a b) where
-  pub put_good : IsNetIn t (at_rest a) → (y : ℕ) → IsGood t a y (state_at b y)
-  put_good = begun_good t n over m of ns a b (laid.begun_of t n over m of ns a b put)
-
-  pub put_leased : (y : ℕ) → IsLeased (state_at b y) → IsLeased (state_at a y)
-  put_leased = begun_leased t n over m of ns a b (laid.begun_of t n over m of ns a b put)
 
 -- ---- leases
 
@@ -140,6 +132,10 @@ module _ (a b : ArenaView) (kept : KeepsCells a b) where
     stay = λ n l. outline_leased (state_at b n) (same_outline n ∙ leased_outline (state_at a n) l);
     none = λ n low l. outline_leased (state_at a n) (sym (same_outline n) ∙ leased_outline (state_at b n) l);
   }
+
+-- .. so too where cells are on lease as before
+pub still_unleased : (a b : ArenaView) → AreLeasedAlike a b → NoneLeased a → NoneLeased b
+still_unleased a b alike none n low leased = let e = alike.many in none n (omega (arith, e, low)) (alike.none n (omega (arith, e, low)) leased)
 
 -- ---- bags
 

@@ -1,5 +1,5 @@
 -- The wires of a right member, written one after another: one more, and all.
-use Rattle.std.proofs.Common.{◌≡◌, ◌≢◌, ◌⊎◌, ◌↔◌, ◌<◌, ◌≤◌, ◌+◌, ◌++◌, ℕ, suc, List, [], ◌∷◌, length, map, slice_get, take, Option, Some, None, option_map, refl, sym, ap, subst, ◌∙◌, inl, inr, append_assoc, arith}
+use Rattle.std.proofs.Common.{◌≡◌, ◌≢◌, ◌⊎◌, ◌↔◌, ◌<◌, ◌≤◌, ◌+◌, ◌++◌, ℕ, suc, Bool, true, false, not, cond, List, [], ◌∷◌, length, map, slice_get, take, Option, Some, None, option_map, refl, sym, ap, subst, ◌∙◌, inl, inr, append_assoc, arith}
 use native.Mathlib.Decide.{ℕ_discrete}
 use Rattle.std.proofs.lemmas.List.{length-take-le, map-append, take_more}
 use Rattle.std.proofs.lemmas.Option.{get_or_from_slice_get, same_Some, slice_get_within}
@@ -10,28 +10,27 @@ use Rattle.in_arena.specs.Arenas.{ArenaView, state_at}
 use Rattle.in_arena.specs.States.{State, Vacant, Leased, Live, word_of, end_at, places}
 use Rattle.in_arena.specs.declared.content.End.{End}
 use Rattle.in_symbols.specs.Tables.{Tables}
-use Rattle.in_symbols.specs.declared.symbols.SymbolNo.{SymbolNo}
-use Rattle.in_symbols.proofs.Public.{same_symbol}
+use Rattle.in_symbols.specs.declared.symbols.PortType.{PortType}
 use Rattle.in_net.specs.declared.nets.AgentNo.{AgentNo}
-use Rattle.in_net.specs.ActivePairs.{IsOrdered}
 use Rattle.in_net.specs.Interactions.{IsOfPair, end_agent, end_place}
 use Rattle.in_net.specs.Nets.{Point, Port, Free, Signature, Net, IsPoint, signature_of}
-use Rattle.in_net.specs.Parts.{symbol_in}
 use Rattle.in_net.proofs.Public.{symbol_of}
-use Rattle.in_interaction.specs.Made.{HasSymbolAfter}
-use Rattle.in_interaction.specs.Queues.{numbers_of}
+use Rattle.in_interaction.specs.Queues.{agents_at, numbers_of}
 use Rattle.in_interaction.proofs.Public.{has_value}
-use Rattle.in_gluing.proofs.Public.{mapped, same_point}
+use Rattle.in_gluing.proofs.Public.{same_point}
 use Rattle.in_cells.specs.Between.{Interaction, before, redex_of, IsDone}
 use Rattle.in_cells.specs.Cells.{KeepsCells}
-use Rattle.in_cells.specs.Pairs.{AddsPair, IsNoPair, IsPairOf, IsPrincipal}
+use Rattle.in_cells.specs.Pairs.{IsNoPair, IsPrincipal}
 use Rattle.in_cells.specs.Shown.{AreExchanged, IsPlaceAt, end_of, point_of, stands_at}
 use Rattle.in_cells.proofs.Public.{exchange_keeps, place_within, places_kept, stands_one, stands_still, stands_two, take_at, word_kept, writes_end_point as end_point}
-use Rattle.in_overwriting.specs.MadeByWires.{AreItsSides, CanOverwriteAt, IsMadeByWire, MakeInTurn, OneByOne, of_none, with_one, without}
+use Rattle.in_overwriting.specs.BySign.{TellThePair}
+use Rattle.in_overwriting.specs.MadeByWires.{CanOverwriteAt, IsMadeByWire, LeadsFrom, MakeInTurn, OneByOne, of_none, with_one, without}
 use Rattle.in_overwriting.specs.InTurn.{AreAllWiresOf}
 use Rattle.in_overwriting.specs.Overwriting.{AreSides, IsOverwritten, IsSide}
-use Rattle.in_overwriting.proofs.Public.{side_once, sides_are_apart, steps_are_overwritten}
-use Rattle.in_reducer.specs.Wiring.{AreFirstWired, HasQueued, IsSideOf, IsSideOfFirst}
+use Rattle.in_overwriting.proofs.Public.{free_type, side_once, sides_are_apart, sides_tell_the_pair, steps_are_overwritten}
+use Rattle.in_typing.specs.Typed.{opposite}
+use Rattle.in_typing.specs.TypedNets.{IsTypedNet, type_in}
+use Rattle.in_reducer.specs.Wiring.{AddsInOrder, AreFirstWired, HasQueued, IsSideOf, IsSideOfFirst}
 
 -- ---- lists
 
@@ -46,7 +45,8 @@ without_last Makes ws qs w of_none none = without w [] [] none of_none
 without_last Makes ws qs w (with_one v vs p ps one rest) none = with_one v (vs ++ w ∷ []) p ps one (without_last Makes vs ps w rest none)
 without_last Makes ws qs w (without v vs ps nothing rest) none = without v (vs ++ w ∷ []) ps nothing (without_last Makes vs ps w rest none)
 
-at_among : {X : Type 0} (xs : List X) (x : X) → IsAmong x xs → (i : ℕ) × (slice_get xs i ≡ Some x)
+-- the place of what is among a list
+pub at_among : {X : Type 0} (xs : List X) (x : X) → IsAmong x xs → (i : ℕ) × (slice_get xs i ≡ Some x)
 at_among {X} [] x h = absurd h
 at_among {X} (y ∷ ys) x (inl e) = (0, ap (λ (z : X). Some z) e)
 at_among {X} (y ∷ ys) x (inr h) = let at = at_among ys x h in (suc at.0, at.1)
@@ -209,63 +209,35 @@ module _ (t : Tables) (x : Interaction) (wires : List (Point ℕ × Point ℕ)) 
 
         -- ---- the pair that it makes, where it has a boundary end
 
-        symbol_after : (y : AgentNo) (s : SymbolNo) → (IsOfPair (redex_of x) (Port y.0 0) → ⊥) → word_of (state_at b y.0) ≡ Some s.0 → HasSymbolAfter x.net x.rule x.one x.two x.name y s
-        symbol_after y s stays f = go ((h.symbols y.0 s.0).0 (sym (word_kept a b kept.0 y.0) ∙ f))
-          where
-            go : ((before x).symbol y.0 ≡ Some s.0) ⊎ ((l : ℕ) × (x.name l ≡ y.0) × (m.symbol l ≡ Some s.0)) → HasSymbolAfter x.net x.rule x.one x.two x.name y s
-            go (inl f) =
-                let z = mapped (λ (s : SymbolNo). s.0) (symbol_in x.net y.0) s.0 f in
-                inl ((λ same. stays (inl (ap (λ (n : AgentNo). n.0) same))), (λ same. stays (inr (ap (λ (n : AgentNo). n.0) same))), z.1 ∙ ap (λ (s : SymbolNo). Some s) (same_symbol z.0 s z.2))
-            go (inr (l, name, f)) =
-                let z = mapped (λ (s : SymbolNo). s.0) (symbol_in x.rule.member l) s.0 f in
-                inr (l, name, z.1 ∙ ap (λ (s : SymbolNo). Some s) (same_symbol z.0 s z.2))
-
         principal_point : (y : ℕ) (w : Point ℕ) → IsPrincipal y (end_of w) → w ≡ Port y 0
         principal_point y w f = sym (end_point w) ∙ ap point_of f
 
-        no_pair : (r : Point ℕ) (w : Point ℕ) (y : ℕ) → IsPoint sig m r → IsSideOf t x r w → w ≡ Port y 0 → IsOfPair (redex_of x) (Port y 0) → ⊥
-        no_pair r w y point side same of = (sides_are_apart sig (before x) (redex_of x) x.name can).stays r w point side (subst (IsOfPair (redex_of x)) (sym same) of)
-
-        module _ (e : ℕ) (over : p ≡ Free e) where
+        module _ (e : ℕ) (over : p ≡ Free e) (leads : LeadsFrom m e q) (typed : IsTypedNet sig (before x)) (typed_inside : IsTypedNet sig m) (input : Bool) (declared : (s : PortType) × (slice_get m.free e ≡ Some s) × (s.output ≡ input)) where
           abbrev IsMadeHere : AgentNo × AgentNo → Type 0
           IsMadeHere = IsMadeByWire t x.net x.rule x.one x.two x.name (e, q)
 
-          at_end : (w : Point ℕ) → IsSideOf t x p w → IsSideOf t x (Free e) w
-          at_end w = subst (λ (p : Point ℕ). IsSideOf t x p w) over
+          told : TellThePair t x.net x.rule x.one x.two x.name (e, q) u v
+          told = sides_tell_the_pair t x.net x.rule x.one x.two x.name can typed typed_inside (e, q) u v leads (subst (λ (p : Point ℕ). IsSideOf t x p u) over at_u) at_v
 
-          pair_made : (r : AgentNo × AgentNo) → IsPairOf t b (end_of u) (end_of v) r → IsMadeHere r
-          pair_made r is = go is.order
+          type_here : type_in sig m (Free e) ≡ Some (opposite declared.0)
+          type_here = free_type sig m e declared.0 declared.1
+
+          -- an input is declared where the outer side is at the input of its wire
+          pair_made : (c d : ℕ) → IsPrincipal c (end_of u) → IsPrincipal d (end_of v) → IsMadeHere (agents_at (cond input (d, c) (c, d)))
+          pair_made c d at_c at_d = go input declared.2
             where
-              one : u ≡ Port is.one.0.0 0
-              one = principal_point is.one.0.0 u is.at_one
-
-              two : v ≡ Port is.two.0.0 0
-              two = principal_point is.two.0.0 v is.at_two
-
-              symbol_one : HasSymbolAfter x.net x.rule x.one x.two x.name is.one.0 is.one.1
-              symbol_one = symbol_after is.one.0 is.one.1 (no_pair p u is.one.0.0 (near p q wire) at_u one) is.symbol_one
-
-              symbol_two : HasSymbolAfter x.net x.rule x.one x.two x.name is.two.0 is.two.1
-              symbol_two = symbol_after is.two.0 is.two.1 (no_pair q v is.two.0.0 (far p q wire) at_v two) is.symbol_two
-
-              outer : IsSideOf t x (Free e) (Port is.one.0.0 0)
-              outer = subst (λ (w : Point ℕ). IsSideOf t x (Free e) w) one (at_end u at_u)
-
-              inner : IsSideOf t x q (Port is.two.0.0 0)
-              inner = subst (λ (w : Point ℕ). IsSideOf t x q w) two at_v
-
-              go : IsOrdered t is.one is.two r → IsMadeHere r
-              go (inl (same, order)) = subst IsMadeHere (sym same) (record { first = is.one.1; second = is.two.1; one = symbol_one; two = symbol_two; sides = inl (outer, inner); order = order })
-              go (inr (same, order)) = subst IsMadeHere (sym same) (record { first = is.two.1; second = is.one.1; one = symbol_two; two = symbol_one; sides = inr (outer, inner); order = order })
+              go : (b : Bool) → declared.0.output ≡ b → IsMadeHere (agents_at (cond b (d, c) (c, d)))
+              go true is = told.input (opposite declared.0) (record { 0 = c }) (record { 0 = d }) type_here (ap not is) (principal_point c u at_c) (principal_point d v at_d)
+              go false is = told.output (opposite declared.0) (record { 0 = c }) (record { 0 = d }) type_here (ap not is) (principal_point c u at_c) (principal_point d v at_d)
 
           none_there : IsNoPair (end_of u) (end_of v) → (r : AgentNo × AgentNo) → IsMadeHere r → ⊥
-          none_there none r is = go is.sides
+          none_there none r is = go (told.only r is)
             where
-              go : AreItsSides (signature_of t) (before x) (redex_of x) x.name (e, q) (Port r.0.0 0) (Port r.1.0 0) → ⊥
-              go (inl (o, i)) = none r.0.0 r.1.0 (ap end_of (once (Free e) u (Port r.0.0 0) (at_end u at_u) o)) (ap end_of (once q v (Port r.1.0 0) at_v i))
-              go (inr (o, i)) = none r.1.0 r.0.0 (ap end_of (once (Free e) u (Port r.1.0 0) (at_end u at_u) o)) (ap end_of (once q v (Port r.0.0 0) at_v i))
+              go : ((u ≡ Port r.0.0 0) × (v ≡ Port r.1.0 0)) ⊎ ((u ≡ Port r.1.0 0) × (v ≡ Port r.0.0 0)) → ⊥
+              go (inl (o, i)) = none r.0.0 r.1.0 (ap end_of o) (ap end_of i)
+              go (inr (o, i)) = none r.1.0 r.0.0 (ap end_of o) (ap end_of i)
 
-          pub one_more_queued : (list : List (ℕ × Point ℕ)) → slice_get list k ≡ Some (e, q) → (first old new : List (ℕ × ℕ)) → HasQueued t x list k first old → AddsPair t b (end_of u) (end_of v) old new
+          pub one_more_queued : (list : List (ℕ × Point ℕ)) → slice_get list k ≡ Some (e, q) → (first old new : List (ℕ × ℕ)) → HasQueued t x list k first old → AddsInOrder input (end_of u) (end_of v) old new
               → HasQueued t x list (k + 1) first new
           one_more_queued list is_last first old new (qs, made, is) (inl (none, same)) = (
             qs,
@@ -273,13 +245,14 @@ module _ (t : Tables) (x : Interaction) (wires : List (Point ℕ × Point ℕ)) 
                 (without_last (IsMadeByWire t x.net x.rule x.one x.two x.name) (take k list) qs (e, q) made (none_there none)),
             same ∙ is,
           )
-          one_more_queued list is_last first old new (qs, made, is) (inr (r, pair, same)) = (
-            qs ++ r ∷ [],
-            subst (λ (ws : List (ℕ × Point ℕ)). MakeInTurn t x.net x.rule x.one x.two x.name ws (qs ++ r ∷ [])) (sym (take_one list k (e, q) is_last))
-                (with_last (IsMadeByWire t x.net x.rule x.one x.two x.name) (take k list) qs (e, q) r made (pair_made r pair)),
-            same ∙ ap (λ (old : List (ℕ × ℕ)). old ++ numbers_of r ∷ []) is ∙ append_assoc first (map numbers_of qs) (numbers_of r ∷ [])
-                ∙ ap (λ (ps : List (ℕ × ℕ)). first ++ ps) (sym (map-append numbers_of qs (r ∷ []))),
-          )
+          one_more_queued list is_last first old new (qs, made, is) (inr (c, d, at_c, at_d, same)) =
+              let r : AgentNo × AgentNo = agents_at (cond input (d, c) (c, d)) in (
+                qs ++ r ∷ [],
+                subst (λ (ws : List (ℕ × Point ℕ)). MakeInTurn t x.net x.rule x.one x.two x.name ws (qs ++ r ∷ [])) (sym (take_one list k (e, q) is_last))
+                    (with_last (IsMadeByWire t x.net x.rule x.one x.two x.name) (take k list) qs (e, q) r made (pair_made c d at_c at_d)),
+                same ∙ ap (λ (old : List (ℕ × ℕ)). old ++ numbers_of r ∷ []) is ∙ append_assoc first (map numbers_of qs) (numbers_of r ∷ [])
+                    ∙ ap (λ (ps : List (ℕ × ℕ)). first ++ ps) (sym (map-append numbers_of qs (r ∷ []))),
+              )
 
   -- ---- all
 

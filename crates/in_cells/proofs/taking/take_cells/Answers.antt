@@ -1,7 +1,6 @@
 use Rattle.std.proofs.Common.{◌∙◌, length-set, arith}
 use Rattle.std.specs.Prelude.{slice_index_or}
 use Rattle.std.proofs.lemmas.Option.{slice_get-get_or}
-use Rattle.in_arena.proofs.Public.{live_inside}
 use Rattle.in_cells.proofs.Taken.{one_more_taken, some_free}
 use Rattle.in_cells.proofs.taking.take_cells.Goals as goal
 
@@ -17,10 +16,9 @@ loop-number-preserved c =
     let agent = slice_index_or agents x (record { 0 = 0 }) in
     let at = slice_get-get_or agents x (record { 0 = 0 }) c.loop-number-test.true in
     let names = c.loop-number.invariant.names in
-    let l = live_inside c.args.from.now agent.0 (c.requires.part.live x agent at) in
-    let n = c.requires.names in
+    let l = c.requires.names x agent at in
     record {
       taken = one_more_taken c.args.from.now agents c.args.to.now x c.loop-number.to c.loop-number.names c.requires.part c.loop-number.invariant.taken agent at c.take_cell.result c.take_cell.new.to c.take_cell.ensures
-          (omega (arith, l, n, names));
+          (omega (arith, l, names));
       names = length-set c.loop-number.names agent.0 c.take_cell.result ∙ names;
     }

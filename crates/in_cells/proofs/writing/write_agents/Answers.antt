@@ -1,17 +1,13 @@
-use Rattle.std.proofs.Common.{length, arith}
+use Rattle.std.proofs.Common.{length}
 use Rattle.std.specs.Prelude.{slice_index_or}
 use Rattle.std.proofs.lemmas.Option.{slice_get-get_or}
-use Rattle.in_arena.proofs.Public.{live_inside}
 use Rattle.in_cells.proofs.Written.{alike, one_more_written, within_list}
 use Rattle.in_cells.proofs.writing.write_agents.Goals as goal
 
 pub write_agent-requires-clause-named : goal.write_agent-requires-clause-named
 write_agent-requires-clause-named c =
     let agents = c.args.agents.now in let x = c.loop-number.number in
-    let agent = slice_index_or agents x (record { 0 = 0 }) in
-    let l = live_inside c.args.from.now agent.0 (c.requires.part.live x agent (slice_get-get_or agents x (record { 0 = 0 }) c.loop-number-test.true)) in
-    let n = c.requires.names in
-    omega (arith, l, n)
+    c.requires.names x (slice_index_or agents x (record { 0 = 0 })) (slice_get-get_or agents x (record { 0 = 0 }) c.loop-number-test.true)
 
 pub write_agent-requires-clause-begun : goal.write_agent-requires-clause-begun
 write_agent-requires-clause-begun c =
@@ -24,7 +20,7 @@ write_agent-requires-clause-within c i e stands =
     let agents = c.args.agents.now in let x = c.loop-number.number in
     let agent = slice_index_or agents x (record { 0 = 0 }) in
     let at = slice_get-get_or agents x (record { 0 = 0 }) c.loop-number-test.true in
-    within_list c.args.from.now agents (length c.args.ends.now) (length c.args.names.now) c.requires.part c.requires.names e (c.requires.closed x i agent e at stands)
+    within_list agents (length c.args.ends.now) (length c.args.names.now) c.requires.names e (c.requires.closed x i agent e at stands)
 
 pub loop-number-preserved : goal.loop-number-preserved
 loop-number-preserved c =

@@ -15,7 +15,7 @@ use Rattle.in_phases.proofs.taking.take_part.Goals as goal
 
 pub split-requires-clause-branch : goal.split-requires-clause-branch
 split-requires-clause-branch c =
-    let b = c.gather.new.self in
+    let b = c.gather.new.room.branch in
     gathered_on c.args.reducer.now c.cut_off-cuts.new.reducer (times_stay c.args.reducer.now c.cut_off-cuts.new.reducer c.cut_off-cuts.result c.cut_off-cuts.ensures.cuts) b.agents.items b.marks.items
     c.in-Ok.ensures.branch
 
@@ -25,7 +25,7 @@ split-requires-clause-cuts c =
     omega (arith, more)
 
 pub returns-in_default : goal.returns-in_default
-returns-in_default c = record { taken = (stays_reduce c.args.reducer.now, c.requires.floor); templates = c.requires.templates; part_templates = tt; room = (c.gather.ensures.many, refl); fits = tt }
+returns-in_default c = record { taken = (stays_reduce c.args.reducer.now, c.requires.floor); templates = c.requires.templates; part_templates = tt; room = c.gather.ensures.grown; fits = tt }
 
 pub join_up-requires : goal.join_up-requires
 join_up-requires c =
@@ -45,7 +45,10 @@ returns-in_default-split c =
       taken = (reduced, subst (λ (n : Need). (d : CellClass) → c.args.floor ≤ count_of n d) (sym vacant) c.requires.floor);
       templates = subst (λ (p : Program). AreTemplatesOf p c.args.templates.now) (sym reduced.program) c.requires.templates;
       part_templates = tt;
-      room = (c.gather.ensures.many, lent_back c.args.room.now.names c.split.new.names (c.in_default-split.ensures.names ∙ ap length c.as_mut_slice-names.ensures.value));
+      room = (
+        c.gather.ensures.grown.0,
+        (let grown = c.gather.ensures.grown.1 in let lent = lent_back c.gather.new.room.names c.split.new.names (c.in_default-split.ensures.names ∙ ap length c.as_mut_slice-names.ensures.value) in omega (arith, grown, lent)),
+      );
       fits = tt;
     }
 
@@ -67,7 +70,7 @@ bring_back-requires c =
     let m = c.args.reducer.now in
     let cut = c.cut_off-cuts.new.reducer in
     let t = c.in-Some.taken in
-    let once = lent_back c.args.room.now.names c.split.new.names (c.in-Some.ensures.names ∙ ap length c.as_mut_slice-names.ensures.value) in
+    let once = lent_back c.gather.new.room.names c.split.new.names (c.in-Some.ensures.names ∙ ap length c.as_mut_slice-names.ensures.value) in
     let same = ap length c.as_mut_slice.ensures.value in
     let long = c.in-Some.ensures.names ∙ ap length c.as_mut_slice-names.ensures.value in
     let fits = c.in-Some.ensures.fits in
@@ -96,9 +99,13 @@ returns c =
       templates = subst (λ (p : Program). AreTemplatesOf p c.args.templates.now) (sym reduced.program) c.requires.templates;
       part_templates = tt;
       room = (
-        c.gather.ensures.many,
-        lent_back (with_items c.args.room.now.names c.split.new.names) c.bring_back.new.names (c.bring_back.ensures.names ∙ ap length c.as_mut_slice.ensures.value)
-            ∙ lent_back c.args.room.now.names c.split.new.names (c.in-Some.ensures.names ∙ ap length c.as_mut_slice-names.ensures.value),
+        c.gather.ensures.grown.0,
+        (
+            let grown = c.gather.ensures.grown.1 in
+            let lent = lent_back c.gather.new.room.names c.split.new.names (c.in-Some.ensures.names ∙ ap length c.as_mut_slice-names.ensures.value) in
+            let back = lent_back (with_items c.gather.new.room.names c.split.new.names) c.bring_back.new.names (c.bring_back.ensures.names ∙ ap length c.as_mut_slice.ensures.value) in
+            omega (arith, grown, lent, back)
+            ),
       );
       fits = tt;
     }
@@ -115,6 +122,3 @@ returns-then-least_free-floor-clause-part_templates c =
     let split = c.in-Some.ensures.split.1.split.but_queues.two in
     let s = times_stay c.args.reducer.now c.cut_off-cuts.new.reducer c.cut_off-cuts.result c.cut_off-cuts.ensures.cuts in
     subst (λ (p : Program). AreTemplatesOf p c.args.templates.now) (sym (split.program_part ∙ s.program)) c.requires.templates
-
-pub returns-then-not-is_for-clause-taken : goal.returns-then-not-is_for-clause-taken
-returns-then-not-is_for-clause-taken c = (stays_reduce c.args.reducer.now, c.requires.floor)

@@ -14,61 +14,60 @@ begun_there m n ns a b same h = subst (λ (m : MemberParts). HasBegun m ns a b) 
 
 pub read_ports-requires : goal.read_ports-requires
 read_ports-requires c =
-    let ready = c.requires.ready in
+    let t = c.requires.ready.0 in
+    let ready = c.requires.ready.1 in
     let q = ready.about in
     let b = c.begin_agents.ensures.begun in
     let p = c.args.template.now in
     let many = c.boundary_ends.ensures in
     let begun = begun_there c.member.result.now p.member b.0 c.args.arena.now c.begin_agents.new.arena c.member.ensures b.1 in
-    record {
-      ports = λ e low. can.has_port c.args.symbols.now q.0 p c.args.pair q.1 c.args.arena.now c.args.ends.now q.2 b.0 c.begin_agents.new.arena begun ready.unmarked e (let l : e < length p.member.joints = omega (arith, low, many) in l);
-      few = (let f = ready.few in omega (arith, f, many));
-      long = (let l = ready.begin.long in let m = c.begin_agents.ensures.long in omega (arith, l, m));
-    }
+    can.can_read t q.0 p c.args.pair q.1 c.args.arena.now c.args.ends.now q.2 b.0 c.begin_agents.new.arena begun ready.unmarked c.begin_agents.new.points c.boundary_ends.result many
+    (let f = ready.few in omega (arith, f, many)) (let l = ready.begin.long in let m = c.begin_agents.ensures.long in omega (arith, l, m))
 
 pub write_over-requires-clause-ready : goal.write_over-requires-clause-ready
 write_over-requires-clause-ready c =
-    let ready = c.requires.ready in
+    let t = c.requires.ready.0 in
+    let ready = c.requires.ready.1 in
     let q = ready.about in
     let b = c.begin_agents.ensures.begun in
     let p = c.args.template.now in
     let many = c.boundary_ends.ensures in
     let few = ready.few in
     let begun = begun_there c.member.result.now p.member b.0 c.args.arena.now c.begin_agents.new.arena c.member.ensures b.1 in (
+      t,
       q.0,
       q.1,
       b.0,
-      can.can_wire c.args.symbols.now q.0 p c.args.pair q.1 c.args.arena.now c.args.ends.now q.2 b.0 c.begin_agents.new.arena begun ready.unmarked c.read_ports.new.points
+      can.can_wire t q.0 p c.args.pair q.1 c.args.arena.now c.args.ends.now q.2 b.0 c.begin_agents.new.arena begun ready.unmarked c.read_ports.new.points
           (λ e low. c.read_ports.ensures.read e (let l : e < c.boundary_ends.result = omega (arith, low, many) in l))
           (λ k low. c.read_ports.ensures.others (32 + k) (let l : c.boundary_ends.result ≤ 32 + k = omega (arith, many, few) in l) ∙ b.2 k low),
     )
 
 pub write_over-requires-clause-room : goal.write_over-requires-clause-room
 write_over-requires-clause-room c =
-    let few = c.requires.ready.few in
+    let few = c.requires.ready.1.few in
     let over = over_few c.args.template.now.member in
     let room = c.requires.room in
     omega (arith, few, over, room)
 
 pub write_within-requires : goal.write_within-requires
 write_within-requires c =
-    let ready = c.requires.ready in
+    let t = c.requires.ready.0 in
+    let ready = c.requires.ready.1 in
     let q = ready.about in
     let b = c.begin_agents.ensures.begun in
     let p = c.args.template.now in
     let many = c.boundary_ends.ensures in
     let few = ready.few in
     let begun = begun_there c.member.result.now p.member b.0 c.args.arena.now c.begin_agents.new.arena c.member.ensures b.1 in
-    let start = can.can_wire c.args.symbols.now q.0 p c.args.pair q.1 c.args.arena.now c.args.ends.now q.2 b.0 c.begin_agents.new.arena begun ready.unmarked c.read_ports.new.points
+    let start = can.can_wire t q.0 p c.args.pair q.1 c.args.arena.now c.args.ends.now q.2 b.0 c.begin_agents.new.arena begun ready.unmarked c.read_ports.new.points
     (λ e low. c.read_ports.ensures.read e (let l : e < c.boundary_ends.result = omega (arith, low, many) in l))
     (λ k low. c.read_ports.ensures.others (32 + k) (let l : c.boundary_ends.result ≤ 32 + k = omega (arith, many, few) in l) ∙ b.2 k low) in
-    record { ready = (c.args.symbols.now, q.0, q.1, b.0, c.write_over.ensures.written q.0 q.1 b.0 start) }
+    record { ready = (t, q.0, q.1, b.0, c.write_over.ensures.written t q.0 q.1 b.0 start) }
 
 pub returns-clause-wired : goal.returns-clause-wired
-returns-clause-wired c =
-    let ready = c.requires.ready in
+returns-clause-wired c = λ t ready. (
     let b = c.begin_agents.ensures.begun in
-    let t = c.args.symbols.now in
     let p = c.args.template.now in
     let middle = c.begin_agents.new.arena in
     let points = c.read_ports.new.points in
@@ -84,6 +83,7 @@ returns-clause-wired c =
       kept = keep_on middle c.write_over.new.arena c.write_within.new.arena c.write_over.ensures.kept c.write_within.ensures.kept;
       at = at;
       written = λ s own about. c.write_within.ensures.written t s own b.0
-          (c.write_over.ensures.written s own b.0 (can.can_wire t s p c.args.pair own c.args.arena.now c.args.ends.now about b.0 middle begun ready.unmarked points read at));
-      queued = λ s own about. c.write_over.ensures.queued s own b.0 (can.can_wire t s p c.args.pair own c.args.arena.now c.args.ends.now about b.0 middle begun ready.unmarked points read at);
+          (c.write_over.ensures.written t s own b.0 (can.can_wire t s p c.args.pair own c.args.arena.now c.args.ends.now about b.0 middle begun ready.unmarked points read at));
+      queued = λ s own about. c.write_over.ensures.queued t s own b.0 (can.can_wire t s p c.args.pair own c.args.arena.now c.args.ends.now about b.0 middle begun ready.unmarked points read at);
     }
+    )

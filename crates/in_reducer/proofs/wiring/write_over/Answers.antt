@@ -1,4 +1,4 @@
-use Rattle.std.proofs.Common.{◌≡◌, ℕ, [], length, map, refl, sym, ap, subst, ◌∙◌, append-nil, arith}
+use Rattle.std.proofs.Common.{◌≡◌, ℕ, [], length, map, slice_get, refl, sym, ap, subst, ◌∙◌, append-nil, arith}
 use Rattle.in_cells.proofs.Public.{keep_on, keeps}
 use Rattle.in_compile.specs.Wires.{over_of, over_point}
 use Rattle.in_overwriting.specs.MadeByWires.{of_none}
@@ -10,8 +10,8 @@ use Rattle.in_reducer.proofs.wiring.write_over.Goals as goal
 
 pub loop-number-init : goal.loop-number-init
 loop-number-init c = record {
-  written = λ s own ns h. h;
-  queued = λ s own ns h. ([], of_none, sym (append-nil c.args.queue.now.items));
+  written = λ t s own ns h. h;
+  queued = λ t s own ns h. ([], of_none, sym (append-nil c.args.queue.now.items));
   kept = keeps c.args.arena.now;
   long = refl;
   room = omega arith;
@@ -23,14 +23,14 @@ bounds-points-end c =
     let q = c.requires.ready in
     let w = c.index-wires-number.result in
     let at = listed_at (over_of c.args.template.now.member) c.over-wires.result.now c.loop-number.number w c.over-wires.ensures c.loop-number-test.true c.index-wires-number.is in
-    one.over_low c.args.symbols.now q.0 c.args.template.now q.1 q.2 c.args.points.now c.loop-number.number c.loop-number.arena c.loop-number.ends (c.loop-number.invariant.written q.0 q.1 q.2 q.3) w at c.end.result c.end.ensures.end
+    one.over_low q.0 q.1 c.args.template.now q.2 q.3 c.args.points.now c.loop-number.number c.loop-number.arena c.loop-number.ends (c.loop-number.invariant.written q.0 q.1 q.2 q.3 q.4) w at c.end.result c.end.ensures.end
 
 pub side-inner-requires : goal.side-inner-requires
 side-inner-requires c =
     let q = c.requires.ready in
     let w = c.index-wires-number.result in
     let at = listed_at (over_of c.args.template.now.member) c.over-wires.result.now c.loop-number.number w c.over-wires.ensures c.loop-number-test.true c.index-wires-number.is in
-    one.over_can_read c.args.symbols.now q.0 c.args.template.now q.1 q.2 c.args.points.now c.loop-number.number c.loop-number.arena c.loop-number.ends (c.loop-number.invariant.written q.0 q.1 q.2 q.3) w at
+    one.over_can_read q.0 q.1 c.args.template.now q.2 q.3 c.args.points.now c.loop-number.number c.loop-number.arena c.loop-number.ends (c.loop-number.invariant.written q.0 q.1 q.2 q.3 q.4) w at
     c.slot.result c.place.result c.slot.ensures.slot c.place.ensures.place
 
 pub exchange-requires-clause-one : goal.exchange-requires-clause-one
@@ -38,7 +38,7 @@ exchange-requires-clause-one c =
     let q = c.requires.ready in
     let w = c.index-wires-number.result in
     let at = listed_at (over_of c.args.template.now.member) c.over-wires.result.now c.loop-number.number w c.over-wires.ensures c.loop-number-test.true c.index-wires-number.is in
-    one.over_place_u c.args.symbols.now q.0 c.args.template.now q.1 q.2 c.args.points.now c.loop-number.number c.loop-number.arena c.loop-number.ends (c.loop-number.invariant.written q.0 q.1 q.2 q.3) w at
+    one.over_place_u q.0 q.1 c.args.template.now q.2 q.3 c.args.points.now c.loop-number.number c.loop-number.arena c.loop-number.ends (c.loop-number.invariant.written q.0 q.1 q.2 q.3 q.4) w at
     c.index-points-end.result c.side-inner.result (record {
       end = c.end.result;
       slot = c.slot.result;
@@ -55,7 +55,7 @@ exchange-requires-clause-other c =
     let q = c.requires.ready in
     let w = c.index-wires-number.result in
     let at = listed_at (over_of c.args.template.now.member) c.over-wires.result.now c.loop-number.number w c.over-wires.ensures c.loop-number-test.true c.index-wires-number.is in
-    one.over_place_v c.args.symbols.now q.0 c.args.template.now q.1 q.2 c.args.points.now c.loop-number.number c.loop-number.arena c.loop-number.ends (c.loop-number.invariant.written q.0 q.1 q.2 q.3) w at
+    one.over_place_v q.0 q.1 c.args.template.now q.2 q.3 c.args.points.now c.loop-number.number c.loop-number.arena c.loop-number.ends (c.loop-number.invariant.written q.0 q.1 q.2 q.3 q.4) w at
     c.index-points-end.result c.side-inner.result (record {
       end = c.end.result;
       slot = c.slot.result;
@@ -67,27 +67,17 @@ exchange-requires-clause-other c =
       inner = c.side-inner.ensures;
     })
 
-pub queue_pair-requires-clause-ends : goal.queue_pair-requires-clause-ends
-queue_pair-requires-clause-ends c =
+pub queue_pair-requires-clause-there : goal.queue_pair-requires-clause-there
+queue_pair-requires-clause-there c =
     let q = c.requires.ready in
     let w = c.index-wires-number.result in
     let at = listed_at (over_of c.args.template.now.member) c.over-wires.result.now c.loop-number.number w c.over-wires.ensures c.loop-number-test.true c.index-wires-number.is in
-    one.over_can_pair c.args.symbols.now q.0 c.args.template.now q.1 q.2 c.args.points.now c.loop-number.number c.loop-number.arena c.loop-number.ends (c.loop-number.invariant.written q.0 q.1 q.2 q.3) w at
-    c.index-points-end.result c.side-inner.result (record {
-      end = c.end.result;
-      slot = c.slot.result;
-      place = c.place.result;
-      is_end = c.end.ensures.end;
-      is_slot = c.slot.ensures.slot;
-      is_place = c.place.ensures.place;
-      outer = c.index-points-end.is;
-      inner = c.side-inner.ensures;
-    }) c.exchange.new.arena c.exchange.new.ends c.exchange.ensures
+    one.over_signed q.0 q.1 c.args.template.now q.2 q.3 c.args.points.now c.loop-number.number c.loop-number.arena c.loop-number.ends (c.loop-number.invariant.written q.0 q.1 q.2 q.3 q.4) w at
+    c.end-in-loop-number.result c.end-in-loop-number.ensures.end
 
 pub loop-number-preserved : goal.loop-number-preserved
 loop-number-preserved c =
     let q = c.requires.ready in
-    let t = c.args.symbols.now in
     let p = c.args.template.now in
     let points = c.args.points.now in
     let k = c.loop-number.number in
@@ -110,10 +100,14 @@ loop-number-preserved c =
       outer = c.index-points-end.is;
       inner = c.side-inner.ensures;
     } in
-    let kept = one.over_kept t q.0 p q.1 q.2 points k a es (i.written q.0 q.1 q.2 q.3) w at u v read b fs c.exchange.ensures in
+    let kept = one.over_kept q.0 q.1 p q.2 q.3 points k a es (i.written q.0 q.1 q.2 q.3 q.4) w at u v read b fs c.exchange.ensures in
     record {
-      written = λ s own ns h. one.over_written t s p own ns points k a es (i.written s own ns h) w at u v read b fs c.exchange.ensures;
-      queued = λ s own ns h. one.over_queued t s p own ns points k a es (i.written s own ns h) w at u v read b fs c.exchange.ensures c.args.queue.now.items c.loop-number.queue.items c.queue_pair.new.queue.items (i.queued s own ns h) c.queue_pair.ensures.added;
+      written = λ t s own ns h. one.over_written t s p own ns points k a es (i.written t s own ns h) w at u v read b fs c.exchange.ensures;
+      queued = λ t s own ns h. (
+          let signed = one.over_sign t s p own ns points k a es (i.written t s own ns h) w at in
+          one.over_queued t s p own ns points k a es (i.written t s own ns h) w at u v read b fs c.exchange.ensures signed.0 signed.1 c.args.queue.now.items c.loop-number.queue.items c.queue_pair.new.queue.items (i.queued t s own ns h)
+          (c.queue_pair.ensures.added signed.0 (ap (slice_get p.outputs) c.end-in-loop-number.ensures.end ∙ signed.1))
+          );
       kept = keep_on c.args.arena.now a b i.kept kept.0;
       long = kept.1 ∙ i.long;
       room = (let r = i.room in let l = c.queue_pair.ensures.longer in omega (arith, r, l));
@@ -121,15 +115,15 @@ loop-number-preserved c =
     }
 
 pub returns-clause-written : goal.returns-clause-written
-returns-clause-written c = λ s own ns h. (
+returns-clause-written c = λ t s own ns h. (
     let many = ap length c.over-wires.ensures in
     let all : c.loop-number.number ≡ length (over_of c.args.template.now.member) = omega (arith, many) in
-    subst (λ (n : ℕ). IsWiring c.args.symbols.now s c.args.template.now own ns c.args.points.now n c.loop-number.arena c.loop-number.ends) all (c.loop-number.invariant.written s own ns h)
+    subst (λ (n : ℕ). IsWiring t s c.args.template.now own ns c.args.points.now n c.loop-number.arena c.loop-number.ends) all (c.loop-number.invariant.written t s own ns h)
     )
 
 pub returns-clause-queued : goal.returns-clause-queued
-returns-clause-queued c = λ s own ns h. (
+returns-clause-queued c = λ t s own ns h. (
     let many = ap length c.over-wires.ensures in
     let all : c.loop-number.number ≡ length (over_of c.args.template.now.member) = omega (arith, many) in
-    subst (λ (n : ℕ). HasQueued c.args.symbols.now (interaction_of s ns) (map over_point (over_of c.args.template.now.member)) n c.args.queue.now.items c.loop-number.queue.items) all (c.loop-number.invariant.queued s own ns h)
+    subst (λ (n : ℕ). HasQueued t (interaction_of s ns) (map over_point (over_of c.args.template.now.member)) n c.args.queue.now.items c.loop-number.queue.items) all (c.loop-number.invariant.queued t s own ns h)
     )

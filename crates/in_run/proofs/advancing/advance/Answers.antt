@@ -14,7 +14,18 @@ returns-then-workers-eq1-clause-some g c =
     takes_some c.args.machine.now c.take_first.new.self c.take_first.result (c.limit.result - c.args.interactions) c.take_first.ensures.runs goes.0 goes.2 (omega (arith, limit, within)) c.take_first.ensures.fewer
 
 pub returns-then-interactions-lt-PHASES_FROM-clause-goes : goal.returns-then-interactions-lt-PHASES_FROM-clause-goes
-returns-then-interactions-lt-PHASES_FROM-clause-goes g c = let m = c.args.machine.now in then_any m m c.step.new.self 0 0 (no_step m) c.step.ensures.steps
+returns-then-interactions-lt-PHASES_FROM-clause-goes g c =
+    let taken = c.take_first-then-interactions-lt-PHASES_FROM in up_to_numbers_anyhow c.args.machine.now taken.new.self taken.result taken.ensures.runs
+
+pub returns-then-interactions-lt-PHASES_FROM-clause-some : goal.returns-then-interactions-lt-PHASES_FROM-clause-some
+returns-then-interactions-lt-PHASES_FROM-clause-some g c =
+    let taken = c.take_first-then-interactions-lt-PHASES_FROM in
+    let goes = c.requires in
+    let limit = c.limit.ensures.limit in
+    let within = goes.1 in
+    let least = c.min.ensures in
+    let early = c.if-interactions-lt-PHASES_FROM.true in
+    takes_some c.args.machine.now taken.new.self taken.result c.min.result taken.ensures.runs goes.0 goes.2 (omega (arith, limit, within, least, early)) taken.ensures.fewer
 
 pub returns-clause-goes : goal.returns-clause-goes
 returns-clause-goes g c =

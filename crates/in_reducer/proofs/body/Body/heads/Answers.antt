@@ -1,24 +1,26 @@
+use Rattle.std.proofs.Common.{length, refl}
 use Rattle.in_reducer.specs.Inside.{reducer_view}
 use Rattle.in_reducer.specs.Machines.{parts_of}
-use Rattle.in_reducer.proofs.Cells.Looked.{read_at, have_symbols}
+use Rattle.in_reducer.proofs.Cells.Looked.{have_symbols}
 use Rattle.in_reducer.proofs.body.Body.heads.Goals as goal
+use Rattle.std.proofs.lemmas.Option.{slice_get_read}
 
 pub symbol-requires : goal.symbol-requires
 symbol-requires c =
     let r = c.args.self.now in
     let q = c.index.result.now in
-    (have_symbols r.checked.now.tables (parts_of (reducer_view r)) q (c.requires.net.reducer.queue.pairs c.args.number q (read_at r.queue.items c.args.number q c.requires.pair c.index.ensures))).0
+    (have_symbols r.checked.now.tables (parts_of (reducer_view r)) q (c.requires.net.reducer.queue.pairs c.args.number q (slice_get_read r.queue.items (length r.queue.items) c.args.number q refl c.requires.pair c.index.ensures))).0
 
 pub symbol-requires-2 : goal.symbol-requires-2
 symbol-requires-2 c =
     let r = c.args.self.now in
     let q = c.index.result.now in
-    (have_symbols r.checked.now.tables (parts_of (reducer_view r)) q (c.requires.net.reducer.queue.pairs c.args.number q (read_at r.queue.items c.args.number q c.requires.pair c.index.ensures))).1
+    (have_symbols r.checked.now.tables (parts_of (reducer_view r)) q (c.requires.net.reducer.queue.pairs c.args.number q (slice_get_read r.queue.items (length r.queue.items) c.args.number q refl c.requires.pair c.index.ensures))).1
 
 pub returns : goal.returns
 returns c = record {
   pair = c.index.result.now;
-  stands = read_at c.args.self.now.queue.items c.args.number c.index.result.now c.requires.pair c.index.ensures;
+  stands = slice_get_read c.args.self.now.queue.items (length c.args.self.now.queue.items) c.args.number c.index.result.now refl c.requires.pair c.index.ensures;
   one = c.symbol.ensures;
   two = c.symbol-2.ensures;
 }

@@ -99,6 +99,5 @@ invariant_of-self-2 c =
           points = tools.points;
         };
       };
-      none = cut_off.none_after r k c.args.cell.0 c.args.place can b es kept long c.len-own.result own c.as_mut_slice.result.now value
-          (c.cut.ensures.cut (signature_of r.checked.now.tables)) c.symbol.result c.symbol.ensures kind is_kind c.push_reserved-2.new.self.items new c.free.result c.free-2.result c.push_reserved-4.new.self.items list c.self.invariant.none;
+      none = still.still_unleased r.arena b alike c.self.invariant.none;
     }

@@ -1,6 +1,7 @@
-use Rattle.std.proofs.Common.{◌≡◌, ◌≤◌, ◌+◌, ◌-◌, ◌*◌, ◌++◌, ℕ, List, length, map, take, refl, sym, ap, subst, ◌∙◌, arith}
+use Rattle.std.proofs.Common.{◌≡◌, ◌≤◌, ◌+◌, ◌-◌, ◌*◌, ◌++◌, ℕ, List, length, slice_get, map, take, refl, sym, ap, subst, ◌∙◌, arith}
 use Rattle.std.specs.Prelude.{All}
 use Rattle.std.proofs.lemmas.List.{length-take-le}
+use Rattle.in_arena.proofs.Public.{live_inside}
 use Rattle.in_arena.specs.Classes.{classes}
 use Rattle.in_arena.specs.declared.content.CellClass.TheVariants.{Small}
 use Rattle.in_arena.specs.declared.content.CellNo.{CellNo}
@@ -75,7 +76,13 @@ list_live-requires-clause-cells c =
     (x.agents_room.0, omega (arith, fits, room))
 
 pub copy-requires-clause-names : goal.copy-requires-clause-names
-copy-requires-clause-names c = names_fit c.part.inside.body c.part.invariant.all.net c.args.part.now c.part.view_is c.args.seam.cells (length c.args.names.now) (c.requires.cells Small) c.requires.names
+copy-requires-clause-names c = λ j n at. (
+    let o = c.part.inside.body in
+    let fits = names_fit o c.part.invariant.all.net c.args.part.now c.part.view_is c.args.seam.cells (length c.args.names.now) (c.requires.cells Small) c.requires.names in
+    let live = c.list_live.ensures.part.live j n (ap (λ (ns : List CellNo). slice_get ns j) (sym c.as_slice-3.ensures.value) ∙ at) in
+    let low = live_inside o.arena n.0 live in
+    omega (arith, low, fits)
+    )
 
 pub slice_bounds-of_rest-end : goal.slice_bounds-of_rest-end
 slice_bounds-of_rest-end c =
@@ -308,7 +315,7 @@ invariant_of-self c =
           points = tools.points;
         };
       };
-      none = together.none_after r o k l apart.can agents live (number_in rest_numbers) a anew part_numbers ns b copied c.self.invariant.none;
+      none = still.still_unleased r.arena b alike c.self.invariant.none;
     }
 
 pub returns-clause-glued : goal.returns-clause-glued

@@ -153,5 +153,5 @@ invariant_of-self c =
           points = tools.points;
         };
       };
-      none = rejoined.none_after r k two own is_own b es kept long joins can new is_new c.self.invariant.none;
+      none = still.still_unleased r.arena b alike c.self.invariant.none;
     }

@@ -1,5 +1,5 @@
 use Rattle.std.proofs.Common.{◌≡◌, ◌<◌, ◌+◌, ℕ, List, length, take, slice_get, sym, ap, subst, ◌∙◌, arith}
-use Rattle.std.proofs.lemmas.List.{length-map, length-take-le}
+use Rattle.std.proofs.lemmas.List.{length-take-le}
 use Rattle.std.specs.VecDeque.{deque_capacity}
 use Rattle.in_arena.specs.declared.content.CellNo.{CellNo}
 use Rattle.in_arena.specs.declared.content.End.{End}
@@ -7,9 +7,10 @@ use Rattle.in_arena.specs.declared.content.End.TheVariants.{Free}
 use Rattle.in_cells.specs.Copying.{IsEndWithin, number_in}
 use Rattle.in_cells.proofs.Public.{numbered_classed}
 use Rattle.in_reducer.specs.Inside.{IsKept, reducer_view}
-use Rattle.in_reducer.specs.Machines.{MachineParts}
+use Rattle.in_interaction.proofs.Public.{has_value}
+use Rattle.in_reducer.specs.Cutting.{net_in}
+use Rattle.in_reducer.specs.Machines.{AreNumbersBelow, MachineParts}
 use Rattle.in_reducer.specs.Parting.{CanSplit, IsSplitOff, place_of_two}
-use Rattle.in_reducer.specs.Standing.{agent_in}
 use Rattle.in_reducer.proofs.Cuts.CutOff.{free_many}
 use Rattle.in_reducer.proofs.Parts.SplitBefore as before
 use Rattle.in_reducer.proofs.Parts.SplitCells as cells
@@ -62,12 +63,14 @@ copy-requires-clause-room c =
     before.cells_for r c.self.invariant.all.net c.args.agents.now c.args.own c.args.cuts can a c.args.cells (all_free a c.args.cells fresh.cells fresh.empty r.checked.now.tables) c.requires.fits
 
 pub copy-requires-clause-names : goal.copy-requires-clause-names
-copy-requires-clause-names c =
+copy-requires-clause-names c = λ j n at. (
     let r = c.self.inside.body in
-    let many = length-map r.arena.states agent_in in
-    let v = ap (λ (m : MachineParts). length m.agents) c.self.view_is in
-    let names = c.requires.names in
-    omega (arith, many, v, names)
+    let k = c.self.invariant.all.net in
+    let can = subst (λ (m : MachineParts). CanSplit m c.args.agents.now c.args.own c.args.cuts) (sym c.self.view_is) c.requires.can in
+    let below = subst (λ (m : MachineParts). AreNumbersBelow m (length c.args.names.now)) (sym c.self.view_is) c.requires.names in
+    let s = has_value ((net_in (reducer_view r)).symbol n.0) (can.there j n at) in
+    before.symbol_below r k (length c.args.names.now) below n.0 s.0 s.1
+    )
 
 pub number_anew-requires-clause-led : goal.number_anew-requires-clause-led
 number_anew-requires-clause-led c =
@@ -128,7 +131,7 @@ fill_rest-requires-clause-within c = λ j n at. (
     let whole = before.whole r k c.args.agents.now c.args.own c.args.cuts can in
     let many = before.many r k in
     let same = first_ends c.ends-all.result c.args.own c.args.cuts c.as_slice.result.now r.ends.items c.ends-all.ensures c.as_slice.ensures.value ∙ ap (λ (z : ℕ). take z r.ends.items) (sym whole) in
-    let low : n < length r.free.items = before.end_within r k j (Free n) (ap (λ (zs : List End). slice_get zs j) (sym same) ∙ at) in
+    let low : n < length r.free.items = before.end_within r k (length r.arena.states) (before.below_all r k) j (Free n) (ap (λ (zs : List End). slice_get zs j) (sym same) ∙ at) in
     let count = c.in_ok-room.ensures.lists.rest_numbers.count in
     omega (arith, low, whole, many, count)
     )
@@ -142,9 +145,9 @@ fill_part-requires-clause-within c = λ j e at. (
     let numbers = c.in_ok-room.room.lists.part.numbers.items in
     let whole = before.whole r k c.args.agents.now c.args.own c.args.cuts can in
     let same = first_ends c.ends-all.result c.args.own c.args.cuts c.as_slice.result.now r.ends.items c.ends-all.ensures c.as_slice.ensures.value ∙ ap (λ (z : ℕ). take z r.ends.items) (sym whole) in
-    let many : length ns ≡ length r.arena.states = c.copy.ensures.names ∙ c.requires.names ∙ sym (ap (λ (m : MachineParts). length m.agents) c.self.view_is) ∙ length-map r.arena.states agent_in in
+    let below = subst (λ (m : MachineParts). AreNumbersBelow m (length c.args.names.now)) (sym c.self.view_is) c.requires.names in
     let numbered : length numbers ≡ length r.free.items = c.in_ok-room.ensures.lists.part_numbers.count ∙ sym whole ∙ before.many r k in
-    subst (λ (z : ℕ). IsEndWithin z (length numbers) e) (sym many) (subst (λ (z : ℕ). IsEndWithin (length r.arena.states) z e) (sym numbered) (before.end_within r k j e (ap (λ (zs : List End). slice_get zs j) (sym same) ∙ at)))
+    subst (λ (z : ℕ). IsEndWithin z (length numbers) e) (sym c.copy.ensures.names) (subst (λ (z : ℕ). IsEndWithin (length c.args.names.now) z e) (sym numbered) (before.end_within r k (length c.args.names.now) below j e (ap (λ (zs : List End). slice_get zs j) (sym same) ∙ at)))
     )
 
 pub split_queue-requires-clause-none : goal.split_queue-requires-clause-none
@@ -156,22 +159,22 @@ split_queue-requires-clause-none c =
 
 pub split_queue-requires-clause-there : goal.split_queue-requires-clause-there
 split_queue-requires-clause-there c = λ j q at. (
-    let h = before.pair_within c.self.inside.body c.self.invariant.all.net j q at in
+    let r = c.self.inside.body in
+    let k = c.self.invariant.all.net in
+    let h = (before.pair_within r k (length r.arena.states) (before.below_all r k) j q at).0 in
     let many = c.retire_all.ensures.many ∙ c.number_anew.ensures.many in
-    let one = h.0 in
-    let two = h.1 in
-    (omega (arith, one, many), omega (arith, two, many))
+    omega (arith, h, many)
     )
 
 pub split_queue-requires-clause-names : goal.split_queue-requires-clause-names
-split_queue-requires-clause-names c =
-    let r = c.self.inside.body in
-    let many = length-map r.arena.states agent_in in
-    let v = ap (λ (m : MachineParts). length m.agents) c.self.view_is in
-    let names = c.requires.names in
+split_queue-requires-clause-names c = λ j q at. (
+    let below = subst (λ (m : MachineParts). AreNumbersBelow m (length c.args.names.now)) (sym c.self.view_is) c.requires.names in
+    let h = before.pair_within c.self.inside.body c.self.invariant.all.net (length c.args.names.now) below j q at in
     let same = c.copy.ensures.names in
-    let left = c.retire_all.ensures.many ∙ c.number_anew.ensures.many in
-    omega (arith, many, v, names, same, left)
+    let one = h.0 in
+    let two = h.1 in
+    (omega (arith, one, same), omega (arith, two, same))
+    )
 
 pub split_queue-requires-clause-part : goal.split_queue-requires-clause-part
 split_queue-requires-clause-part c =

@@ -10,6 +10,7 @@ use Rattle.in_reducer.specs.Placed.{IsNoneOf}
 use Rattle.in_reducer.specs.Steps.{HasRoomAt, StepsAt}
 use Rattle.in_reducer.specs.Templates.{IsTemplateAt}
 use Rattle.in_reducer.proofs.Steps.Stepped as stepped
+use Rattle.in_reducer.proofs.Steps.Laid as laid
 use Rattle.in_reducer.proofs.Steps.StillNet as still
 use Rattle.in_reducer.proofs.reducer.Reducer.step_beside.Goals as goal
 
@@ -77,7 +78,7 @@ invariant_of-self c =
           points = (let e = ap (λ v. length v.items) tools.points in let g = k.all.tools.points in omega (arith, e, g));
         };
       };
-      none = λ n low leased. k.none n (let e = alike.many in let f = put.many in omega (arith, low, e, f))
-          (still.put_leased r.checked.now.tables at.rule.member at.is_rule.over.member c.args.template.now.member at.template.member c.put.new.self.cells r.arena old put n
-          (alike.none n (let e = alike.many in omega (arith, low, e)) leased));
+      none = still.still_unleased old new.arena alike
+          (still.begun_unleased r.checked.now.tables at.rule.member at.is_rule.over.member c.args.template.now.member at.template.member c.put.new.self.cells r.arena old
+          (laid.begun_of r.checked.now.tables at.rule.member at.is_rule.over.member c.args.template.now.member at.template.member c.put.new.self.cells r.arena old put) k.none);
     }

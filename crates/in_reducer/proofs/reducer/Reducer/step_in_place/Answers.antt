@@ -3,14 +3,13 @@ use Rattle.std.specs.Vec.{with_items}
 use Rattle.std.proofs.lemmas.List.{with_items_is}
 use Rattle.in_arena.specs.Arenas.{ArenaView, changed, state_at}
 use Rattle.in_arena.specs.States.{Vacant, IsLive}
-use Rattle.in_symbols.specs.Tables.{Tables}
 use Rattle.in_interaction.specs.Queues.{both}
 use Rattle.in_compile.specs.Members.{MemberParts}
 use Rattle.in_reducer.specs.Interacting.{named}
 use Rattle.in_reducer.specs.Machines.{MachineParts}
 use Rattle.in_reducer.specs.Steps.{HasRoomAt, StepsAt}
 use Rattle.in_reducer.specs.Templates.{IsTemplateAt}
-use Rattle.in_reducer.specs.Wiring.{AreAtAgents, IsWiredUp}
+use Rattle.in_reducer.specs.Wiring.{AreAtAgents}
 use Rattle.in_reducer.proofs.Steps.InPlace as place
 use Rattle.in_reducer.proofs.Steps.StillNet as still
 use Rattle.in_reducer.proofs.reducer.Reducer.step_in_place.Goals as goal
@@ -21,9 +20,11 @@ wire_up-requires-clause-ready c =
     let k = c.self.invariant.all.net in
     let p = c.args.template.now in
     let at = subst (λ (m : MachineParts). IsTemplateAt m c.args.number p) (sym c.self.view_is) c.requires.at in
-    let room = subst (λ (m : MachineParts). HasRoomAt m c.args.number) (sym c.self.view_is) c.requires.room in
-    place.can_wire_up r k c.args.number p at c.index.result.now c.index.ensures c.first_ends.result c.first_ends.ensures c.as_mut_slice.result.now c.as_mut_slice.ensures.value c.symbols.result.now c.symbols.ensures
-    room c.self.invariant.none c.cells.ensures.1 c.requires.unmarked c.as_mut_slice-2.result.now (let l = c.self.invariant.all.tools.points in let v = ap length c.as_mut_slice-2.ensures.value in omega (arith, l, v))
+    let room = subst (λ (m : MachineParts). HasRoomAt m c.args.number) (sym c.self.view_is) c.requires.room in (
+      r.checked.now.tables,
+      place.can_wire_up r k c.args.number p at c.index.result.now c.index.ensures c.first_ends.result c.first_ends.ensures c.as_mut_slice.result.now c.as_mut_slice.ensures.value r.checked.now.tables refl
+          room c.self.invariant.none c.cells.ensures.1 c.requires.unmarked c.as_mut_slice-2.result.now (let l = c.self.invariant.all.tools.points in let v = ap length c.as_mut_slice-2.ensures.value in omega (arith, l, v)),
+    )
 
 pub wire_up-requires-clause-room : goal.wire_up-requires-clause-room
 wire_up-requires-clause-room c =
@@ -50,7 +51,9 @@ retire-requires c =
     let own = place.own_ends r k i p at in
     let pair = place.pair_read r k i p at c.index.result.now c.index.ensures c.first_ends.result c.first_ends.ensures ends c.as_mut_slice.ensures.value in
     let about = place.about_in r k i p at c.index.result.now c.index.ensures c.first_ends.result c.first_ends.ensures ends c.as_mut_slice.ensures.value r.checked.now.tables refl in
-    let up = subst (λ (t : Tables). IsWiredUp t p pair r.arena ends old a es points middle) c.symbols.ensures c.wire_up.ensures.wired in
+    let up = c.wire_up.ensures.wired r.checked.now.tables
+    (place.can_wire_up r k i p at c.index.result.now c.index.ensures c.first_ends.result c.first_ends.ensures ends c.as_mut_slice.ensures.value r.checked.now.tables refl room none c.cells.ensures.1 c.requires.unmarked
+    c.as_mut_slice-2.result.now (let l = c.self.invariant.all.tools.points in let v = ap length c.as_mut_slice-2.ensures.value in omega (arith, l, v))) in
     place.one_live r k i p at room none pair own refl ends about old a es points middle up
 
 pub retire-requires-2 : goal.retire-requires-2
@@ -71,7 +74,9 @@ retire-requires-2 c =
     let own = place.own_ends r k i p at in
     let pair = place.pair_read r k i p at c.index.result.now c.index.ensures c.first_ends.result c.first_ends.ensures ends c.as_mut_slice.ensures.value in
     let about = place.about_in r k i p at c.index.result.now c.index.ensures c.first_ends.result c.first_ends.ensures ends c.as_mut_slice.ensures.value r.checked.now.tables refl in
-    let up = subst (λ (t : Tables). IsWiredUp t p pair r.arena ends old a es points middle) c.symbols.ensures c.wire_up.ensures.wired in
+    let up = c.wire_up.ensures.wired r.checked.now.tables
+    (place.can_wire_up r k i p at c.index.result.now c.index.ensures c.first_ends.result c.first_ends.ensures ends c.as_mut_slice.ensures.value r.checked.now.tables refl room none c.cells.ensures.1 c.requires.unmarked
+    c.as_mut_slice-2.result.now (let l = c.self.invariant.all.tools.points in let v = ap length c.as_mut_slice-2.ensures.value in omega (arith, l, v))) in
     subst (λ (a : ArenaView). IsLive (state_at a c.index.result.now.1)) (sym c.retire.ensures) (place.other_live r k i p at room none pair own refl ends about old a es points middle up)
 
 pub queue_begun-requires-clause-there : goal.queue_begun-requires-clause-there
@@ -92,7 +97,9 @@ queue_begun-requires-clause-there c =
     let own = place.own_ends r k i p at in
     let pair = place.pair_read r k i p at c.index.result.now c.index.ensures c.first_ends.result c.first_ends.ensures ends c.as_mut_slice.ensures.value in
     let about = place.about_in r k i p at c.index.result.now c.index.ensures c.first_ends.result c.first_ends.ensures ends c.as_mut_slice.ensures.value r.checked.now.tables refl in
-    let up = subst (λ (t : Tables). IsWiredUp t p pair r.arena ends old a es points middle) c.symbols.ensures c.wire_up.ensures.wired in
+    let up = c.wire_up.ensures.wired r.checked.now.tables
+    (place.can_wire_up r k i p at c.index.result.now c.index.ensures c.first_ends.result c.first_ends.ensures ends c.as_mut_slice.ensures.value r.checked.now.tables refl room none c.cells.ensures.1 c.requires.unmarked
+    c.as_mut_slice-2.result.now (let l = c.self.invariant.all.tools.points in let v = ap length c.as_mut_slice-2.ensures.value in omega (arith, l, v))) in
     let point_long = c.wire_up.ensures.points ∙ ap length c.as_mut_slice-2.ensures.value in
     let is_points = with_items_is r.tools.points points (let ok = r.tools.points.ok.0 in omega (arith, ok, point_long)) in
     let slice : c.as_slice.result.now ≡ points = c.as_slice.ensures.value ∙ is_points in (
@@ -119,7 +126,9 @@ queue_begun-requires-clause-room c =
     let own = place.own_ends r k i p at in
     let pair = place.pair_read r k i p at c.index.result.now c.index.ensures c.first_ends.result c.first_ends.ensures ends c.as_mut_slice.ensures.value in
     let about = place.about_in r k i p at c.index.result.now c.index.ensures c.first_ends.result c.first_ends.ensures ends c.as_mut_slice.ensures.value r.checked.now.tables refl in
-    let up = subst (λ (t : Tables). IsWiredUp t p pair r.arena ends old a es points middle) c.symbols.ensures c.wire_up.ensures.wired in
+    let up = c.wire_up.ensures.wired r.checked.now.tables
+    (place.can_wire_up r k i p at c.index.result.now c.index.ensures c.first_ends.result c.first_ends.ensures ends c.as_mut_slice.ensures.value r.checked.now.tables refl room none c.cells.ensures.1 c.requires.unmarked
+    c.as_mut_slice-2.result.now (let l = c.self.invariant.all.tools.points in let v = ap length c.as_mut_slice-2.ensures.value in omega (arith, l, v))) in
     let b = c.retire-2.new.self in
     let retired : b ≡ changed (changed a pair.one.0 Vacant) pair.other.0 Vacant = c.retire-2.ensures ∙ ap (λ (a : ArenaView). changed a pair.other.0 Vacant) c.retire.ensures in
     let long = c.wire_up.ensures.long ∙ ap length c.as_mut_slice.ensures.value in
@@ -147,7 +156,9 @@ invariant_of-self c =
     let own = place.own_ends r k i p at in
     let pair = place.pair_read r k i p at c.index.result.now c.index.ensures c.first_ends.result c.first_ends.ensures ends c.as_mut_slice.ensures.value in
     let about = place.about_in r k i p at c.index.result.now c.index.ensures c.first_ends.result c.first_ends.ensures ends c.as_mut_slice.ensures.value r.checked.now.tables refl in
-    let up = subst (λ (t : Tables). IsWiredUp t p pair r.arena ends old a es points middle) c.symbols.ensures c.wire_up.ensures.wired in
+    let up = c.wire_up.ensures.wired r.checked.now.tables
+    (place.can_wire_up r k i p at c.index.result.now c.index.ensures c.first_ends.result c.first_ends.ensures ends c.as_mut_slice.ensures.value r.checked.now.tables refl room none c.cells.ensures.1 c.requires.unmarked
+    c.as_mut_slice-2.result.now (let l = c.self.invariant.all.tools.points in let v = ap length c.as_mut_slice-2.ensures.value in omega (arith, l, v))) in
     let b = c.retire-2.new.self in
     let retired : b ≡ changed (changed a pair.one.0 Vacant) pair.other.0 Vacant = c.retire-2.ensures ∙ ap (λ (a : ArenaView). changed a pair.other.0 Vacant) c.retire.ensures in
     let long = c.wire_up.ensures.long ∙ ap length c.as_mut_slice.ensures.value in
@@ -206,7 +217,9 @@ returns c =
     let own = place.own_ends r k i p at in
     let pair = place.pair_read r k i p at c.index.result.now c.index.ensures c.first_ends.result c.first_ends.ensures ends c.as_mut_slice.ensures.value in
     let about = place.about_in r k i p at c.index.result.now c.index.ensures c.first_ends.result c.first_ends.ensures ends c.as_mut_slice.ensures.value r.checked.now.tables refl in
-    let up = subst (λ (t : Tables). IsWiredUp t p pair r.arena ends old a es points middle) c.symbols.ensures c.wire_up.ensures.wired in
+    let up = c.wire_up.ensures.wired r.checked.now.tables
+    (place.can_wire_up r k i p at c.index.result.now c.index.ensures c.first_ends.result c.first_ends.ensures ends c.as_mut_slice.ensures.value r.checked.now.tables refl room none c.cells.ensures.1 c.requires.unmarked
+    c.as_mut_slice-2.result.now (let l = c.self.invariant.all.tools.points in let v = ap length c.as_mut_slice-2.ensures.value in omega (arith, l, v))) in
     let b = c.retire-2.new.self in
     let retired : b ≡ changed (changed a pair.one.0 Vacant) pair.other.0 Vacant = c.retire-2.ensures ∙ ap (λ (a : ArenaView). changed a pair.other.0 Vacant) c.retire.ensures in
     let long = c.wire_up.ensures.long ∙ ap length c.as_mut_slice.ensures.value in
