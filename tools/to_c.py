@@ -18,7 +18,7 @@ import nets
 import steps
 import streams
 
-RUNTIME, WORKERS, READER = (Path(__file__).with_name(f"to_c_{part}.c") for part in ("runtime", "workers", "reader"))
+RUNTIME, WIRES, WORKERS, MACHINES, READER = (Path(__file__).with_name(f"to_c_{part}.c") for part in ("runtime", "wires", "workers", "machines", "reader"))
 # What a program has at most.
 MOST_SYMBOLS, MOST_ARITY, MOST_FREE_ENDS, MOST_MEMBER_AGENTS = 512, 16, 256, 64
 # All rules are one function, in which one goes on with the next by a jump, in a program of at most so many rules with at most so many wires
@@ -106,10 +106,6 @@ class Code:
     def end(self, head, place):
         return self.ends.index((head, place))
 
-    def freed(self):
-        """How many words of cells become free, less those that are taken."""
-        return sum(head.arity for head in self.heads) - sum(agent.arity for agent in self.agents)
-
     def choose_cells(self, is_looped):
         """Which new agents stand in the cells of the pair: those of which most ports can stay as they are. And the ends that stay."""
         stays = [(end[0], point) for wire in self.rule.wires for end, point in (wire, wire[::-1]) if len(end) == 1 and len(point) == 2 and point[1]]
@@ -129,7 +125,6 @@ class Code:
         made, wires = self.wires()
         body = [*(held or self.reads()), *self.cells(), *wires]
         given = [f"GIVE({head.arity}, {'CD'[k]});" for k, head in enumerate(self.heads) if head.arity and self.kept[k] is None]
-        given += [f"FREED({self.freed()});"] if self.freed() and self.compiler.is_one else []
         own = [("own", self.rule.wires[number], len(self.ends)) for number in self.rule.active]
         if is_looped:
             last = [*given, *(self.join(pair, True) for pair in made), *self.held_after(), *map(self.join, own), "NEXT;"]
@@ -251,8 +246,8 @@ class Code:
 
 
 class Compiler:
-    def __init__(self, program, order, functions):
-        self.program, self.tags = program, Tags(program)
+    def __init__(self, program, order, functions, by_mpi):
+        self.program, self.tags, self.by_mpi = program, Tags(program), by_mpi
         self.is_queue = order == "queue"
         wires = sum(len(rule.wires) for rule in program.rules)
         self.is_one = functions == "one" or functions == "usual" and len(program.rules) <= MOST_RULES and wires <= MOST_WIRES
@@ -283,7 +278,7 @@ class Compiler:
             return [f"{begin} goto m{kind};"]
         rule = lambda partner: self.rule_of(constructor, partner) if what == "plus" else self.rule_of(partner, destructor)
         cases = " ".join(f"case {self.tags.tag[partner]}: goto r{rule(partner)};" for partner in partners)
-        return [f"{begin} switch (TAG({'d' if what == 'plus' else 'c'})) {{ {cases} DEFAULT }}"]
+        return [f"{begin} switch (TAG({'d' if what == 'plus' else 'c'})) {{ {cases} NO_DEFAULT }}"]
 
     def title(self, number, is_looped):
         heads = " >< ".join(in_comment(self.program.symbols[symbol].name) for symbol in self.program.rules[number].heads)
@@ -298,7 +293,7 @@ class Compiler:
             self.words, self.pairs = max(self.words, code.words), max(self.pairs, code.pairs)
 
     def one_function(self, bodies):
-        """All rules in one function: a jump leads from each to the next one. Where no wire is shared, nothing tests for that; so there are two."""
+        """All rules in one function: a jump leads from each to the next one."""
         rules = []
         for number, is_looped, lines in bodies:
             label = f"r{number}_looped" if is_looped else f"r{number}"
@@ -308,35 +303,25 @@ class Compiler:
             [f"case {self.tags.tag[d] << self.bits | self.tags.tag[c]}: goto r{self.rule_of(c, d)};" for d in self.tags.destructors[kind] for c in own]
             for kind, own in enumerate(self.tags.constructors)
         ]
-        switch = lambda cases: f"switch (TAG(d) << {self.bits} | TAG(c)) {{ {' '.join(cases)} DEFAULT }}"
+        switch = lambda cases: f"switch (TAG(d) << {self.bits} | TAG(c)) {{ {' '.join(cases)} NO_DEFAULT }}"
         code = "\n".join(rules)
         meets = [f"m{kind}:\n  {switch(own)}" for kind, own in enumerate(cases) if f"goto m{kind};" in code]
         sizes = sorted({symbol.arity for symbol in self.program.symbols if symbol.arity})
         ended, take = "sp == w->bottom", "sp -= 2; c = sp[0]; d = sp[1];"
         if self.is_queue:
             ended, take = f"{ended} || !fuel", "c = w->bottom[0]; d = w->bottom[1]; w->bottom += 2;"
-        begin = "\n".join([
-            "  word c, d, *sp = w->sp, *bump = w->bump;",
+        return "\n".join([
+            "#define CELLS(size) f##size\n#define BUMP bump\n#define SP sp\n#define NEXT goto next\n#define LOOPED(number) goto r##number##_looped",
+            "// Interacts at most so often: how often it didn't.",
+            "static int64_t reduce(struct worker *w, int64_t fuel) {\n  word c, d, *sp = w->sp, *bump = w->bump;",
             *(f"  word *f{size} = w->free[{size}];" for size in sizes),
             f"{'next:' if 'NEXT;' in code else ''}\n  if ({ended}) goto end;\n  {take}\n  {switch(itertools.chain(*cases))}",
             *meets,
             code,
-        ])
-        end = "\n".join(["end:", *(f"  w->free[{size}] = f{size};" for size in sizes), "  w->sp = sp;\n  w->bump = bump;"])
-        pause = "" if self.is_queue else "pause:\n"
-        return "\n".join([
-            "#define CELLS(size) f##size\n#define BUMP bump\n#define SP sp\n#define NEXT goto next\n#define LOOPED(number) goto r##number##_looped",
-            "#define DEFAULT NO_DEFAULT\n#define FREED(words)",
-            "// Interacts at most so often, where no wire is shared: how often it didn't.",
-            f"static int64_t reduce_local(struct worker *w, int64_t fuel) {{\n{begin}",
             *([] if self.is_queue else ["pause:\n  PUSH(c, d);"]),
-            f"{end}\n  return fuel;\n}}",
-            "#undef DEFAULT\n#undef FREED",
-            "// What no pair of tags is has a shared wire in it.\n#define DEFAULT default: goto shared;\n#define FREED(words) freed += (words)",
-            "// Interacts at most so often, and until a shared wire is met: how often it didn't.",
-            f"static int64_t reduce_shared(struct worker *w, int64_t fuel) {{\n  int64_t freed = w->freed;\n{begin}",
-            f"{pause}shared:\n  PUSH(c, d);",
-            f"{end}\n  w->freed = freed;\n  return fuel;\n}}",
+            "end:",
+            *(f"  w->free[{size}] = f{size};" for size in sizes),
+            "  w->sp = sp;\n  w->bump = bump;\n  return fuel;\n}",
         ])
 
     def functions(self, bodies):
@@ -352,14 +337,6 @@ class Compiler:
                 rows.append(len(table))
                 table += [f"r{self.rule_of(constructor, destructor)}" for constructor in self.tags.constructors[kind]]
         take = "word *at = w->bottom;\n      w->bottom += 2;" if self.is_queue else "word *at = w->sp -= 2;"
-        numbers_of = [int(name[1:]) for name in table]
-        freed = numbers(Code(self, number).freed() for number in numbers_of)
-        loop = lambda begin, shared, counted: "\n".join([
-            f"{begin}  word c = 0, d = 0;\n  for (; fuel; fuel--) {{\n    if (!d) {{",
-            f"      if (w->sp == w->bottom) return fuel;\n      {take}\n      c = at[0];\n      d = at[1];\n    }}{shared}",
-            f"    uint32_t number = first_rule[TAG(d)] + TAG(c) - 1;\n    struct pair next = rules[number](w, c, d);{counted}",
-            "    c = next.c;\n    d = next.d;\n  }\n  if (d) PUSH(c, d);\n  return fuel;\n}",
-        ])
         return "\n".join([
             "struct pair { word c, d; };",
             "#define CELLS(size) w->free[size]\n#define BUMP w->bump\n#define SP w->sp\n#define NEXT return (struct pair){0, 0}",
@@ -367,16 +344,16 @@ class Compiler:
             *rules,
             f"static struct pair (*const rules[])(struct worker *, word, word) = {{{numbers(table)}}};",
             f"static const uint32_t first_rule[] = {{{numbers(rows)}}};",
-            f"// Of each rule the words of cells that become free, less those that are taken.\nstatic const int16_t freed[] = {{{freed}}};",
-            "// Interacts at most so often, where no wire is shared: how often it didn't.",
-            loop("static int64_t reduce_local(struct worker *w, int64_t fuel) {\n", "", ""),
-            "// Interacts at most so often, and until a shared wire is met: how often it didn't.",
-            loop("static int64_t reduce_shared(struct worker *w, int64_t fuel) {\n", "\n    if (IS_SHARED(c, d)) break;", "\n    w->freed += freed[number];"),
+            "// Interacts at most so often: how often it didn't.",
+            "static int64_t reduce(struct worker *w, int64_t fuel) {\n  word c = 0, d = 0;\n  for (; fuel; fuel--) {\n    if (!d) {",
+            f"      if (w->sp == w->bottom) return fuel;\n      {take}\n      c = at[0];\n      d = at[1];\n    }}",
+            "    struct pair next = rules[first_rule[TAG(d)] + TAG(c) - 1](w, c, d);\n    c = next.c;\n    d = next.d;",
+            "  }\n  if (d) PUSH(c, d);\n  return fuel;\n}",
         ])
 
     def rules(self):
         if not self.program.rules:
-            return "\n".join(f"static int64_t reduce_{kind}(struct worker *w, int64_t fuel) {{\n  (void)w;\n  return fuel;\n}}" for kind in ("local", "shared"))
+            return "static int64_t reduce(struct worker *w, int64_t fuel) {\n  (void)w;\n  return fuel;\n}"
         bodies = list(self.bodies())
         return self.one_function(bodies) if self.is_one else self.functions(bodies)
 
@@ -423,10 +400,11 @@ class Compiler:
         # The code comes first: it says how many words and pairs a rule takes.
         rules = self.rules()
         runtime = streams.read_file(RUNTIME)
-        for name, part in (("WORKERS", WORKERS), ("READER", READER)):
+        for name, part in (("WIRES", WIRES), ("WORKERS", MACHINES if self.by_mpi else WORKERS), ("READER", READER)):
             runtime = runtime.replace(f"//@{name}\n", streams.read_file(part) + "\n")
         if not any(map(looping, self.program.symbols)):
             runtime = re.sub("//@LOOPS\n.*//@END\n", "", runtime, flags=re.DOTALL)
+        runtime = runtime.replace("//@MACHINES\n", "#define MACHINES\n" if self.by_mpi else "")
         return runtime.replace("//@TABLES\n", self.tables() + "\n").replace("//@RULES\n", rules + "\n").replace("//@LOOPS\n", "").replace("//@END\n", "")
 
 
@@ -452,10 +430,11 @@ def main():
                        help="which pair is taken first: the newest, which is faster, or the oldest, as `inet run` does with one worker")
     words.add_argument("--functions", choices=("one", "each", "usual"), default="usual",
                        help="all rules in one function, which is faster, or each in its own, which is compiled faster (usually where there are many)")
+    words.add_argument("--mpi", action="store_true", help="the program runs as several processes, by MPI, in place of several threads")
     asked = words.parse_args()
     program = nets.Program.read()
     check(program)
-    streams.write(Compiler(program, asked.order, asked.functions).text())
+    streams.write(Compiler(program, asked.order, asked.functions, asked.mpi).text())
 
 
 if __name__ == "__main__":

@@ -7,12 +7,12 @@ struct reader { const char *path; char *text; size_t at, end; };
 
 static _Noreturn void refuse(const struct reader *r, const char *what) {
   fprintf(stderr, "error: %s: byte %zu: %s\n", r->path, r->at + 1, what);
-  exit(REFUSED);
+  quit(REFUSED);
 }
 
 static _Noreturn void refuse_stream(const char *path) {
   fprintf(stderr, "error: %s can't be read: %s\n", path, strerror(errno));
-  exit(STREAM);
+  quit(STREAM);
 }
 
 static struct reader read_text(const char *path) {

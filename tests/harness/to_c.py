@@ -30,11 +30,13 @@ import compile as compiler  # noqa: E402  (the tools stand beside the tests)
 import nets  # noqa: E402
 import steps  # noqa: E402
 import streams  # noqa: E402
+import to_c as tool  # noqa: E402
 
 SCRIPT = os.path.join(HERE, "..", "..", "inet_c")
 GENERATED = 300
-# Nets that are changed by chance, of each program that is taken for that.
-CHANGED = 120
+# Random programs of `tools/compile.py`; and nets that are changed by chance, of each program that is taken for that.
+RANDOM = 50
+CHANGED = 60
 WORKERS = (1, 2, 3, 4)
 # Interactions of a run of `inet` that is compared, and its cells.
 MOST = 1_000_000
@@ -48,7 +50,7 @@ TOLD = (b"Sanitizer", b"runtime error")
 # Workers that disturb each other as often as they can.
 STRESS = ["-DSTRESS", "-DSLICE=1"]
 # Forms of the code, and words for the C compiler, by turns.
-FORMS = [["--functions", functions, "--order", order] for functions in ("one", "each") for order in ("newest", "queue")]
+FORMS = [{"functions": functions, "order": order} for functions in ("one", "each") for order in ("newest", "queue")]
 # In Pass >< Swap a path leads through each of the four classes, where both ports of a class may be joined outside.
 LOOPS = """type nat;
 symbol Z : nat+; symbol S : nat+ {nat-}; symbol Era : nat-;
@@ -103,9 +105,9 @@ WRONG = (
 class CompiledPrograms:
     """Programs that are compiled in a folder of the tests."""
 
-    def __init__(self, program):
+    def __init__(self, program, name="to_c"):
         self.program = program
-        self.room = os.path.join(program.room, "to_c")
+        self.room = os.path.join(program.room, name)
         os.mkdir(self.room)
         self.exporter = Program(BUILT, self.room)
         self.clang = shutil.which("clang") or "cc"
@@ -121,15 +123,24 @@ class CompiledPrograms:
             raise RuntimeError(f"{compiler}: {ran.stdout[:500]!r}")
         return made
 
-    def compiled(self, name, text, form=(), compiler="cc", words=("-O1",)):
-        """The compiled program of a text."""
+    def line(self, text):
+        """The exported line of a text."""
         exported = self.exporter.run([], text)
         if exported.status != ACCEPTED:
             raise RuntimeError(f"not exported: {exported}")
-        code = by_tool("to_c.py", form, exported.output)
-        if code.status or code.errors:
-            raise RuntimeError(f"no code: {code} {code.errors!r}")
-        return self.built(name, code.output, compiler, words)
+        return exported.output
+
+    def code(self, text, order="newest", functions="usual", by_mpi=False):
+        """The C text of a program."""
+        data = json.loads(self.line(text))
+        nets.check_form(data)
+        program = nets.Program(data)
+        tool.check(program)
+        return tool.Compiler(program, order, functions, by_mpi).text().encode()
+
+    def compiled(self, name, text, form=(), compiler="cc", words=("-O1",)):
+        """The compiled program of a text."""
+        return self.built(name, self.code(text, **dict(form)), compiler, words)
 
     def has_sanitizers(self, words):
         """Whether the C compiler has them."""
@@ -138,32 +149,35 @@ class CompiledPrograms:
         except RuntimeError:
             return False
 
-    def wrong_answer(self, command, text, limit, workers, is_queue, net=()):
+    def wrong_answer(self, command, text, limit, workers, is_queue, net=(), usual=None):
         """What is wrong with one run of a compiled program. At a limit the net is that of `inet run` in the order of a queue alone."""
-        found, wanted = self.program.run_command([*command, f"--limit={limit}", "--workers", str(workers), *net], b""), self.inet(text, limit)
-        wrong = differing(found, wanted.status, wanted.output)
-        if wrong and wanted.status == LIMIT and (workers > 1 or not is_queue):
-            same = found.status == LIMIT and found.output.rsplit(b"\n", 3)[-3:] == wanted.output.rsplit(b"\n", 3)[-3:]
-            wrong = None if same else wrong
+        found, usual = self.program.run_command([*command, f"--limit={limit}", "--workers", str(workers), *net], b""), usual or self.inet(text, MOST)
+        count = count_of(usual)
+        if limit < count and not (is_queue and workers == 1):
+            same = found.status == LIMIT and found.output.endswith(b"interactions: %d\nstop: limit\n" % limit)
+            wrong = None if same else f"{found}; not stopped at the limit"
+        else:
+            wanted = usual if limit >= count and usual.status == ACCEPTED else self.inet(text, limit)
+            wrong = differing(found, wanted.status, wanted.output)
         return f"limit {limit}, {workers} workers: {wrong} {found.errors[:2000]!r}" if wrong or found.errors else None
 
-    def wrong_runs(self, command, text, is_queue, net=(), limits=(0, 1, 2, 3)):
-        """What is wrong with runs of a compiled program: to the end by one to four workers, and at limits."""
+    def wrong_runs(self, command, text, is_queue, net=(), limits=(0, 1, 3), teams=WORKERS):
+        """What is wrong with runs of a compiled program: to the end by so many workers, and at limits."""
         usual = self.inet(text, MOST)
         if usual.status not in (ACCEPTED, LIMIT):
             return f"not to be compared: {usual}"
-        count = int(usual.output.rsplit(b"\n", 3)[-3].split()[1])
+        count = count_of(usual)
         stops = sorted({*limits, count // 2, max(count - 1, 0), count})
-        runs = [*((MOST, workers) for workers in WORKERS), *zip(stops, itertools.cycle(WORKERS))]
-        return next(filter(None, (self.wrong_answer(command, text, limit, workers, is_queue, net) for limit, workers in runs)), None)
+        runs = [*((MOST, workers) for workers in teams), *zip(stops, itertools.cycle(WORKERS))]
+        return next(filter(None, (self.wrong_answer(command, text, limit, workers, is_queue, net, usual) for limit, workers in runs)), None)
 
-    def wrong_run(self, name, number, text, words=()):
-        """What is wrong with a program that is compiled in one form, with one in two under stress, and one in three optimised."""
+    def wrong_run(self, name, number, text, words=(), teams=WORKERS):
+        """What is wrong with a program that is compiled in one form, with one in two under stress, and one in nine optimised."""
         form = FORMS[number % len(FORMS)]
         stress = STRESS if number // len(FORMS) % 2 else []
-        usual = ["-O0" if number % 3 else "-O1"]
+        usual = ["-O0" if number % 9 else "-O1"]
         path = self.compiled(name, text, form, self.clang if number % 7 == 3 else "cc", [*(words or usual), *stress])
-        wrong = self.wrong_runs([path], text, "queue" in form)
+        wrong = self.wrong_runs([path], text, form["order"] == "queue", teams=teams)
         os.remove(path)
         return wrong
 
@@ -174,8 +188,8 @@ class CompiledPrograms:
         file = os.path.join(self.room, f"{name}.json")
         for which, text in enumerate(programs):
             with open(file, "wb") as line:
-                line.write(self.exporter.run([], text).output)
-            wrong = self.wrong_runs([paths[which % 2]], text, "queue" in form, [file], ())
+                line.write(self.line(text))
+            wrong = self.wrong_runs([paths[which % 2]], text, form["order"] == "queue", [file], (), (1, 2 + which % 3))
             if wrong:
                 return f"net {which}: {wrong}"
         for path in paths:
@@ -184,6 +198,11 @@ class CompiledPrograms:
 
     def inet(self, text, limit):
         return self.program.run(["run", "--limit", str(limit), "--cells", str(CELLS)], text)
+
+
+def count_of(answer):
+    """The number of interactions of a run."""
+    return int(answer.output.rsplit(b"\n", 3)[-3].split()[1])
 
 
 def nets_by_rules():
@@ -203,7 +222,7 @@ def texts():
         yield name, (LOOPS + net).encode()
     yield from ((name, text.encode()) for name, text in BARE.items())
     yield "rules with sixteen ports and wires back", MANY_PORTS.encode()
-    for seed in range(compiled.PROGRAMS):
+    for seed in range(RANDOM):
         text = compiled.Generator(seed).program()
         if compiled.value_in(text):
             yield f"random program {seed}", compiler.compiled(text, "a test").encode()
@@ -223,27 +242,34 @@ def many_rules(count):
     return "\n".join(["type t; symbol E : t+;", *symbols, *rules, *ends, f"net (end : t+) {{ {meets}; end ~ d20; }}"]).encode()
 
 
-def limits(count):
-    """A program with so many constructors and destructors of sixteen ports each, a rule for each two, and as many symbols as there may be: with 64
-    it is at all limits at once."""
-    ports = lambda sign: "".join(f" {{n{sign}}}" for _ in range(16))
-    names, others = "abcdefghijklmnop", "qrstuvwxyzABCDEF"
-    symbols = [f"symbol C{i} : t+{ports('-')}; symbol D{i} : t-{ports('+')};" for i in range(count)]
-    symbols += [f"symbol N{i} : n+{ports('-')};" for i in range(511 - 2 * count)]
+def limits(constructors, destructors, others):
+    """A program with so many constructors and destructors of sixteen ports each, and a rule for each two: every other right member has 64 agents, and
+    most others a pair with sixteen ports each. With 64, 63 and 62 it has 512 symbols and 4,096 rules: so it is at all limits at once."""
     listed = ",".join
-    rules = [
-        f"rule C{i}[{listed(names)}] >< D{j}[{listed(others)}] with {{C{i - 1}({listed(names[1:] + names[0])})~D{j - 1}({listed(others[::-1])});}};"
-        if i and j else f"rule C{i}[{listed(names)}] >< D{j}[{listed(names)}];"
-        for i in range(count) for j in range(count)
-    ]
-    ends = listed(f"e{k} : n+" for k in range(16))
-    net = f"C{count - 1}({listed('Z' * 16)}) ~ D{count - 1}({listed(f'e{k}' for k in range(16))});"
-    return "\n".join(["type t; type n; symbol Z : n+;", *symbols, *rules, f"net ({ends}) {{ {net} }}"]).encode()
+    ports = lambda sign: "{" + "}{".join([f"n{sign}"] * 16) + "}"
+    values, names = "abcdefghijklmnop", "qrstuvwxyzABEFGH"
+    symbols = [f"symbol C{i}:t+{ports('-')};" for i in range(constructors)] + [f"symbol D{j}:t-{ports('+')};" for j in range(destructors)]
+    symbols += [f"symbol U{i}:u+{ports('-')};" for i in range(others)] + ["symbol V:u-;symbol Z:n+;symbol S:n+{n-};symbol R:n-;"]
+    symbols += [f"symbol W{i}:w+{ports('-')};" for i in range(508 - constructors - destructors - others)]
+    rules = []
+    for i, j in itertools.product(range(constructors), range(destructors)):
+        heads = f"rule C{i}[{{}}]><D{j}[{{}}]"
+        if (i + j) % 2:
+            rules.append(heads.format(listed("R" * 16), listed(["S(S(Z))"] * 16)) + ";")
+        elif i and j:
+            pair = f"C{i - 1}({listed(values[1:] + values[0])})~D{j - 1}({listed(names[::-1])});"
+            rules.append(heads.format(listed(values), listed(names)) + f"with{{{pair}}};")
+        else:
+            rules.append(heads.format(listed(values), listed(values)) + ";")
+    rules += [f"rule U{i}[{listed('R' * 16)}]><V[];" for i in range(others)] + ["rule Z[]><R[];rule S[R]><R[];"]
+    ends = [f"k{k}" for k in range(16)]
+    net = f"C{constructors - 2}({listed('Z' * 16)})~D{destructors - 2 + (constructors + destructors) % 2}({listed(ends)});U0({listed('Z' * 16)})~V;"
+    return "\n".join(["type t;type n;type u;type w;", *symbols, *rules, f"net({listed(f'{end}:n+' for end in ends)}){{{net}}}"]).encode()
 
 
 def wrong_limits(made):
-    """What is wrong with a program of as many symbols and ports as there may be, and a sixteenth of as many rules."""
-    text = limits(16)
+    """What is wrong with a program of as many symbols, ports and agents in a right member as there may be, and a sixteenth of as many rules."""
+    text = limits(16, 15, 14)
     path = made.compiled("limits", text, words=["-O0"])
     return made.wrong_runs([path], text, False)
 
@@ -350,7 +376,7 @@ def is_sound(data):
 def wrong_lines(made, name, text):
     """What is wrong with what a program with sanitizers says of lines that are changed: by chance, and by bytes."""
     path = made.compiled(name, text, words=[*SANITIZERS, *STRESS])
-    line = made.exporter.run([], text).output
+    line = made.line(text)
     data, chance, file = json.loads(line), random.Random(name), os.path.join(made.room, f"{name}.json")
     lines = []
     for _ in range(CHANGED):
@@ -394,7 +420,7 @@ def wrong_arm(made, number, text):
     """What is wrong with a program that is compiled for aarch64, and run by an emulator."""
     form = FORMS[number % len(FORMS)]
     path = made.compiled(f"arm{number}", text, form, ARM, ["-O0", "-static", *(STRESS if number % 2 else [])])
-    return made.wrong_runs([EMULATOR, path], text, "queue" in form, limits=(0,))
+    return made.wrong_runs([EMULATOR, path], text, form["order"] == "queue", limits=(0,), teams=(1, 3))
 
 
 def wrong_script(program, words, wanted, kept):
@@ -443,8 +469,8 @@ def to_c(program):
     yield "memory", partial(wrong_memory, made)
     yield "a deep net", partial(wrong_depth, made)
     for number, form in enumerate(FORMS):
-        yield f"many rules: {' '.join(form)}", partial(made.wrong_run, f"many{number}", number, many_rules(17), ("-O0",))
-    yield "a thousand rules", partial(made.wrong_run, "thousand", 3, many_rules(32), ("-O0",))
+        yield f"many rules: {' '.join(form.values())}", partial(made.wrong_run, f"many{number}", number, many_rules(12), ("-O0",), (1, 3))
+    yield "a thousand rules", partial(made.wrong_run, "thousand", 3, many_rules(32), ("-O0",), (1, 2))
     yield "512 symbols with sixteen ports", partial(wrong_limits, made)
     if made.has_sanitizers(THREADS):
         for number, text in enumerate(watched()):
@@ -452,28 +478,29 @@ def to_c(program):
     if made.has_sanitizers(SANITIZERS):
         for number in range(2 * len(FORMS)):
             text = (LOOPS + NETS["sixteen ports and wires back"]).encode() if number % 2 else generated.program(generated.sorting_network(3)).encode()
-            yield f"sanitizers, form {number}", partial(made.wrong_run, f"sanitized{number}", number, text, SANITIZERS)
+            yield f"sanitizers, form {number}", partial(made.wrong_run, f"sanitized{number}", number, text, SANITIZERS, (1, 4))
         for name, text in (("sum", text_of("sum")), ("word", text_of("word")), ("values", (LOOPS + NETS["values on wires"]).encode())):
             yield f"lines that are changed: {name}", partial(wrong_lines, made, f"lines_{name}", text)
     if shutil.which(ARM) and shutil.which(EMULATOR):
-        for number, text in enumerate([*map(text_of, ("sum", "word", "quicksort")), *watched()]):
+        for number, text in enumerate([*map(text_of, ("sum", "word")), *itertools.islice(watched(), 2, 6)]):
             yield f"aarch64, program {number}", partial(wrong_arm, made, number, text)
     for number, piece in enumerate(LONG):
-        yield f"long run {number}", partial(made.wrong_run, f"long{number}", 8 * number, generated.program(piece).encode(), ("-O0",))
+        yield f"long run {number}", partial(made.wrong_run, f"long{number}", 8 * number, generated.program(piece).encode(), ("-O1",), (1, 2, 4))
     for number, programs in enumerate(nets_by_rules()):
         yield f"nets that are read, rules {number}", partial(made.wrong_nets, f"nets{number}", number, programs)
     for number, (name, text) in enumerate(texts()):
-        yield f"{name}: program {number}", partial(made.wrong_run, number, number, text)
+        teams = WORKERS if number < 40 else (1, 2 + number % 3)
+        yield f"{name}: program {number}", partial(made.wrong_run, number, number, text, teams=teams)
     path = made.compiled("words", text_of("sum"))
     for words in WRONG:
         yield f"words: {' '.join(words)}", partial(wrong_words, program, path, words)
     for kind in ("closed", "full", "a pipe without a reader"):
         yield f"standard output: {kind}", failing(partial(into, program, path, kind), "output")
-    line = made.exporter.run([], text_of("sum")).output
+    line = made.line(text_of("sum"))
     yield "a net from standard input", lambda: differing(program.run_command([path, "-"], line), ACCEPTED, program.run(["run"], text_of("sum")).output)
     others = {
         "no line": b"",
-        "another program": made.exporter.run([], text_of("word")).output,
+        "another program": made.line(text_of("word")),
         "a refused one": made.exporter.run([], text_of("used_three_times")).output,
         "another format": line.replace(b'"format":1', b'"format":2'),
         "two lines": line + line,
