@@ -5,13 +5,13 @@ use Rattle.std.specs.Option.{option_map_or}
 use Rattle.std.specs.Str.{bytes_eq}
 use Rattle.std.proofs.lemmas.Slice.Eq.{bytes_eq-Decides}
 use Rattle.clap.specs.Faults.{check_fault, defaults_fault, entered_fault, level_fault, settle_fault, walk_fault}
-use Rattle.clap.specs.Simple.{App, Shape, argument_words, built, built_leaf, entered, help_shape, inherited, names_of, new_app, rows_at}
+use Rattle.clap.specs.Simple.{App, Shape, argument_words, built, built_leaf, entered, help_shape, inherited, names_of, rows_at}
 use Rattle.clap.specs.Walk.{Row, Text, finished, nothing_held, settled, walk, walk_from}
-use Rattle.in_command_line.specs.Asking.{Names}
-use Rattle.in_command_line.specs.CommandLine.{command_line}
+use Rattle.in_command_line.specs.Asking.{Asked, HasLimits, Names, file_in, is_set}
+use Rattle.in_command_line.specs.CommandLine.{command_line, on_file}
 use Rattle.in_command_line.specs.Laws.{FaultlessWordsAsk}
-use Rattle.in_command_line.specs.declared.action.Action.{Action}
-use Rattle.in_command_line.specs.declared.action.Action.TheVariants.{Check, Derive, Run}
+use Rattle.in_limits.specs.declared.limits.Limits.{Limits}
+use Rattle.in_command_line.specs.declared.action.Action.TheVariants.{Check, Derive, Run, Count}
 use Rattle.in_command_line.proofs.Faultless.{StopsWell, IsNoHelp, first_none, walk_well}
 use Rattle.in_command_line.proofs.Options.{limits_asked, run_shape}
 
@@ -20,14 +20,23 @@ abbrev inet : App
 inet = built command_line
 
 abbrev plain_shape : Text → Shape
-plain_shape name = built_leaf (inherited inet.top (new_app name).top)
+plain_shape name = built_leaf (inherited inet.top (on_file name).top)
 
 abbrev help_command : Shape
 help_command = built_leaf help_shape
 
 -- what the words ask for, where the subcommand is this one
 abbrev Asks : Option (Text × List Row) → Type 0
-Asks found = (a : Action) × (name : Text) × (options : List Row) × (found ≡ Some (name, options)) × Names name options a
+Asks found = (a : Asked) × (name : Text) × (options : List Row) × (found ≡ Some (name, options)) × Names name options a.action × (a.file ≡ file_in options)
+    × (a.stats ≡ is_set (codes "stats") options)
+
+-- a run with these options
+run_asked : (options : List Row) (l : Limits) → HasLimits options l → Asks (Some (codes "run", options))
+run_asked options l limits = go (is_set (codes "no-net") options) refl
+  where
+    go : (b : Bool) → is_set (codes "no-net") options ≡ b → Asks (Some (codes "run", options))
+    go true is = (record { action = Count l; file = file_in options; stats = is_set (codes "stats") options }, codes "run", options, refl, (refl, limits, is), refl, refl)
+    go false is = (record { action = Run l; file = file_in options; stats = is_set (codes "stats") options }, codes "run", options, refl, (refl, limits, is), refl, refl)
 
 -- the word isn't `help`
 not_help : (name : Text) → IsNoHelp name → (bytes_eq (codes "help") name || false) ≡ true → ⊥
@@ -46,11 +55,15 @@ met_of check derive run help = cond check (Some (plain_shape (codes "check"))) (
 
 at_subcommand : (name : Text) (rest : List Text) (a b c d : Bool) → (d ≡ true → ⊥) → option_map_or (λ s. level_fault s [] nothing_held rest false []) (met_of a b c d) [] ≡ []
     → is_some (option_map (λ s. rows_at s rest) (met_of a b c d)) ≡ true → Asks (option_map (λ s. rows_at s rest) (met_of a b c d))
-at_subcommand name rest true b c d well none some = (Check, codes "check", _, refl, refl)
-at_subcommand name rest false true c d well none some = (Derive, codes "derive", _, refl, refl)
+at_subcommand name rest true b c d well none some =
+    let options = (rows_at (plain_shape (codes "check")) rest).1 in
+    (record { action = Check; file = file_in options; stats = is_set (codes "stats") options }, codes "check", options, refl, refl, refl, refl)
+at_subcommand name rest false true c d well none some =
+    let options = (rows_at (plain_shape (codes "derive")) rest).1 in
+    (record { action = Derive; file = file_in options; stats = is_set (codes "stats") options }, codes "derive", options, refl, refl, refl, refl)
 at_subcommand name rest false false true d well none some =
     let l = limits_asked rest none in
-    (Run l.0, codes "run", _, refl, (refl, l.1))
+    run_asked (rows_at run_shape rest).1 l.0 l.1
 at_subcommand name rest false false false true well none some = absurd (well refl)
 at_subcommand name rest false false false false well none some = cc
 
@@ -75,4 +88,4 @@ faultless_asks words none =
     let well = walk_well inet.top (names_of inet) refl args (walk_from nothing_held) tt first.0 in
     let some = needs_one (finished inet.top.rules end.held) (is_some (entered inet end.stopped)) fourth.1 in
     let asks = at_stop end.stopped well second.0 some in
-    (asks.0, record { name = asks.1; options = asks.2; taken = none; given = asks.3; named = asks.4 })
+    (asks.0, record { name = asks.1; options = asks.2; taken = none; given = asks.3; named = asks.4; file_is = asks.5; stats_are = asks.6 })

@@ -10,7 +10,7 @@ use Rattle.clap.specs.Kinds.{range_kinds, value_kinds}
 use Rattle.clap.specs.Simple.{Shape, built, built_leaf, filled, help_rule, inherited, with_index}
 use Rattle.clap.specs.ValueTests.{accepts}
 use Rattle.clap.specs.Values.{refused_kind}
-use Rattle.clap.specs.Walk.{Row, Rule, Text, at_row, has_row, more_values, nothing_held, one_of, row_text, rows_after, settled, walk, walk_from, with_default, with_values, without}
+use Rattle.clap.specs.Walk.{Row, Rule, Text, at_row, has_row, more_values, nothing_held, one_of, row_text, reading_by, rows_after, settled, values_or_missing, walk, walk_from, with_default, with_values, without}
 use Rattle.clap.specs.declared.builder.value_parser.Reading.{Reading}
 use Rattle.clap.specs.declared.builder.value_parser.Reading.TheVariants.{AsWritten}
 use Rattle.clap.specs.declared.builder.value_parser.ValueParser.{ValueParser}
@@ -22,7 +22,7 @@ use Rattle.clap.proofs.ValueTestLemmas.{accepts-Accepts}
 use Rattle.in_limits.specs.Limiting.{least_cells, most_cells, most_interactions, most_workers}
 use Rattle.in_limits.specs.declared.limits.Limits.{Limits}
 use Rattle.in_command_line.specs.Asking.{HasLimits, IsNumber}
-use Rattle.in_command_line.specs.CommandLine.{command_line, number_option, run_command}
+use Rattle.in_command_line.specs.CommandLine.{command_line, file_argument, flag, number_option, run_command}
 use Rattle.in_command_line.proofs.Faultless.{AllKeep, Keeps, first_none, settled_keeps, walk_keeps}
 
 -- ---- lists of rows
@@ -65,6 +65,19 @@ limit_rule = number_rule (codes "limit") (codes "1000000") 0 most_interactions
 
 abbrev pub cells_rule : Rule
 cells_rule = number_rule (codes "cells") (codes "65536") least_cells most_cells
+
+-- a flag, as a command that is built has it
+abbrev pub flag_rule : Text → Rule
+flag_rule name = with_index 1 (filled (flag name))
+
+abbrev pub no_net_rule : Rule
+no_net_rule = flag_rule (codes "no-net")
+
+abbrev pub stats_rule : Rule
+stats_rule = flag_rule (codes "stats")
+
+abbrev pub file_rule : Rule
+file_rule = with_index 1 (filled file_argument)
 
 abbrev pub help_flag : Rule
 help_flag = with_index 1 (filled help_rule)
@@ -138,15 +151,28 @@ limit_row s text fits = (λ e. cc, λ _. record { text = text; reading = refl; f
 cells_row : (s : ValueSource) (text : Text) → accepts false (Unsigned least_cells most_cells) text ≡ true → IsGood (new_row (codes "cells") text s)
 cells_row s text fits = (λ e. cc, λ e. cc, λ _. record { text = text; reading = refl; first = refl; passes = fits })
 
-pub options_keep : AllKeep Good (workers_rule ∷ limit_rule ∷ cells_rule ∷ help_flag ∷ [])
-options_keep f a is = go (f workers_rule) (f limit_rule) (f cells_rule) (f help_flag) is
+-- the rows of the other arguments are open
+flag_keeps : (name : Text) → ((values : List Text) → IsGood (record { id = name; values = values; count = None; source = Some CommandLine; reading = reading_by (flag_rule name) })) → Keeps Good (flag_rule name)
+flag_keeps name new again values rows good none =
+    values_keep name (reading_by (flag_rule name)) CommandLine (values_or_missing (flag_rule name) values) (without name rows) (new (values_or_missing (flag_rule name) values)) (without_keeps name rows good)
+
+file_keeps : Keeps Good file_rule
+file_keeps again values rows good none =
+    values_keep (codes "file") (reading_by file_rule) CommandLine (values_or_missing file_rule values) (without (codes "file") rows) (λ e. cc, λ e. cc, λ e. cc) (without_keeps (codes "file") rows good)
+
+pub options_keep : AllKeep Good (workers_rule ∷ limit_rule ∷ cells_rule ∷ no_net_rule ∷ stats_rule ∷ file_rule ∷ help_flag ∷ [])
+options_keep f a is = go (f workers_rule) (f limit_rule) (f cells_rule) (f no_net_rule) (f stats_rule) (f file_rule) (f help_flag) is
   where
-    go : (w x y z : Bool) → cond w (Some workers_rule) (cond x (Some limit_rule) (cond y (Some cells_rule) (cond z (Some help_flag) None))) ≡ Some a → Keeps Good a
-    go true x y z e = subst (Keeps Good) (same_Some _ _ e) (number_keeps (codes "workers") (codes "1") 1 most_workers (workers_row CommandLine))
-    go false true y z e = subst (Keeps Good) (same_Some _ _ e) (number_keeps (codes "limit") (codes "1000000") 0 most_interactions (limit_row CommandLine))
-    go false false true z e = subst (Keeps Good) (same_Some _ _ e) (number_keeps (codes "cells") (codes "65536") least_cells most_cells (cells_row CommandLine))
-    go false false false true e = subst (Keeps Good) (same_Some _ _ e) (λ again values rows good none. good)
-    go false false false false e = cc
+    go : (t u v w x y z : Bool) → cond t (Some workers_rule) (cond u (Some limit_rule) (cond v (Some cells_rule) (cond w (Some no_net_rule) (cond x (Some stats_rule) (cond y (Some file_rule) (cond z (Some help_flag) None)))))) ≡ Some a
+        → Keeps Good a
+    go true u v w x y z e = subst (Keeps Good) (same_Some _ _ e) (number_keeps (codes "workers") (codes "1") 1 most_workers (workers_row CommandLine))
+    go false true v w x y z e = subst (Keeps Good) (same_Some _ _ e) (number_keeps (codes "limit") (codes "1000000") 0 most_interactions (limit_row CommandLine))
+    go false false true w x y z e = subst (Keeps Good) (same_Some _ _ e) (number_keeps (codes "cells") (codes "65536") least_cells most_cells (cells_row CommandLine))
+    go false false false true x y z e = subst (Keeps Good) (same_Some _ _ e) (flag_keeps (codes "no-net") (λ values. (λ e. cc, λ e. cc, λ e. cc)))
+    go false false false false true y z e = subst (Keeps Good) (same_Some _ _ e) (flag_keeps (codes "stats") (λ values. (λ e. cc, λ e. cc, λ e. cc)))
+    go false false false false false true z e = subst (Keeps Good) (same_Some _ _ e) file_keeps
+    go false false false false false false true e = subst (Keeps Good) (same_Some _ _ e) (λ again values rows good none. good)
+    go false false false false false false false e = cc
 
 -- ---- the usual texts, where an option is missing
 
@@ -194,7 +220,33 @@ has_still other name usual least most rows has = go (has_row name rows)
     go true = has
     go false = has_kept other name AsWritten DefaultValue (usual ∷ []) rows has
 
--- the help flag has no usual text
+-- a flag's usual text
+flag_default_keeps : (name : Text) → IsGood (record { id = name; values = codes "false" ∷ []; count = None; source = Some DefaultValue; reading = reading_by (flag_rule name) }) → (rows : List Row) → Good rows
+    → Good (with_default rows (flag_rule name))
+flag_default_keeps name new rows good = go (has_row name rows)
+  where
+    go : (b : Bool) → Good (cond b rows (with_values name (reading_by (flag_rule name)) DefaultValue (codes "false" ∷ []) rows))
+    go true = good
+    go false = values_keep name (reading_by (flag_rule name)) DefaultValue (codes "false" ∷ []) rows new good
+
+has_beside : (other name : Text) (rows : List Row) → has_row other rows ≡ true → has_row other (with_default rows (flag_rule name)) ≡ true
+has_beside other name rows has = go (has_row name rows)
+  where
+    go : (b : Bool) → has_row other (cond b rows (with_values name (reading_by (flag_rule name)) DefaultValue (codes "false" ∷ []) rows)) ≡ true
+    go true = has
+    go false = has_kept other name (reading_by (flag_rule name)) DefaultValue (codes "false" ∷ []) rows has
+
+has_beside_flags : (other : Text) (rows : List Row) → has_row other rows ≡ true → has_row other (with_default (with_default rows no_net_rule) stats_rule) ≡ true
+has_beside_flags other rows has = has_beside other (codes "stats") (with_default rows no_net_rule) (has_beside other (codes "no-net") rows has)
+
+-- neither the file nor the help flag has one
+with_file : (rows : List Row) → with_default rows file_rule ≡ rows
+with_file rows = go (has_row (codes "file") rows)
+  where
+    go : (b : Bool) → cond b rows rows ≡ rows
+    go true = refl
+    go false = refl
+
 with_help : (rows : List Row) → with_default rows help_flag ≡ rows
 with_help rows = go (has_row (codes "help") rows)
   where
@@ -246,8 +298,12 @@ limits_asked args none =
     let limit_first = has_default (codes "limit") (codes "1000000") 0 most_interactions with_workers refl in
     let has_limit = has_still (codes "limit") (codes "cells") (codes "65536") least_cells most_cells with_limit limit_first in
     let has_cells = has_default (codes "cells") (codes "65536") least_cells most_cells with_limit refl in
-    let workers = read_number (codes "workers") 1 most_workers (λ r g. g.0) with_all good_all has_workers in
-    let limit = read_number (codes "limit") 0 most_interactions (λ r g. g.1) with_all good_all has_limit in
-    let cells = read_number (codes "cells") least_cells most_cells (λ r g. g.2) with_all good_all has_cells in
+    let with_no_net = with_default with_all no_net_rule in
+    let with_flags = with_default with_no_net stats_rule in
+    let good_no_net = flag_default_keeps (codes "no-net") (λ e. cc, λ e. cc, λ e. cc) with_all good_all in
+    let good_flags = flag_default_keeps (codes "stats") (λ e. cc, λ e. cc, λ e. cc) with_no_net good_no_net in
+    let workers = read_number (codes "workers") 1 most_workers (λ r g. g.0) with_flags good_flags (has_beside_flags (codes "workers") with_all has_workers) in
+    let limit = read_number (codes "limit") 0 most_interactions (λ r g. g.1) with_flags good_flags (has_beside_flags (codes "limit") with_all has_limit) in
+    let cells = read_number (codes "cells") least_cells most_cells (λ r g. g.2) with_flags good_flags (has_beside_flags (codes "cells") with_all has_cells) in
     let l : Limits = record { workers = workers.0; limit = limit.0; cells = cells.0; some_worker = workers.2; few_workers = workers.3; limit_in_range = limit.3; least = cells.2; most = cells.3 } in
-    (l, subst (λ (rs : List Row). HasLimits rs l) (sym (with_help with_all)) (workers.1, limit.1, cells.1))
+    (l, subst (λ (rs : List Row). HasLimits rs l) (sym (with_help (with_default with_flags file_rule) ∙ with_file with_flags)) (workers.1, limit.1, cells.1))

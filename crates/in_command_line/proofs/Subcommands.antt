@@ -9,9 +9,9 @@ use Rattle.clap.specs.declared.error.kind.ErrorKind.{ErrorKind}
 use Rattle.clap.specs.declared.parser.matches.ArgMatches.{ArgMatches}
 use Rattle.clap.specs.declared.parser.matches.ArgMatches.TheViews.{out-ArgMatches, out-SubCommand}
 use Rattle.in_limits.specs.declared.limits.Limits.{Limits}
-use Rattle.in_command_line.specs.Asking.{HasLimits, IsNamed, AreWordsRefused, IsErrorTold, Names, faults}
+use Rattle.in_command_line.specs.Asking.{HasLimits, IsNamed, IsRequested, IsRunNamed, AreWordsRefused, IsErrorTold, Names, faults}
 use Rattle.in_command_line.specs.declared.action.Action.{Action}
-use Rattle.in_command_line.specs.declared.action.Action.TheVariants.{Check, Derive, Run}
+use Rattle.in_command_line.specs.declared.action.Action.TheVariants.{Check, Derive, Run, Count}
 use Rattle.in_command_line.specs.declared.action.Usage.{Usage}
 use Rattle.in_command_line.specs.declared.action.Usage.TheVariants.{Wrong, Help, Version, Memory}
 
@@ -21,22 +21,33 @@ name_of_rows m = elim (out-ArgMatches m).subcommand as (λ o. option_map (λ b. 
   | Some b ↦ refl
 ]
 
--- a match whose subcommand is `run`, with options that give no limits, names no action
-pub run_names_none : (found : Option (Text × List Row)) (name : Text) (options : List Row) → Some name ≡ option_map (λ p. p.0) found → Some options ≡ option_map (λ p. p.1) found
-    → (name ≡ codes "check" → ⊥) → (name ≡ codes "derive" → ⊥) → ((l : Limits) → HasLimits options l → ⊥) → IsNamed found None
-run_names_none None name options is are no_check no_derive no_limits n o a given named = cc
-run_names_none (Some p) name options is are no_check no_derive no_limits n o a given named = go a named
+-- a match whose subcommand names no action asks for nothing
+pub none_requested : (found : Option (Text × List Row)) (name : Text) (options : List Row) → Some name ≡ option_map (λ p. p.0) found → Some options ≡ option_map (λ p. p.1) found
+    → IsNamed name options None → IsRequested found None
+none_requested None name options is are none n o a given named = cc
+none_requested (Some p) name options is are none n o a given named =
+    none a (subst (λ (q : Text × List Row). Names q.0 q.1 a) (sym (same_Some p (n, o) given) ∙ same) named)
   where
-    same : n ≡ name
-    same = ap (λ (q : Text × List Row). q.0) (sym (same_Some p (n, o) given)) ∙ sym (same_Some name p.0 is)
+    same : p ≡ (name, options)
+    same = λ i. (sym (same_Some name p.0 is) i, sym (same_Some options p.1 are) i)
 
-    alike : o ≡ options
-    alike = ap (λ (q : Text × List Row). q.1) (sym (same_Some p (n, o) given)) ∙ sym (same_Some options p.1 are)
+-- .. and one that names an action is found
+pub found_so : (found : Option (Text × List Row)) (name : Text) (options : List Row) → Some name ≡ option_map (λ p. p.0) found → Some options ≡ option_map (λ p. p.1) found
+    → found ≡ Some (name, options)
+found_so None name options is are = cc
+found_so (Some p) name options is are = λ i. Some (sym (same_Some name p.0 is) i, sym (same_Some options p.1 are) i)
 
-    go : (a : Action) → Names n o a → ⊥
-    go Check h = no_check (sym same ∙ h)
-    go Derive h = no_derive (sym same ∙ h)
-    go (Run l) h = no_limits l (subst (λ (rows : List Row). HasLimits rows l) alike h.1)
+-- options without limits ask for no run
+pub no_run : (options : List Row) → ((l : Limits) → HasLimits options l → ⊥) → (name : Text) → (name ≡ codes "check" → ⊥) → (name ≡ codes "derive" → ⊥) → IsNamed name options None
+no_run options none name no_check no_derive Check h = no_check h
+no_run options none name no_check no_derive Derive h = no_derive h
+no_run options none name no_check no_derive (Run l) h = none l h.1
+no_run options none name no_check no_derive (Count l) h = none l h.1
+
+-- the run that options ask for is named by `run`
+pub run_is_named : (options : List Row) (name : Text) → name ≡ codes "run" → (name ≡ codes "check" → ⊥) → (name ≡ codes "derive" → ⊥) → (r : Option Action) → IsRunNamed options r → IsNamed name options r
+run_is_named options name is no_check no_derive (Some a) named = subst (λ (n : Text). Names n options a) (sym is) named
+run_is_named options name is no_check no_derive None none = no_run options none name no_check no_derive
 
 -- an error of one of the kinds that `clap` finds in the words is told as it should be
 pub refused_so : (words : List Text) (e : Error) (u : Usage) → HasKind (faults words) e → IsErrorTold (kind_of e) u → AreWordsRefused words u

@@ -1,13 +1,16 @@
 -- What the words of a command line ask for.
-use Rattle.std.specs.Prelude.{◌≡◌, ◌≢◌, ◌<◌, ◌^◌, ℕ, List, [], Option, Some, None, codes}
+use Rattle.std.specs.Prelude.{◌≡◌, ◌≢◌, ◌<◌, ◌^◌, ℕ, Bool, true, false, List, [], Option, Some, None, codes, option_map, option_and_then, if◌then◌else◌}
+use Rattle.std.specs.Option.{option_map_or}
+use Rattle.std.specs.Str.{bytes_eq}
 use Rattle.std.specs.Str.Parse.{IsNumeral, without_leading_plus, digits_value}
-use Rattle.clap.specs.Words.{IsAmong, Kinds, Row, Text, fault_of, one_of, subcommand_of}
+use Rattle.clap.specs.Words.{IsAmong, Kinds, Row, Text, fault_of, first_of, one_of, subcommand_of}
 use Rattle.clap.specs.declared.error.kind.ErrorKind.{ErrorKind}
 use Rattle.clap.specs.declared.error.kind.ErrorKind.TheVariants.{DisplayHelp, DisplayVersion, OutOfMemory}
 use Rattle.in_limits.specs.declared.limits.Limits.{Limits}
 use Rattle.in_command_line.specs.CommandLine.{command_line}
 use Rattle.in_command_line.specs.declared.action.Action.{Action}
-use Rattle.in_command_line.specs.declared.action.Action.TheVariants.{Check, Derive, Run}
+use Rattle.in_command_line.specs.declared.action.Action.TheVariants.{Check, Derive, Run, Count}
+use Rattle.in_command_line.specs.declared.action.Request.{Request}
 use Rattle.in_command_line.specs.declared.action.Usage.{Usage}
 use Rattle.in_command_line.specs.declared.action.Usage.TheVariants.{Wrong, Help, Version, Memory}
 
@@ -27,19 +30,51 @@ IsNumber name options n = (text : Text) × (one_of name options ≡ Some text) �
 abbrev pub HasLimits : List Row → Limits → Type 0
 HasLimits options l = IsNumber (codes "workers") options l.workers × IsNumber (codes "limit") options l.limit × IsNumber (codes "cells") options l.cells
 
+-- the flag of this name stands
+abbrev pub is_set : Text → List Row → Bool
+is_set name options = option_map_or (λ text. bytes_eq text (codes "true")) (first_of name options) false
+
+-- `-` is standard input
+abbrev pub unless_input : Text → Option Text
+unless_input file = if bytes_eq file (codes "-") then None else Some file
+
+-- the file that is named, nothing where the program comes on standard input
+abbrev pub file_in : List Row → Option Text
+file_in options = option_and_then unless_input (first_of (codes "file") options)
+
+-- what is asked for: an action on a file, or on standard input, and whether figures of it are wanted
+pub record Asked : Type 0 where
+  pub action : Action
+  pub file : Option Text
+  pub stats : Bool
+
+-- an action on standard input, of which no figures are wanted
+abbrev pub on_input : Action → Asked
+on_input a = record { action = a; file = None; stats = false }
+
+-- .. and one on a file
+abbrev pub on_file_of : Text → Action → Asked
+on_file_of file a = record { action = a; file = Some file; stats = false }
+
+abbrev pub asked_of : Request → Asked
+asked_of r = record { action = r.action; file = option_map (λ s. s.now) r.file; stats = r.stats }
+
 -- a subcommand with these options asks for the action
 abbrev pub Names : Text → List Row → Action → Type 0
 Names name options Check = name ≡ codes "check"
 Names name options Derive = name ≡ codes "derive"
-Names name options (Run l) = (name ≡ codes "run") × HasLimits options l
+Names name options (Run l) = (name ≡ codes "run") × HasLimits options l × (is_set (codes "no-net") options ≡ false)
+Names name options (Count l) = (name ≡ codes "run") × HasLimits options l × (is_set (codes "no-net") options ≡ true)
 
--- the words ask for the action: `clap` finds no error in them, and gives a subcommand that names it
-pub record AsksFor (words : List Text) (a : Action) : Type 0 where
+-- the words ask for this: `clap` finds no error in them, and gives a subcommand that names it
+pub record AsksFor (words : List Text) (a : Asked) : Type 0 where
   pub name : Text
   pub options : List Row
   pub taken : faults words ≡ []
   pub given : subcommand_of command_line words ≡ Some (name, options)
-  pub named : Names name options a
+  pub named : Names name options a.action
+  pub file_is : a.file ≡ file_in options
+  pub stats_are : a.stats ≡ is_set (codes "stats") options
 
 -- the words are refused: they ask for help or for the version, or have another error; and memory may run out at any words
 abbrev pub AreWordsRefused : List Text → Usage → Type 0
@@ -67,7 +102,18 @@ abbrev pub AreGiven : List Row → Option Limits → Type 0
 AreGiven options (Some l) = HasLimits options l
 AreGiven options None = (l : Limits) → HasLimits options l → ⊥
 
--- the action that a match's subcommand names, if it names one
-abbrev pub IsNamed : Option (Text × List Row) → Option Action → Type 0
-IsNamed found (Some a) = (name : Text) × (options : List Row) × (found ≡ Some (name, options)) × Names name options a
-IsNamed found None = (name : Text) (options : List Row) (a : Action) → found ≡ Some (name, options) → Names name options a → ⊥
+-- the run that the options ask for, if they have limits
+abbrev pub IsRunNamed : List Row → Option Action → Type 0
+IsRunNamed options (Some a) = Names (codes "run") options a
+IsRunNamed options None = (l : Limits) → HasLimits options l → ⊥
+
+-- the action that a subcommand names, if it names one
+abbrev pub IsNamed : Text → List Row → Option Action → Type 0
+IsNamed name options (Some a) = Names name options a
+IsNamed name options None = (a : Action) → Names name options a → ⊥
+
+-- what a match asks for, if its subcommand names an action
+abbrev pub IsRequested : Option (Text × List Row) → Option Request → Type 0
+IsRequested found (Some r) = (name : Text) × (options : List Row) × (found ≡ Some (name, options)) × Names name options r.action
+    × (option_map (λ s. s.now) r.file ≡ file_in options) × (r.stats ≡ is_set (codes "stats") options)
+IsRequested found None = (name : Text) (options : List Row) (a : Action) → found ≡ Some (name, options) → Names name options a → ⊥

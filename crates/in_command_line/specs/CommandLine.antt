@@ -1,7 +1,7 @@
 -- The command line of the program, in the words in which `clap` reads a command.
 use Rattle.std.specs.Prelude.{ℕ, true, [], ◌∷◌, Some, codes}
 use Rattle.clap.specs.Words.{App, Rule, Text, new_app, new_rule, with_rule, with_subcommand}
-use Rattle.clap.specs.declared.builder.action.ArgAction.TheVariants.{Set}
+use Rattle.clap.specs.declared.builder.action.ArgAction.TheVariants.{Set, SetTrue}
 use Rattle.clap.specs.declared.builder.value_parser.ValueParser.TheVariants.{Unsigned}
 use Rattle.in_limits.specs.Limiting.{least_cells, most_cells, most_interactions, most_workers}
 
@@ -27,8 +27,33 @@ limit_option = number_option (codes "limit") (codes "1000000") 0 most_interactio
 abbrev pub cells_option : Rule
 cells_option = number_option (codes "cells") (codes "65536") least_cells most_cells
 
+-- the flag `--name`
+abbrev pub flag : Text → Rule
+flag name = record (new_rule name) { long = Some name; action = Some SetTrue }
+
+-- whether the net isn't printed
+abbrev pub no_net_flag : Rule
+no_net_flag = flag (codes "no-net")
+
+-- whether figures of the run are wanted
+abbrev pub stats_flag : Rule
+stats_flag = flag (codes "stats")
+
+-- the argument `FILE`, which may be missing
+abbrev pub file_argument : Rule
+file_argument = record (new_rule (codes "file")) { action = Some Set; value_names = 1 }
+
+-- a command with nothing but a file
+abbrev pub on_file : Text → App
+on_file name = with_rule (new_app name) file_argument
+
+-- `run` with its three numbers
+abbrev pub limits_command : App
+limits_command = with_rule (with_rule (with_rule (new_app (codes "run")) workers_option) limit_option) cells_option
+
+-- .. and with its flags and its file
 abbrev pub run_command : App
-run_command = with_rule (with_rule (with_rule (new_app (codes "run")) workers_option) limit_option) cells_option
+run_command = with_rule (with_rule (with_rule limits_command no_net_flag) stats_flag) file_argument
 
 abbrev pub needs_subcommand : App → App
 needs_subcommand a = record a { top = record a.top { subcommand_required = true } }
@@ -36,10 +61,10 @@ needs_subcommand a = record a { top = record a.top { subcommand_required = true 
 abbrev pub tells_version : App → App
 tells_version a = record a { top = record a.top { has_version = true } }
 
--- `inet check`, `inet derive` and `inet run` with its three options, and `inet --version`
+-- `inet check`, `inet derive` and `inet run` with its options, each with a file, and `inet --version`
 abbrev pub command_line : App
 command_line = with_subcommand (with_subcommand (with_subcommand
     (tells_version (needs_subcommand (new_app (codes "inet"))))
-    (new_app (codes "check")).top)
-    (new_app (codes "derive")).top)
+    (on_file (codes "check")).top)
+    (on_file (codes "derive")).top)
     run_command.top

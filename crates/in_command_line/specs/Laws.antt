@@ -1,33 +1,51 @@
 -- Laws over what the words of a command line ask for.
-use Rattle.std.specs.Prelude.{◌≡◌, ◌<◌, ◌⊎◌, ◌++◌, ℕ, List, [], ◌∷◌, codes}
+use Rattle.std.specs.Prelude.{◌≡◌, ◌<◌, ◌⊎◌, ◌++◌, ℕ, true, List, [], ◌∷◌, Some, None, codes}
 use Rattle.clap.specs.Words.{Text}
 use Rattle.clap.specs.declared.error.kind.ErrorKind.TheVariants.{ArgumentConflict, DisplayHelp, DisplayVersion, MissingSubcommand, UnknownArgument, ValueValidation}
 use Rattle.in_limits.specs.Limiting.{least_cells, most_cells, most_interactions, most_workers}
 use Rattle.in_limits.specs.declared.limits.Limits.{Limits}
-use Rattle.in_command_line.specs.Asking.{AsksFor, Spells, faults}
-use Rattle.in_command_line.specs.declared.action.Action.{Action}
-use Rattle.in_command_line.specs.declared.action.Action.TheVariants.{Check, Derive, Run}
+use Rattle.in_command_line.specs.Asking.{Asked, AsksFor, Spells, faults, on_file_of, on_input}
+use Rattle.in_command_line.specs.declared.action.Action.TheVariants.{Check, Derive, Run, Count}
 
--- words ask for one action at most
+-- words ask for one thing at most
 abbrev pub WordsAskForOneAction : Type 0
-WordsAskForOneAction = (words : List Text) (a b : Action) → AsksFor words a → AsksFor words b → a ≡ b
+WordsAskForOneAction = (words : List Text) (a b : Asked) → AsksFor words a → AsksFor words b → a ≡ b
 
--- words in which `clap` finds no error ask for an action
+-- words in which `clap` finds no error ask for something
 abbrev pub FaultlessWordsAsk : Type 0
-FaultlessWordsAsk = (words : List Text) → faults words ≡ [] → (a : Action) × AsksFor words a
+FaultlessWordsAsk = (words : List Text) → faults words ≡ [] → (a : Asked) × AsksFor words a
 
--- `inet check` and `inet derive` ask for those actions
+-- `inet check` and `inet derive` ask for those actions on standard input
 abbrev pub SubcommandsAsk : Type 0
-SubcommandsAsk = AsksFor (codes "inet" ∷ codes "check" ∷ []) Check × AsksFor (codes "inet" ∷ codes "derive" ∷ []) Derive
+SubcommandsAsk = AsksFor (codes "inet" ∷ codes "check" ∷ []) (on_input Check) × AsksFor (codes "inet" ∷ codes "derive" ∷ []) (on_input Derive)
 
--- `inet run` asks for a run within the usual limits, of one worker
+-- limits that are the usual ones, of one worker
+abbrev pub AreUsualLimits : Limits → Type 0
+AreUsualLimits l = (l.workers ≡ 1) × (l.limit ≡ 1000000) × (l.cells ≡ 65536)
+
+-- `inet run` asks for a run within the usual limits
 abbrev pub RunAsksForTheUsual : Type 0
-RunAsksForTheUsual = (l : Limits) → l.workers ≡ 1 → l.limit ≡ 1000000 → l.cells ≡ 65536 → AsksFor (codes "inet" ∷ codes "run" ∷ []) (Run l)
+RunAsksForTheUsual = (l : Limits) → AreUsualLimits l → AsksFor (codes "inet" ∷ codes "run" ∷ []) (on_input (Run l))
 
 -- .. and with its options for one within the limits that their texts spell
 abbrev pub RunAsksForTheGiven : Type 0
 RunAsksForTheGiven = (workers limit cells : Text) (l : Limits) → Spells workers l.workers → Spells limit l.limit → Spells cells l.cells
-    → AsksFor (codes "inet" ∷ codes "run" ∷ (codes "--workers=" ++ workers) ∷ (codes "--limit=" ++ limit) ∷ (codes "--cells=" ++ cells) ∷ []) (Run l)
+    → AsksFor (codes "inet" ∷ codes "run" ∷ (codes "--workers=" ++ workers) ∷ (codes "--limit=" ++ limit) ∷ (codes "--cells=" ++ cells) ∷ []) (on_input (Run l))
+
+-- with `--no-net` it asks for a run of which no net is printed, and with `--stats` for figures
+abbrev pub FlagsAreAsked : Type 0
+FlagsAreAsked = (l : Limits) → AreUsualLimits l
+    → AsksFor (codes "inet" ∷ codes "run" ∷ codes "--no-net" ∷ []) (on_input (Count l))
+    × AsksFor (codes "inet" ∷ codes "run" ∷ codes "--stats" ∷ []) (record { action = Run l; file = None; stats = true })
+
+-- a word after the command is the program's file, before and after options; `-` is standard input
+abbrev pub FilesAreAsked : Type 0
+FilesAreAsked = AsksFor (codes "inet" ∷ codes "check" ∷ codes "sum.inet" ∷ []) (on_file_of (codes "sum.inet") Check)
+    × AsksFor (codes "inet" ∷ codes "derive" ∷ codes "sum.inet" ∷ []) (on_file_of (codes "sum.inet") Derive)
+    × AsksFor (codes "inet" ∷ codes "check" ∷ codes "-" ∷ []) (on_input Check)
+    × ((l : Limits) → AreUsualLimits l
+    → AsksFor (codes "inet" ∷ codes "run" ∷ codes "sum.inet" ∷ codes "--no-net" ∷ []) (on_file_of (codes "sum.inet") (Count l))
+    × AsksFor (codes "inet" ∷ codes "run" ∷ codes "--no-net" ∷ codes "sum.inet" ∷ []) (on_file_of (codes "sum.inet") (Count l)))
 
 -- `-h` and `--help` ask for help, alone and with a subcommand
 abbrev pub HelpIsAsked : Type 0
@@ -43,7 +61,7 @@ VersionIsAsked = (faults (codes "inet" ∷ codes "-V" ∷ []) ≡ DisplayVersion
 -- wrong are `inet` alone, a word too many and an option that stands twice
 abbrev pub OtherWordsAreWrong : Type 0
 OtherWordsAreWrong = (faults (codes "inet" ∷ []) ≡ MissingSubcommand ∷ [])
-    × (faults (codes "inet" ∷ codes "check" ∷ codes "check" ∷ []) ≡ UnknownArgument ∷ [])
+    × (faults (codes "inet" ∷ codes "check" ∷ codes "sum.inet" ∷ codes "max.inet" ∷ []) ≡ UnknownArgument ∷ [])
     × (faults (codes "inet" ∷ codes "run" ∷ codes "--limit=1" ∷ codes "--limit=1" ∷ []) ≡ ArgumentConflict ∷ [])
 
 -- .. and a number that is out of range

@@ -1,9 +1,9 @@
-ghost use Rattle.std.specs.Prelude.{codes, ◌≡◌, IfErr, IfOk, false};
-ghost use Rattle.clap.specs.Words.{app_of, found_of, kind_of, new_app, rows_of, rule_of, subcommand_rows_of, with_subcommand};
+ghost use Rattle.std.specs.Prelude.{codes, ◌≡◌, IfErr, IfOk, false, option_map};
+ghost use Rattle.clap.specs.Words.{app_of, found_of, kind_of, new_app, rows_of, rule_of, subcommand_rows_of, with_rule, with_subcommand};
 ghost use Rattle.clap.specs.Walk.{texts};
 ghost use Rattle.clap.specs.declared.builder.command.Command.TheViews.{out-Command};
-ghost use Rattle.in_command_line.specs.Asking.{AreGiven, AsksFor, IsOptionGiven, IsNamed, AreWordsRefused, IsErrorTold};
-ghost use Rattle.in_command_line.specs.CommandLine.{cells_option, command_line, limit_option, needs_subcommand, run_command, tells_version, workers_option};
+ghost use Rattle.in_command_line.specs.Asking.{AreGiven, AsksFor, IsOptionGiven, IsNamed, IsRequested, IsRunNamed, AreWordsRefused, IsErrorTold, asked_of, file_in, is_set};
+ghost use Rattle.in_command_line.specs.CommandLine.{cells_option, command_line, file_argument, limit_option, limits_command, needs_subcommand, no_net_flag, on_file, run_command, stats_flag, tells_version, workers_option};
 
 use clap::error::ErrorKind;
 use clap::{Arg, ArgAction, ArgMatches, Command, value_parser};
@@ -20,6 +20,19 @@ pub enum Action {
     Derive,
     /// Reduces the net of an accepted program within these limits, and prints it.
     Run(Limits),
+    /// The same, and prints how many interactions there were and how it stopped, and no net.
+    Count(Limits),
+}
+
+/// What the words ask for.
+#[derive(Clone, Copy, Debug, PartialEq, Eq)]
+pub struct Request<'a> {
+    /// What is to be done.
+    pub action: Action,
+    /// The file that the program's text is in; nothing where it comes on standard input: where no file is named, or `-`.
+    pub file: Option<&'a str>,
+    /// Whether figures of the run are wanted on standard error.
+    pub stats: bool,
 }
 
 /// Why the words name no action.
@@ -47,6 +60,17 @@ impl From<AllocError> for Usage {
     fn from(_error: AllocError) -> Usage {
         Usage::Memory
     }
+}
+
+/// The argument `FILE`: the file that the program's text is in.
+fn file_argument<'a>(alloc: Global) -> Arg<'a>
+    ensures rule { rule_of result ≡ file_argument }
+    ensures local { result.global ≡ false }
+{
+    Arg::new(alloc, "file")
+        .value_name("FILE")
+        .help("The program's file; without it, or with -, the program comes on standard input")
+        .action(ArgAction::Set)
 }
 
 /// The option `--workers`: how many workers, 1 where it isn't said.
@@ -91,35 +115,93 @@ fn cells_option<'a>(alloc: Global) -> Arg<'a>
         .default_value("65536")
 }
 
-/// `run` with its options, whose bounds are those of `Limits`.
-fn run_command<'a>(alloc: Global) -> Result<Command<'a>, AllocError>
-    ensures app { IfOk result (λ c. app_of c ≡ run_command) }
+/// The flag `--no-net`: whether the net isn't printed.
+fn no_net_flag<'a>(alloc: Global) -> Arg<'a>
+    ensures rule { rule_of result ≡ no_net_flag }
+    ensures local { result.global ≡ false }
+{
+    Arg::new(alloc, "no-net")
+        .long("no-net")
+        .help("Prints no net, only how many interactions there were and why it stopped")
+        .action(ArgAction::SetTrue)
+}
+
+/// The flag `--stats`: whether figures of the run are wanted.
+fn stats_flag<'a>(alloc: Global) -> Arg<'a>
+    ensures rule { rule_of result ≡ stats_flag }
+    ensures local { result.global ≡ false }
+{
+    Arg::new(alloc, "stats")
+        .long("stats")
+        .help("Prints figures of the run on standard error")
+        .action(ArgAction::SetTrue)
+}
+
+/// `run` with its three numbers, whose bounds are those of `Limits`.
+fn limits_command<'a>(alloc: Global) -> Result<Command<'a>, AllocError>
+    ensures app { IfOk result (λ c. app_of c ≡ limits_command) }
     ensures local { IfOk result (λ c. (out-Command c).has_globals ≡ false) }
 {
     Command::new(alloc, "run")
-        .about("Reduces the net of the program on standard input, and prints it")
+        .about("Reduces a program's net, and prints it")
         .arg(workers_option(alloc))?
         .arg(limit_option(alloc))?
         .arg(cells_option(alloc))
 }
 
-/// `inet`, which tells its version, and of whose subcommands one is needed, with `check` and `derive`.
-fn command_without_run<'a>(alloc: Global) -> Result<Command<'a>, AllocError>
-    ensures { IfOk result (λ c. app_of c ≡ with_subcommand (with_subcommand (tells_version (needs_subcommand (new_app (codes "inet")))) (new_app (codes "check")).top) (new_app (codes "derive")).top) }
+/// `run` with its options and its file.
+fn run_command<'a>(alloc: Global) -> Result<Command<'a>, AllocError>
+    ensures app { IfOk result (λ c. app_of c ≡ run_command) }
+    ensures local { IfOk result (λ c. (out-Command c).has_globals ≡ false) }
 {
-    let check = Command::new(alloc, "check").about(
-        "Says whether the program on standard input is accepted",
-    );
-    let inet = Command::new(alloc, "inet")
+    limits_command(alloc)?
+        .arg(no_net_flag(alloc))?
+        .arg(stats_flag(alloc))?
+        .arg(file_argument(alloc))
+}
+
+/// A command with nothing but a file.
+fn command_on_file<'a>(
+    alloc: Global,
+    name: &'a str,
+    about: &'a str,
+) -> Result<Command<'a>, AllocError>
+    ensures app { IfOk result (λ c. app_of c ≡ on_file name.now) }
+    ensures local { IfOk result (λ c. (out-Command c).has_globals ≡ false) }
+{
+    Command::new(alloc, name)
+        .about(about)
+        .arg(file_argument(alloc))
+}
+
+/// `inet`, which tells its version, and of whose subcommands one is needed.
+fn command_alone<'a>(alloc: Global) -> Command<'a>
+    ensures { app_of result ≡ tells_version (needs_subcommand (new_app (codes "inet"))) }
+{
+    Command::new(alloc, "inet")
         .about("Checks and runs programs of interaction nets")
         .subcommand_required(true)
         // Only that there is one counts here: `Usage::Version` has no text of `clap`.
         .version("")
-        .subcommand(check)?;
-    let derive = Command::new(alloc, "derive").about(
-        "Prints the steps that build the rules and the net of the program on standard input",
-    );
-    inet.subcommand(derive)
+}
+
+/// The same with `check` and `derive`.
+fn command_without_run<'a>(alloc: Global) -> Result<Command<'a>, AllocError>
+    ensures { IfOk result (λ c. app_of c ≡ with_subcommand (with_subcommand (tells_version (needs_subcommand (new_app (codes "inet")))) (on_file (codes "check")).top) (on_file (codes "derive")).top) }
+{
+    let check = command_on_file(alloc, "check", "Says whether a program is accepted")?;
+    let inet = command_alone(alloc).subcommand(check)?;
+    match command_on_file(
+        alloc,
+        "derive",
+        "Prints the steps that build a program's rules and its net",
+    ) {
+        Ok(derive) => inet.subcommand(derive),
+        Err(error) => {
+            drop(inet);
+            Err(error)
+        }
+    }
 }
 
 /// The command line: `inet` with its subcommands `check`, `derive` and `run`, of which one is needed.
@@ -136,23 +218,19 @@ fn command<'a>(alloc: Global) -> Result<Command<'a>, AllocError>
     }
 }
 
-/// The command and the file in these words, where the last word is a file's name and the program was to be read from there.
-fn file_in<'a>(kind: ErrorKind, words: &[&'a str]) -> Option<(&'a str, &'a str)> {
-    let (file, before) = words.split_last()?;
-    match kind {
-        ErrorKind::UnknownArgument if !file.starts_with('-') => {
-            Some((before.get(1).copied()?, *file))
-        }
-        ErrorKind::InvalidSubcommand if file.ends_with(".inet") => Some(("run", *file)),
+/// The file's name that stands where a command should.
+fn file_for_command<'a>(kind: ErrorKind, words: &[&'a str]) -> Option<&'a str> {
+    match (kind, words) {
+        (ErrorKind::InvalidSubcommand, [_, file]) if file.ends_with(".inet") => Some(*file),
         _ => None,
     }
 }
 
-/// What `clap` says of an error; and where the program comes from, where a file's name is among the words.
+/// What `clap` says of an error; and a command that is right, where a file's name stands in its place.
 fn text_of(alloc: Global, error: &clap::Error, words: &[&str]) -> Result<String, AllocError> {
-    match file_in(error.kind(), words) {
-        Some((command, file)) => format!(in alloc;
-            "{error}\nThe program comes on standard input: inet {command} < {file}\n"
+    match file_for_command(error.kind(), words) {
+        Some(file) => format!(in alloc;
+            "{error}\nA command comes before the file: inet run {file}\n"
         ),
         None => format!(in alloc; "{error}"),
     }
@@ -194,32 +272,76 @@ fn limits_of(options: &ArgMatches) -> Option<Limits>
     Limits::new(workers, limit, cells)
 }
 
-/// The action that a match names, nothing where it names none.
-fn action_named(matches: &ArgMatches) -> Option<Action>
-    ensures { IsNamed (subcommand_rows_of matches.now) result }
+/// Whether a flag stands.
+fn is_set(options: &ArgMatches, name: &str) -> bool
+    ensures { result ≡ is_set name.now (rows_of (found_of options.now)) }
 {
-    let (name, options) = matches.subcommand()?;
+    match options.get_str(name) {
+        Some(text) => text == "true",
+        None => false,
+    }
+}
+
+/// The file that is named, nothing where it is standard input.
+fn file_in<'a>(options: &ArgMatches<'a>) -> Option<&'a str>
+    ensures { option_map (λ s. s.now) result ≡ file_in (rows_of (found_of options.now)) }
+{
+    match options.get_str("file") {
+        Some(file) => { if file == "-" { None } else { Some(file) } }
+        None => None,
+    }
+}
+
+/// The run that options ask for, nothing where they have no limits.
+fn run_named(options: &ArgMatches) -> Option<Action>
+    ensures { IsRunNamed (rows_of (found_of options.now)) result }
+{
+    let limits = limits_of(options)?;
+    if is_set(options, "no-net") {
+        Some(Action::Count(limits))
+    } else {
+        Some(Action::Run(limits))
+    }
+}
+
+/// The action that a subcommand names, nothing where it names none.
+fn action_named(name: &str, options: &ArgMatches) -> Option<Action>
+    ensures { IsNamed name.now (rows_of (found_of options.now)) result }
+{
     match name {
         "check" => Some(Action::Check),
         "derive" => Some(Action::Derive),
-        "run" => Some(Action::Run(limits_of(options)?)),
+        "run" => run_named(options),
         _ => None,
     }
 }
 
+/// What a match asks for, nothing where it names no action.
+fn request_in<'a>(matches: &ArgMatches<'a>) -> Option<Request<'a>>
+    ensures { IsRequested (subcommand_rows_of matches.now) result }
+{
+    let (name, options) = matches.subcommand()?;
+    let action = action_named(name, options)?;
+    Some(Request {
+        action,
+        file: file_in(options),
+        stats: is_set(options, "stats"),
+    })
+}
+
 /// What the words ask for; the first is the program's name. That is the subcommand which `clap` gives for them, with the numbers of the
-/// texts of its options, or the usual ones where an option is missing.
+/// texts of its options, or the usual ones where an option is missing; the file that is named, if it isn't `-`; and whether the flags stand.
 ///
-/// Refused with the text of `clap` where it finds an error in the words, and a line more where one of them is a file's name: as `Help` where
+/// Refused with the text of `clap` where it finds an error in the words, and a line more where a file's name stands for the command: as `Help` where
 /// `-h`, `--help` or `help` stands, as `Version` where `-V` or `--version` does, and else as `Wrong`, as where they name no command, have more than one needs, or give a number that is
 /// out of range. Refused as `Memory` when out of memory.
-pub fn action_of(alloc: Global, words: &[&str]) -> Result<Action, Usage>
-    ensures ok { IfOk result (AsksFor (texts words.now)) }
+pub fn action_of<'a>(alloc: Global, words: &'a [&'a str]) -> Result<Request<'a>, Usage>
+    ensures ok { IfOk result (λ r. AsksFor (texts words.now) (asked_of r)) }
     ensures err { IfErr result (AreWordsRefused (texts words.now)) }
 {
     match command(alloc)?.try_get_matches_from(words) {
-        Ok(matches) => match action_named(&matches) {
-            Some(action) => Ok(action),
+        Ok(matches) => match request_in(&matches) {
+            Some(request) => Ok(request),
             // Words in which `clap` finds no error ask for an action: see `laws`.
             None => unreachable!(),
         },

@@ -7,4 +7,4 @@
 mod action;
 pub mod laws;
 
-pub use action::{Action, Usage, action_of};
+pub use action::{Action, Request, Usage, action_of};

@@ -20,13 +20,14 @@ use Rattle.in_run.specs.declared.stops.Stop.TheVariants.{Normal, Limit, Full}
 use Rattle.in_reducer.specs.Machines.{MachineParts}
 use Rattle.in_print.specs.Devices.{Moves}
 use Rattle.in_machine.specs.Texts.{text_of}
+use Rattle.in_run.specs.Outcomes.{RunsTo}
 use Rattle.in_run.proofs.Public.{normal_outcomes_are_one}
 use Rattle.in_command_line.specs.declared.action.Action.{Action}
-use Rattle.in_command_line.specs.declared.action.Action.TheVariants.{Check, Derive, Run}
+use Rattle.in_command_line.specs.declared.action.Action.TheVariants.{Check, Derive, Run, Count}
 use Rattle.in_program.specs.declared.acting.Status.{Status}
-use Rattle.in_program.specs.Acting.{Acts, told, unread, unwritten, Says, IsReply, IsOfEachEnd, IsReport, IsFinding, counted, derived, ran, full, Report, accepted, refused, lines_of, status_of, status, stop_status}
+use Rattle.in_program.specs.Acting.{Acts, told, unread, unwritten, Says, IsReply, IsOfEachEnd, IsReport, IsFinding, counted, derived, ran, stopped, full, Report, accepted, refused, lines_of, status_of, status, stop_status}
 use Rattle.in_program.specs.Lines.{run_lines}
-use Rattle.in_program.specs.Laws.{CallsAreAnsweredOnce, IsAnswered, Moved, NormalCallsAreOne, NormalLinesAreOne}
+use Rattle.in_program.specs.Laws.{CallsAreAnsweredOnce, IsAnswered, Moved, NormalCallsAreOne, NormalCountCallsAreOne, NormalCountsAreOne, NormalLinesAreOne}
 use Rattle.in_program.proofs.OneReply.{answered_once}
 
 -- two programs of one text have one end
@@ -46,41 +47,63 @@ ends_kept p q k written h e = record {
       ∙ ap (λ n. text (signature_of q.tables) (words_in (record { tables = q.tables; rules = p.rules; net = n; numbers = p.numbers; rule_certificates = p.rule_certificates; net_certificate = p.net_certificate })) nat_eq e.net (length e.agents) []) h.net;
 }
 
--- what a reply with status 0 is of
-record IsNormal (l : Limits) (input lines : List ℕ) : Type 0 where
+-- what a reply with status 0 is of; its lines begin with what is shown of the net's text
+record IsNormal (shown : List ℕ → List ℕ) (input lines : List ℕ) : Type 0 where
   program : Program
   valid : IsAccepted input program
   count : ℕ
   written : List ℕ
   once : EndsOnce program count written
-  lines_are : lines ≡ written ++ run_lines count Normal
+  lines_are : lines ≡ shown written ++ run_lines count Normal
 
-ended : (l : Limits) (input : List ℕ) (q : Program) → IsAccepted input q → (m : MachineParts) (k : ℕ) → IsFinding (Run l) q (ran m k Normal) → EndsOnce q k (text_of m)
-ended l input q valid m k runs =
-    let o : Outcome = record { machine = m; interactions = k; stop = Normal } in normal_outcomes_are_one input q l o valid runs refl
+abbrev all_shown : List ℕ → List ℕ
+all_shown t = t
 
-normal : (l : Limits) (input lines : List ℕ) (s : Status) (r : Report) → IsReport (Run l) input r → lines ≡ lines_of input r → s ≡ status_of r → s ≡ status 0 → IsNormal l input lines
+abbrev none_shown : List ℕ → List ℕ
+none_shown t = []
+
+module _ (shown : List ℕ → List ℕ) (l : Limits) (input lines : List ℕ) where
+  after_run : (q : Program) (m : MachineParts) (k : ℕ) (s : Stop) → IsAccepted input q → RunsTo q l (Ok (record { machine = m; interactions = k; stop = s })) → lines ≡ shown (text_of m) ++ run_lines k s → status 0 ≡ stop_status s
+      → IsNormal shown input lines
+  after_run q m k Normal valid h e is =
+      let o : Outcome = record { machine = m; interactions = k; stop = Normal } in
+      record { program = q; valid = valid; count = k; written = text_of m; once = normal_outcomes_are_one input q l o valid h refl; lines_are = e }
+  after_run q m k Limit valid h e is = absurd (let z : 0 ≡ 3 = ap (λ s. s.0) is in cc)
+  after_run q m k (Full c need free) valid h e is = absurd (let z : 0 ≡ 4 = ap (λ s. s.0) is in cc)
+
+normal : (l : Limits) (input lines : List ℕ) (s : Status) (r : Report) → IsReport (Run l) input r → lines ≡ lines_of input r → s ≡ status_of r → s ≡ status 0 → IsNormal all_shown input lines
 normal l input lines s r so e is zero = go r so e (sym zero ∙ is)
   where
-    stopped : (q : Program) (m : MachineParts) (k : ℕ) (s : Stop) → IsAccepted input q → IsFinding (Run l) q (ran m k s) → lines ≡ text_of m ++ run_lines k s → status 0 ≡ stop_status s → IsNormal l input lines
-    stopped q m k Normal valid h e is = record { program = q; valid = valid; count = k; written = text_of m; once = ended l input q valid m k h; lines_are = e }
-    stopped q m k Limit valid h e is = absurd (let z : 0 ≡ 3 = ap (λ s. s.0) is in cc)
-    stopped q m k (Full c need free) valid h e is = absurd (let z : 0 ≡ 4 = ap (λ s. s.0) is in cc)
-
-    go : (r : Report) → IsReport (Run l) input r → lines ≡ lines_of input r → status 0 ≡ status_of r → IsNormal l input lines
-    go (accepted q (ran m k s)) h e is = stopped q m k s h.0 h.1 e is
+    go : (r : Report) → IsReport (Run l) input r → lines ≡ lines_of input r → status 0 ≡ status_of r → IsNormal all_shown input lines
+    go (accepted q (ran m k s)) h e is = after_run all_shown l input lines q m k s h.0 h.1 e is
     go (accepted q (full c need free)) h e is = absurd (let z : 0 ≡ 4 = ap (λ s. s.0) is in cc)
     go (accepted q counted) h e is = elim h.1 [ ]
     go (accepted q derived) h e is = elim h.1 [ ]
+    go (accepted q (stopped m k s)) h e is = elim h.1 [ ]
     go (refused r) h e is = absurd (let z : 0 ≡ 1 = ap (λ s. s.0) is in cc)
+
+normal_count : (l : Limits) (input lines : List ℕ) (s : Status) (r : Report) → IsReport (Count l) input r → lines ≡ lines_of input r → s ≡ status_of r → s ≡ status 0 → IsNormal none_shown input lines
+normal_count l input lines s r so e is zero = go r so e (sym zero ∙ is)
+  where
+    go : (r : Report) → IsReport (Count l) input r → lines ≡ lines_of input r → status 0 ≡ status_of r → IsNormal none_shown input lines
+    go (accepted q (stopped m k s)) h e is = after_run none_shown l input lines q m k s h.0 h.1 e is
+    go (accepted q (full c need free)) h e is = absurd (let z : 0 ≡ 4 = ap (λ s. s.0) is in cc)
+    go (accepted q counted) h e is = elim h.1 [ ]
+    go (accepted q derived) h e is = elim h.1 [ ]
+    go (accepted q (ran m k s)) h e is = elim h.1 [ ]
+    go (refused r) h e is = absurd (let z : 0 ≡ 1 = ap (λ s. s.0) is in cc)
+
+-- each end of the program gives these lines
+one_normal : (shown : List ℕ → List ℕ) (input lines : List ℕ) → IsNormal shown input lines → (p : Program) → IsAccepted input p → (k : ℕ) (written : List ℕ) → Ends p k written → lines ≡ shown written ++ run_lines k Normal
+one_normal shown input lines n p valid k written ends =
+    let one = n.once.1 k written (ends_kept p n.program k written (checked_once input (Ok p) (Ok n.program) valid n.valid) ends) in
+    n.lines_are ∙ (λ i. shown (one.1 i) ++ run_lines (one.0 i) Normal)
 
 of_each_end : (a : Action) (input lines : List ℕ) (s : Status) (r : Report) → IsReport a input r → lines ≡ lines_of input r → s ≡ status_of r → IsOfEachEnd a input lines s
 of_each_end Check input lines s r so e is = tt
 of_each_end Derive input lines s r so e is = tt
-of_each_end (Run l) input lines s r so e is = λ zero p valid k written ends.
-    (let n = normal l input lines s r so e is zero in
-    let one = n.once.1 k written (ends_kept p n.program k written (checked_once input (Ok p) (Ok n.program) valid n.valid) ends) in
-    n.lines_are ∙ (λ i. one.1 i ++ run_lines (one.0 i) Normal))
+of_each_end (Run l) input lines s r so e is = λ zero. one_normal all_shown input lines (normal l input lines s r so e is zero)
+of_each_end (Count l) input lines s r so e is = λ zero. one_normal none_shown input lines (normal_count l input lines s r so e is zero)
 
 -- what is said of a text is a reply
 pub replied : (a : Action) (input lines : List ℕ) (s : Status) (r : Report) → IsReport a input r → lines ≡ lines_of input r → s ≡ status_of r → IsReply a input lines s
@@ -90,6 +113,11 @@ replied a input lines s r so e is = record { report = r; so = so; lines_are = e;
 pub normal_lines_are_one : NormalLinesAreOne
 normal_lines_are_one l m input lines more one other =
     let n = normal m input more (status 0) other.report other.so other.lines_are other.status_is refl in
+    one.any_order refl n.program n.valid n.count n.written n.once.0 ∙ sym n.lines_are
+
+pub normal_counts_are_one : NormalCountsAreOne
+normal_counts_are_one l m input lines more one other =
+    let n = normal_count m input more (status 0) other.report other.so other.lines_are other.status_is refl in
     one.any_order refl n.program n.valid n.count n.written n.once.0 ∙ sym n.lines_are
 
 -- ---- calls
@@ -120,6 +148,12 @@ normal_calls_are_one l m input lines more r r' u u' w w' v v' one given taken ot
     normal_lines_are_one l m input lines more
     (reply_of (Run l) r r' w w' input lines (status 0) one normal_is_answered given taken)
     (reply_of (Run m) u u' v v' input more (status 0) other normal_is_answered gives takes)
+
+pub normal_count_calls_are_one : NormalCountCallsAreOne
+normal_count_calls_are_one l m input lines more r r' u u' w w' v v' one given taken other gives takes =
+    normal_counts_are_one l m input lines more
+    (reply_of (Count l) r r' w w' input lines (status 0) one normal_is_answered given taken)
+    (reply_of (Count m) u u' v v' input more (status 0) other normal_is_answered gives takes)
 
 pub calls_answered_once : CallsAreAnsweredOnce
 calls_answered_once a input lines more s t r r' u u' w w' v v' turns one answered given taken other answers gives takes =

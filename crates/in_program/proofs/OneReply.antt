@@ -5,13 +5,15 @@ use Rattle.in_symbols.specs.Tables.{Tables}
 use Rattle.in_net.specs.Parts.{Parts}
 use Rattle.in_net.specs.Rules.{RuleParts}
 use Rattle.in_command_line.specs.declared.action.Action.{Action}
-use Rattle.in_command_line.specs.declared.action.Action.TheVariants.{Check, Derive, Run}
+use Rattle.in_command_line.specs.declared.action.Action.TheVariants.{Check, Derive, Run, Count}
+use Rattle.in_limits.specs.declared.limits.Limits.{Limits}
+use Rattle.in_machine.specs.Starts.{DoesNotFit}
 use Rattle.in_check.specs.declared.checked.Certificate.{Certificate}
 use Rattle.in_check.specs.declared.checked.Counts.{Counts}
 use Rattle.in_check.specs.Laws.{AreOneProgram}
 use Rattle.in_check.specs.Programs.{Program, counts_of}
 use Rattle.in_check.proofs.Public.{checked_once}
-use Rattle.in_program.specs.Acting.{Finding, counted, derived, ran, full, IsFinding, finding_lines, finding_status, stop_status, Report, accepted, refused, IsReport, lines_of, status_of}
+use Rattle.in_program.specs.Acting.{Finding, counted, derived, ran, stopped, full, IsFinding, finding_lines, finding_status, stop_status, Report, accepted, refused, IsReport, lines_of, status_of}
 use Rattle.in_program.specs.Laws.{TakesTurns, TextsAreAnsweredOnce}
 use Rattle.in_arena.specs.declared.content.CellClass.{CellClass}
 use Rattle.in_check.specs.Checking.{IsAccepted}
@@ -37,6 +39,14 @@ steps_alike p q h =
 turned : (p q : Program) → AreOneProgram p q → AreOneProgram q p
 turned p q h = record { tables = sym h.tables; rules = sym h.rules; net = sym h.net; numbers = λ c d. sym (h.numbers c d); rule_certificates = sym h.rule_certificates; net_certificate = sym h.net_certificate }
 
+-- a net that doesn't fit is told in one way
+one_full : (p q : Program) (l : Limits) (c d : CellClass) (need free more less : ℕ) → AreOneProgram p q → DoesNotFit p l.cells c need free → DoesNotFit q l.cells d more less → start_line c need free ≡ start_line d more less
+one_full p q l c d need free more less same (short, is, all) (shorter, are, each) =
+    let needs : (e : CellClass) → agents_of q.tables e q.net.cells ≡ agents_of p.tables e p.net.cells = λ e. sym (same_agents p q same e) in
+    let class : c ≡ d = one_short (λ e. agents_of p.tables e p.net.cells) (λ e. l.cells) c d short (short_needed (λ e. agents_of q.tables e q.net.cells) (λ e. agents_of p.tables e p.net.cells) (λ e. l.cells) d needs shorter) in
+    let need_is : need ≡ more = is ∙ same_agents p q same c ∙ ap (λ (e : CellClass). agents_of q.tables e q.net.cells) class ∙ sym are in
+    (λ i. start_line (class i) (need_is i) ((all ∙ sym each) i))
+
 one_finding : (text : List ℕ) (a : Action) (p q : Program) (x y : Finding) → AreOneProgram p q → IsAccepted text q → TakesTurns a → IsFinding a p x → IsFinding a q y → (finding_lines p x ≡ finding_lines q y) × (finding_status x ≡ finding_status y)
 one_finding text Check p q counted counted same valid turns h k = (ap accepted_line (counts_alike p q same), refl)
 one_finding text Derive p q derived derived same valid turns h k = (steps_alike p q same, refl)
@@ -47,22 +57,30 @@ one_finding text (Run l) p q (ran n j s) (ran r k t) same valid turns h g =
     ((λ i. one.0 i ++ run_lines (one.1 i) (one.2 i)), ap stop_status one.2)
 one_finding text (Run l) p q (ran n j s) (full c need free) same valid turns h g = absurd (starts_or_not p q same l.cells h.0.0.start.0 c need free h.0.0.start.1 g)
 one_finding text (Run l) p q (full c need free) (ran r k t) same valid turns h g = absurd (starts_or_not q p (turned p q same) l.cells g.0.0.start.0 c need free g.0.0.start.1 h)
-one_finding text (Run l) p q (full c need free) (full d more less) same valid turns (short, is, all) (shorter, are, each) =
-    let needs : (e : CellClass) → agents_of q.tables e q.net.cells ≡ agents_of p.tables e p.net.cells = λ e. sym (same_agents p q same e) in
-    let class : c ≡ d = one_short (λ e. agents_of p.tables e p.net.cells) (λ e. l.cells) c d short (short_needed (λ e. agents_of q.tables e q.net.cells) (λ e. agents_of p.tables e p.net.cells) (λ e. l.cells) d needs shorter) in
-    let need_is : need ≡ more = is ∙ same_agents p q same c ∙ ap (λ (e : CellClass). agents_of q.tables e q.net.cells) class ∙ sym are in
-    ((λ i. start_line (class i) (need_is i) ((all ∙ sym each) i)), refl)
+one_finding text (Run l) p q (full c need free) (full d more less) same valid turns h g = (one_full p q l c d need free more less same h g, refl)
+one_finding text (Count l) p q (stopped n j s) (stopped r k t) same valid turns h g =
+    let x = h.1 turns in
+    let y = g.1 turns in
+    let one = one_run text p q l x.0 n y.0 r j k s t same valid x.1 x.2 y.1 y.2 in
+    ((λ i. run_lines (one.1 i) (one.2 i)), ap stop_status one.2)
+one_finding text (Count l) p q (stopped n j s) (full c need free) same valid turns h g = absurd (starts_or_not p q same l.cells h.0.0.start.0 c need free h.0.0.start.1 g)
+one_finding text (Count l) p q (full c need free) (stopped r k t) same valid turns h g = absurd (starts_or_not q p (turned p q same) l.cells g.0.0.start.0 c need free g.0.0.start.1 h)
+one_finding text (Count l) p q (full c need free) (full d more less) same valid turns h g = (one_full p q l c d need free more less same h g, refl)
 one_finding text Check p q counted derived same valid turns h k = elim k [ ]
 one_finding text Check p q counted (ran r _ t) same valid turns h k = elim k [ ]
+one_finding text Check p q counted (stopped r _ t) same valid turns h k = elim k [ ]
 one_finding text Check p q counted (full c need free) same valid turns h k = elim k [ ]
 one_finding text Check p q derived y same valid turns h k = elim h [ ]
 one_finding text Check p q (ran n j s) y same valid turns h k = elim h [ ]
+one_finding text Check p q (stopped n j s) y same valid turns h k = elim h [ ]
 one_finding text Check p q (full c need free) y same valid turns h k = elim h [ ]
 one_finding text Derive p q counted y same valid turns h k = elim h [ ]
 one_finding text Derive p q derived counted same valid turns h k = elim k [ ]
 one_finding text Derive p q derived (ran r _ t) same valid turns h k = elim k [ ]
+one_finding text Derive p q derived (stopped r _ t) same valid turns h k = elim k [ ]
 one_finding text Derive p q derived (full c need free) same valid turns h k = elim k [ ]
 one_finding text Derive p q (ran n j s) y same valid turns h k = elim h [ ]
+one_finding text Derive p q (stopped n j s) y same valid turns h k = elim h [ ]
 one_finding text Derive p q (full c need free) y same valid turns h k = elim h [ ]
 one_finding text (Run l) p q counted y same valid turns h g = elim h [ ]
 one_finding text (Run l) p q derived y same valid turns h g = elim h [ ]
@@ -70,6 +88,18 @@ one_finding text (Run l) p q (ran n j s) counted same valid turns h g = elim g [
 one_finding text (Run l) p q (ran n j s) derived same valid turns h g = elim g [ ]
 one_finding text (Run l) p q (full c need free) counted same valid turns h g = elim g [ ]
 one_finding text (Run l) p q (full c need free) derived same valid turns h g = elim g [ ]
+one_finding text (Run l) p q (stopped n j s) y same valid turns h g = elim h [ ]
+one_finding text (Run l) p q (ran n j s) (stopped r k t) same valid turns h g = elim g [ ]
+one_finding text (Run l) p q (full c need free) (stopped r k t) same valid turns h g = elim g [ ]
+one_finding text (Count l) p q counted y same valid turns h g = elim h [ ]
+one_finding text (Count l) p q derived y same valid turns h g = elim h [ ]
+one_finding text (Count l) p q (ran n j s) y same valid turns h g = elim h [ ]
+one_finding text (Count l) p q (stopped n j s) counted same valid turns h g = elim g [ ]
+one_finding text (Count l) p q (stopped n j s) derived same valid turns h g = elim g [ ]
+one_finding text (Count l) p q (stopped n j s) (ran r k t) same valid turns h g = elim g [ ]
+one_finding text (Count l) p q (full c need free) counted same valid turns h g = elim g [ ]
+one_finding text (Count l) p q (full c need free) derived same valid turns h g = elim g [ ]
+one_finding text (Count l) p q (full c need free) (ran r k t) same valid turns h g = elim g [ ]
 
 one_report : (a : Action) (text : List ℕ) (x y : Report) → TakesTurns a → IsReport a text x → IsReport a text y → (lines_of text x ≡ lines_of text y) × (status_of x ≡ status_of y)
 one_report a text (accepted p f) (accepted q g) turns h k = one_finding text a p q f g (checked_once text (Ok p) (Ok q) h.0 k.0) k.0 turns h.1 k.1

@@ -1,9 +1,10 @@
 -- What the program does: the lines that it writes on the text that it reads, and its status.
-use Rattle.std.specs.Prelude.{◌≡◌, ◌⊎◌, ◌++◌, ℕ, Bool, true, false, List, Ok, string_bytes}
+use Rattle.std.specs.Prelude.{◌≡◌, ◌⊎◌, ◌++◌, ℕ, Bool, true, false, List, [], Ok, string_bytes}
 use Rattle.in_syntax.specs.Streams.{Device, Reader}
 use Rattle.in_syntax.specs.declared.faults.Refusal.{Refusal}
 use Rattle.in_command_line.specs.declared.action.Action.{Action}
-use Rattle.in_command_line.specs.declared.action.Action.TheVariants.{Check, Derive, Run}
+use Rattle.in_command_line.specs.declared.action.Action.TheVariants.{Check, Derive, Run, Count}
+use Rattle.in_limits.specs.declared.limits.Limits.{Limits}
 use Rattle.in_command_line.specs.declared.action.Usage.{Usage}
 use Rattle.in_command_line.specs.declared.action.Usage.TheVariants.{Wrong, Help, Version, Memory}
 use Rattle.in_program.specs.declared.acting.Status.{Status}
@@ -34,11 +35,12 @@ abbrev pub memory_status : Status
 memory_status = status 5
 
 -- what is found of an accepted program: what it has; the steps that build it; to which machine its net's run comes, by how many
--- interactions, and how it stops; or that its net doesn't fit the cells
+-- interactions, and how it stops; the same, of which the net isn't shown; or that its net doesn't fit the cells
 pub data Finding : Type 0 where
   counted : Finding
   derived : Finding
   ran : MachineParts → ℕ → Stop → Finding
+  stopped : MachineParts → ℕ → Stop → Finding
   full : CellClass → ℕ → ℕ → Finding
 
 -- it is what this action asks for, and it is so
@@ -47,13 +49,16 @@ IsFinding Check p counted = Unit {0}
 IsFinding Derive p derived = Unit {0}
 IsFinding (Run l) p (ran m k s) = RunsTo p l (Ok (record { machine = m; interactions = k; stop = s }))
 IsFinding (Run l) p (full c need free) = DoesNotFit p l.cells c need free
+IsFinding (Count l) p (stopped m k s) = RunsTo p l (Ok (record { machine = m; interactions = k; stop = s }))
+IsFinding (Count l) p (full c need free) = DoesNotFit p l.cells c need free
 IsFinding _ p _ = ⊥
 
--- its lines: for a run the net, and then the count and the stop
+-- its lines: for a run the net, where it is shown, and then the count and the stop
 abbrev pub finding_lines : Program → Finding → List ℕ
 finding_lines p counted = accepted_line (counts_of p)
 finding_lines p derived = derivation_lines p
 finding_lines p (ran m k s) = text_of m ++ run_lines k s
+finding_lines p (stopped m k s) = run_lines k s
 finding_lines p (full c need free) = start_line c need free
 
 abbrev pub stop_status : Stop → Status
@@ -65,6 +70,7 @@ abbrev pub finding_status : Finding → Status
 finding_status counted = status 0
 finding_status derived = status 0
 finding_status (ran m k s) = stop_status s
+finding_status (stopped m k s) = stop_status s
 finding_status (full c need free) = status 4
 
 -- what the program says of a text
@@ -89,6 +95,7 @@ status_of (refused r) = status 1
 -- its count
 abbrev pub IsOfEachEnd : Action → List ℕ → List ℕ → Status → Type 0
 IsOfEachEnd (Run l) text lines s = s ≡ status 0 → (p : Program) → IsAccepted text p → (k : ℕ) (written : List ℕ) → Ends p k written → lines ≡ written ++ run_lines k Normal
+IsOfEachEnd (Count l) text lines s = s ≡ status 0 → (p : Program) → IsAccepted text p → (k : ℕ) (written : List ℕ) → Ends p k written → lines ≡ run_lines k Normal
 IsOfEachEnd a text lines s = Unit {0}
 
 -- the lines and the status are those of what is said of the text
@@ -111,6 +118,11 @@ Says a ended text lines s = (IsEnoughText ended text × IsReply a text lines s) 
 abbrev pub report_action : Bool → Action
 report_action true = Derive
 report_action false = Check
+
+-- a run whose net is shown, or isn't
+abbrev pub run_action : Bool → Limits → Action
+run_action true l = Run l
+run_action false l = Count l
 
 -- what a call for this action did, from a reader r and a writer w to what they are after it
 pub data Acts (a : Action) (r r' : Reader) (w w' : Device) (s : Status) : Type 0 where
@@ -146,3 +158,8 @@ AreThese these this lines s = (lines ≡ these) × (s ≡ this)
 -- those of what is found of a program
 abbrev pub AreFound : Action → Program → List ℕ → Status → Type 0
 AreFound a p lines s = (f : Finding) × IsFinding a p f × (lines ≡ finding_lines p f) × (s ≡ finding_status f)
+
+-- the net's text, where it is shown
+abbrev pub net_shown : Bool → List ℕ → List ℕ
+net_shown true t = t
+net_shown false t = []

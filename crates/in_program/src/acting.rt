@@ -1,13 +1,12 @@
 ghost use Rattle.std.specs.Prelude.{ℕ, ◌≡◌, ◌-◌, ◌^◌, ◌<◌, ◌++◌, IfOk, OnErr};
 ghost use Rattle.in_machine.specs.Texts.{text_of};
-ghost use Rattle.in_program.specs.Acting.{Acts, IsReply, Tells, TellsOne, TellsUsage, memory_status, AreFound, AreThese, report_action, status, stop_status};
+ghost use Rattle.in_program.specs.Acting.{Acts, IsReply, Tells, TellsOne, TellsUsage, memory_status, AreFound, AreThese, net_shown, report_action, run_action, status, stop_status};
 ghost use Rattle.in_program.specs.Lines.{memory_line, refused_line, run_lines, start_line};
 ghost use Rattle.in_arena.specs.declared.content.CellClass.{CellClass};
 ghost use Rattle.in_run.specs.declared.running.RunFault.TheVariants.{Start};
 ghost use Rattle.in_machine.specs.declared.starting.StartFault.TheVariants.{Full};
 ghost use Rattle.in_syntax.specs.declared.faults.Fault.TheVariants.{Refused};
 ghost use Rattle.in_syntax.specs.declared.faults.Refusal.{Refusal};
-ghost use Rattle.in_command_line.specs.declared.action.Action.TheVariants.{Run};
 
 use crate::lines::{accepted_line, refused_line};
 use crate::reading::{Input, read_text};
@@ -16,7 +15,7 @@ use crate::steps::derivation_lines;
 use in_check::{Checked, check};
 use in_command_line::{Action, Usage};
 use in_print::{PrintFault, write_all, write_net};
-use in_run::{Limits, Machine, NoGate, Outcome, RunFault, StartFault, Stop, run};
+use in_run::{Limits, Machine, NoWatch, Outcome, RunFault, StartFault, Stop, Watch, run_watched};
 use in_syntax::{Fault, TextIn, TextOut};
 use std::alloc::{AllocError, Global};
 use std::sync::Wait;
@@ -116,6 +115,18 @@ pub(crate) fn tell_outcome<W: TextOut>(alloc: Global, writer: &mut W, outcome: &
     }
 }
 
+/// Writes how many interactions a run did, and how it stopped.
+fn tell_count<W: TextOut>(alloc: Global, writer: &mut W, outcome: &Outcome) -> Status
+    requires { (W.device writer.old).failures < 2 ^ 64 - 1 }
+    ensures { TellsOne (AreThese (run_lines outcome.now.interactions outcome.now.stop) (stop_status outcome.now.stop)) (W.device writer.old) (W.device writer.new) result }
+{
+    tell_lines(
+        writer,
+        run_lines(alloc, outcome.interactions, outcome.stop),
+        stop_status(outcome.stop),
+    )
+}
+
 /// Writes that a net doesn't fit the cells, or that memory ran out.
 fn tell_run_fault<W: TextOut>(alloc: Global, writer: &mut W, fault: &RunFault) -> Status
     requires { (W.device writer.old).failures < 2 ^ 64 - 1 }
@@ -130,20 +141,35 @@ fn tell_run_fault<W: TextOut>(alloc: Global, writer: &mut W, fault: &RunFault) -
     }
 }
 
+/// Writes what a run came to, with its net or without.
+fn tell_end<W: TextOut>(alloc: Global, writer: &mut W, net: bool, outcome: &Outcome) -> Status
+    requires { (W.device writer.old).failures < 2 ^ 64 - 1 }
+    ensures { TellsOne (AreThese (net_shown net (text_of outcome.now.machine) ++ run_lines outcome.now.interactions outcome.now.stop) (stop_status outcome.now.stop))
+        (W.device writer.old) (W.device writer.new) result }
+{
+    if net {
+        tell_outcome(alloc, writer, outcome)
+    } else {
+        tell_count(alloc, writer, outcome)
+    }
+}
+
 /// Runs an accepted program, and writes what its run came to, or that its net doesn't fit.
-fn tell_run<T: Threads + Wait, W: TextOut>(
+fn tell_run<T: Threads, W: TextOut, H: Watch>(
     rt: &T,
     alloc: Global,
     writer: &mut W,
     checked: &Checked,
+    net: bool,
     limits: Limits,
+    watch: &mut H,
 ) -> Status
     requires { (W.device writer.old).failures < 2 ^ 64 - 1 }
-    ensures { TellsOne (AreFound (Run limits) checked.now) (W.device writer.old) (W.device writer.new) result }
+    ensures { TellsOne (AreFound (run_action net limits) checked.now) (W.device writer.old) (W.device writer.new) result }
 {
-    match run(rt, alloc, checked, limits, &NoGate) {
+    match run_watched(rt, alloc, checked, limits, watch) {
         Ok(outcome) => {
-            let status = tell_outcome(alloc, writer, &outcome);
+            let status = tell_end(alloc, writer, net, &outcome);
             drop(outcome);
             status
         }
@@ -202,19 +228,21 @@ pub fn report_text<W: TextOut>(alloc: Global, writer: &mut W, derive: bool, text
 }
 
 /// Writes what `run` says of a text.
-fn tell_reply<T: Threads + Wait, W: TextOut>(
+fn tell_reply<T: Threads, W: TextOut, H: Watch>(
     rt: &T,
     alloc: Global,
     writer: &mut W,
+    net: bool,
     limits: Limits,
     text: &[u8],
+    watch: &mut H,
 ) -> Status
     requires { (W.device writer.old).failures < 2 ^ 64 - 1 }
-    ensures { TellsOne (IsReply (Run limits) text.now) (W.device writer.old) (W.device writer.new) result }
+    ensures { TellsOne (IsReply (run_action net limits) text.now) (W.device writer.old) (W.device writer.new) result }
 {
     match check(alloc, text) {
         Ok(checked) => {
-            let status = tell_run(rt, alloc, writer, &checked, limits);
+            let status = tell_run(rt, alloc, writer, &checked, net, limits, watch);
             drop(checked);
             status
         }
@@ -244,27 +272,50 @@ pub fn report<R: TextIn, W: TextOut>(
 }
 
 /// The same for `run`.
-fn report_run<T: Threads + Wait, R: TextIn, W: TextOut>(
+fn report_run<T: Threads, R: TextIn, W: TextOut, H: Watch>(
     rt: &T,
     alloc: Global,
+    net: bool,
     limits: Limits,
     reader: &mut R,
     writer: &mut W,
+    watch: &mut H,
 ) -> Status
     requires reader { (R.reader reader.old).device.failures < 2 ^ 64 - 1 }
     requires writer { (W.device writer.old).failures < 2 ^ 64 - 1 }
-    ensures { Acts (Run limits) (R.reader reader.old) (R.reader reader.new) (W.device writer.old) (W.device writer.new) result }
+    ensures { Acts (run_action net limits) (R.reader reader.old) (R.reader reader.new) (W.device writer.old) (W.device writer.new) result }
 {
     match read_text(alloc, reader) {
-        Input::Text(text) => tell_reply(rt, alloc, writer, limits, text.as_slice()),
+        Input::Text(text) => { tell_reply(rt, alloc, writer, net, limits, text.as_slice(), watch) }
         Input::Memory => tell(writer, MEMORY_LINE, MEMORY),
         Input::Failed => FAULT,
     }
 }
 
+/// As `act`, for who wants to see how far a run is. Nothing that the watch does changes what is written, or the status.
+pub fn act_watched<T: Threads, R: TextIn, W: TextOut, H: Watch>(
+    rt: &T,
+    alloc: Global,
+    action: &Action,
+    reader: &mut R,
+    writer: &mut W,
+    watch: &mut H,
+) -> Status
+    requires reader { (R.reader reader.old).device.failures < 2 ^ 64 - 1 }
+    requires writer { (W.device writer.old).failures < 2 ^ 64 - 1 }
+    ensures { Acts action.now (R.reader reader.old) (R.reader reader.new) (W.device writer.old) (W.device writer.new) result }
+{
+    match action {
+        Action::Check => report(alloc, false, reader, writer),
+        Action::Derive => report(alloc, true, reader, writer),
+        Action::Run(limits) => report_run(rt, alloc, true, *limits, reader, writer, watch),
+        Action::Count(limits) => report_run(rt, alloc, false, *limits, reader, writer, watch),
+    }
+}
+
 /// Does what the words ask for: for `check` and `derive` as `report` does. For `run` the lines on an accepted program are the net that the
-/// run reaches, the count of its interactions and how it stopped, or the line of a net that doesn't fit the cells; the rest is as
-/// there.
+/// run reaches, the count of its interactions and how it stopped, or the line of a net that doesn't fit the cells; without its net they are
+/// the same but for the net. The rest is as there.
 pub fn act<T: Threads + Wait, R: TextIn, W: TextOut>(
     rt: &T,
     alloc: Global,
@@ -276,11 +327,7 @@ pub fn act<T: Threads + Wait, R: TextIn, W: TextOut>(
     requires writer { (W.device writer.old).failures < 2 ^ 64 - 1 }
     ensures { Acts action.now (R.reader reader.old) (R.reader reader.new) (W.device writer.old) (W.device writer.new) result }
 {
-    match action {
-        Action::Check => report(alloc, false, reader, writer),
-        Action::Derive => report(alloc, true, reader, writer),
-        Action::Run(limits) => report_run(rt, alloc, *limits, reader, writer),
-    }
+    act_watched(rt, alloc, action, reader, writer, &mut NoWatch)
 }
 
 /// Tells why the words name no action: help as output, what is wrong with them as an error, running out of memory as output. The version

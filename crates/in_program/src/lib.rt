@@ -3,10 +3,11 @@
 //! `reading` reads the text; it is checked, and all its lines are made in memory (`lines`, `steps`, `runs`) before one is written, so
 //! that running out of memory comes before the first byte. A printed net is written by `write_net` once the lines after it are there.
 //! `acting` has the calls, `in_turn` the one that runs a text in memory without threads. The streams of the system (`streams`) are a reader
-//! and a writer that keep why a read or a write failed.
+//! and a writer that keep why a read or a write failed, which `failures` tells.
 #![tactic(auto)]
 
 mod acting;
+mod failures;
 mod in_turn;
 pub mod laws;
 mod lines;
@@ -15,6 +16,8 @@ mod runs;
 mod steps;
 mod streams;
 
-pub use acting::{Status, act, report, report_text, tell, tell_usage};
+pub use acting::{Status, act, act_watched, report, report_text, tell, tell_usage};
+pub use failures::{Device, shown, tell_failure};
+pub use in_run::{NoWatch, Progress, Watch};
 pub use in_turn::run_text;
 pub use streams::{StreamIn, StreamOut};

@@ -9,7 +9,7 @@ use Rattle.in_run.specs.declared.running.Outcome.{Outcome}
 use Rattle.in_machine.specs.Machines.{IsMachine}
 use Rattle.in_reducer.specs.Machines.{plain_of}
 use Rattle.in_run.specs.Outcomes.{RunsTo}
-use Rattle.in_names.specs.Same.{AreSame}
+use Rattle.in_reducer.specs.Same.{AreSame}
 use Rattle.in_run.proofs.SameOutcome.{same_outcome}
 use Rattle.in_machine.proofs.Public.{same_start, start_machine}
 

@@ -11,9 +11,9 @@ use Rattle.in_machine.specs.Machines.{IsMachine}
 use Rattle.in_reducer.specs.Steps.{HasRoomAt, IsShortAt}
 use Rattle.in_reducer.specs.Runs.{Runs}
 use Rattle.in_run.specs.Stops.{IsStop, IsOutcome}
-use Rattle.in_names.specs.Same.{IsSameMachine, AreSame}
+use Rattle.in_reducer.specs.Same.{IsSameMachine, AreSame}
 use Rattle.in_compile.proofs.Public.{one_short}
-use Rattle.in_names.proofs.Public.{need_moved, pair_moved}
+use Rattle.in_reducer.proofs.Public.{need_moved, pair_moved}
 use Rattle.in_machine.proofs.Public.{machine_runs, one_need, passes, room_moved, same_run}
 
 -- ---- one machine

@@ -20,8 +20,8 @@ use Rattle.in_machine.specs.Machines.{IsMachine}
 use Rattle.in_reducer.specs.Runs.{Runs, at_start, then_step}
 use Rattle.in_reducer.specs.Steps.{HasRoomAt}
 use Rattle.in_machine.specs.Taking.{TakesNoFirst}
-use Rattle.in_names.specs.Same.{RunsUpToNumbers}
-use Rattle.in_names.proofs.Public.{counted_same, joined, run_before, start_same_as}
+use Rattle.in_reducer.specs.Same.{RunsUpToNumbers}
+use Rattle.in_reducer.proofs.Public.{counted_same, joined, run_before, start_same_as}
 use Rattle.in_machine.proofs.Public.{as_reducer, machine_on, machine_same, reached_same, room_moved, start_machine, start_reached}
 
 -- k interactions of a program's run within these limits

@@ -2,7 +2,7 @@
 use Rattle.std.specs.Prelude.{◌+◌, ℕ, zero, suc}
 use Rattle.in_reducer.specs.Machines.{MachineParts}
 use Rattle.in_reducer.specs.Steps.{StepsAt}
-use Rattle.in_names.specs.Same.{AreSame}
+use Rattle.in_reducer.specs.Same.{AreSame}
 use Rattle.in_machine.specs.Phases.{IsPhase}
 
 -- a given number of interactions one after another, each at any pair of the queue, and phases; between them agents may get other numbers

@@ -13,7 +13,7 @@ use Rattle.in_reducer.specs.Machines.{MachineParts, plain_of}
 use Rattle.in_machine.specs.Machines.{IsMachine}
 use Rattle.in_run.specs.Outcomes.{RunsInTurn, RunsTo}
 use Rattle.in_run.specs.Stops.{IsStop, IsOutcome}
-use Rattle.in_names.specs.Same.{AreSame}
+use Rattle.in_reducer.specs.Same.{AreSame}
 use Rattle.in_machine.specs.Texts.{text_of}
 
 -- .. and the one stops as the other

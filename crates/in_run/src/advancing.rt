@@ -3,7 +3,7 @@ ghost use Rattle.std.specs.Prelude.{◌≡◌, ◌≤◌, ◌<◌, ◌+◌, ◌^
 ghost use Rattle.in_reducer.specs.Machines.{MachineParts};
 ghost use Rattle.in_run.specs.Advancing.{RunsAnyhow};
 ghost use Rattle.in_run.specs.Stops.{GoesOn};
-ghost use Rattle.in_names.specs.Same.{RunsUpToNumbers};
+ghost use Rattle.in_reducer.specs.Same.{RunsUpToNumbers};
 
 use crate::pace::{PHASES_FROM, Pace, sharing};
 use in_limits::Limits;
@@ -58,9 +58,9 @@ fn by_parts<R: Threads>(
     worked.interactions
 }
 
-/// Interactions of the oldest pairs, as many as there are up to the limit, by one worker and at the beginning of several workers' run. Later that
-/// of the oldest pair, which has to have room, and some more after it, at most up to the limit: a phase where it pays, else those of some
-/// pairs one after another. Returns how many they were.
+/// Interactions of the oldest pairs, as many as there are up to the limit, by one worker, who does at most `turn`, and at the beginning of several
+/// workers' run. Later that of the oldest pair, which has to have room, and some more after it, at most up to the limit: a phase where it pays,
+/// else those of some pairs one after another. Returns how many they were.
 #[inline(always)]
 pub(crate) fn advance<R: Threads>(
     rt: &R,
@@ -68,9 +68,11 @@ pub(crate) fn advance<R: Threads>(
     machine: &mut Machine,
     limits: Limits,
     interactions: u64,
+    turn: u64,
     pace: &mut Pace,
 ) -> u64
-    requires { GoesOn limits.limit machine.old interactions }
+    requires goes { GoesOn limits.limit machine.old interactions }
+    requires turn { 1 ≤ turn }
     ensures goes { RunsAnyhow machine.old result machine.new }
     ensures turn { limits.workers ≡ 1 → RunsUpToNumbers machine.old result machine.new }
     ensures some { 1 ≤ result }
@@ -78,7 +80,7 @@ pub(crate) fn advance<R: Threads>(
 {
     let left = limits.limit() - interactions;
     if limits.workers() == 1 {
-        return machine.take_first(left);
+        return machine.take_first(left.min(turn));
     }
     if interactions < PHASES_FROM {
         return machine.take_first(left.min(PHASES_FROM - interactions));

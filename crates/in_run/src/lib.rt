@@ -1,7 +1,8 @@
 //! Runs of a machine within limits. The machine is that of `in_machine`, re-exported here.
 //!
 //! `running` is the loop, with the three stops tested in their order. In a long run of several workers `advancing` looks whether a phase pays, in
-//! which each worker reduces a part of the net by itself (`pace`); else it does some steps. No run does a round.
+//! which each worker reduces a part of the net by itself (`pace`); else it does some steps. No run does a round. Who watches a run
+//! (`watching`) sees how far it is.
 #![tactic(auto)]
 
 mod advancing;
@@ -11,10 +12,12 @@ mod next;
 mod pace;
 mod running;
 mod stops;
+mod watching;
 
 pub use in_claims::{Gate, NoGate};
 pub use in_limits::{Limits, MOST_INTERACTIONS, MOST_WORKERS};
 pub use in_machine::{CellClass, CellNo, End, LEAST_CELLS, MOST_CELLS, Machine, Need, StartFault};
 pub use in_turn::run_in_turn;
-pub use running::{Outcome, RunFault, run};
+pub use running::{Outcome, RunFault, run, run_watched};
 pub use stops::Stop;
+pub use watching::{NoWatch, Progress, Watch};

@@ -41,11 +41,14 @@ const COST_OF_A_THREAD: u64 = 4_000;
 const FIRST_WAIT: u64 = 4;
 
 /// What a run of several workers keeps from one look at its machine to the next: from how many interactions on a phase is looked at, how many
-/// times its cost is waited after the next phase that doesn't pay, and the room for phases.
+/// times its cost is waited after the next phase that doesn't pay, and the room for phases; and how many phases there were, and the most threads
+/// of one.
 #[derive(Drop)]
 pub(crate) struct Pace {
     phase_from: u64,
     wait: u64,
+    pub(crate) phases: u64,
+    pub(crate) threads: u32,
     pub(crate) room: Room,
 }
 
@@ -55,6 +58,8 @@ impl Pace {
         Pace {
             phase_from: PHASES_FROM,
             wait: FIRST_WAIT,
+            phases: 0,
+            threads: 1,
             room: Room::new(alloc),
         }
     }
@@ -67,6 +72,8 @@ impl Pace {
     /// Notes what a phase brought, of a net with `agents` agents, after which `interactions` interactions are done. It has paid where what
     /// the other parts did beside the longest one is at least twice what it cost, and a quarter of all.
     pub(crate) fn note(&mut self, worked: Worked, agents: u32, interactions: u64) {
+        self.phases = self.phases.saturating_add(1);
+        self.threads = self.threads.max(worked.parts);
         let gain = worked.interactions.saturating_sub(worked.longest);
         let cost = COST_OF_AN_AGENT * u64::from(agents)
             + COST_OF_A_THREAD * u64::from(worked.parts);

@@ -9,10 +9,11 @@ use crate::advancing::advance;
 use crate::next::stop;
 use crate::pace::Pace;
 use crate::stops::Stop;
+use crate::watching::{NoWatch, Progress, Watch};
 use in_check::Checked;
 use in_claims::Gate;
 use in_limits::Limits;
-use in_machine::{Machine, StartFault};
+use in_machine::{Machine, Need, StartFault};
 use std::alloc::Global;
 use std::sync::Wait;
 use std::thread::Threads;
@@ -36,6 +37,63 @@ pub enum RunFault<'a> {
     },
 }
 
+/// How far a watched run is.
+fn progress_of(machine: &Machine, cells: u32, interactions: u64, pace: &Pace) -> Progress {
+    let free = machine.vacant();
+    Progress {
+        interactions,
+        phases: pace.phases,
+        threads: pace.threads,
+        used: Need {
+            small: cells.saturating_sub(free.small),
+            large: cells.saturating_sub(free.large),
+            wide: cells.saturating_sub(free.wide),
+        },
+    }
+}
+
+/// The same as `run`, for who wants to see how far it is. Nothing that the watch does changes the run.
+pub fn run_watched<'a, R: Threads, W: Watch>(
+    rt: &R,
+    alloc: Global,
+    checked: &'a Checked,
+    limits: Limits,
+    watch: &mut W,
+) -> Result<Outcome<'a>, RunFault<'a>>
+    ensures runs { RunsTo checked.now limits result }
+    ensures order { IfOk result (λ o. o.stop ≡ Normal → EndsOnce checked.now o.interactions (text_of o.machine)) }
+{
+    checked.is_accepted();
+    watch.begin();
+    let mut machine = match Machine::new(alloc, checked, limits.cells()) {
+        Ok(machine) => machine,
+        Err(fault) => return Err(RunFault::Start(fault)),
+    };
+    let mut interactions = 0;
+    let mut pace = Pace::begin(alloc);
+    loop {
+        if let Some(stop) = stop(&machine, limits.limit(), interactions) {
+            watch.end(progress_of(&machine, limits.cells(), interactions, &pace));
+            return Ok(Outcome {
+                machine,
+                interactions,
+                stop,
+            });
+        }
+        let turn = watch.turn().max(1);
+        interactions += advance(
+            rt,
+            alloc,
+            &mut machine,
+            limits,
+            interactions,
+            turn,
+            &mut pace,
+        );
+        watch.look(progress_of(&machine, limits.cells(), interactions, &pace));
+    }
+}
+
 /// Runs a program. With one worker it does so first in, first out: each interaction is at the first pair of the queue, and its new pairs come
 /// last. How several workers share the interactions is open: in a long run they reduce the net in parts that share nothing. Parts have no jobs,
 /// so no worker passes the gate, which is for the workers of rounds.
@@ -56,21 +114,5 @@ pub fn run<'a, R: Threads + Wait, G: Gate + Sync>(
     ensures runs { RunsTo checked.now limits result }
     ensures order { IfOk result (λ o. o.stop ≡ Normal → EndsOnce checked.now o.interactions (text_of o.machine)) }
 {
-    checked.is_accepted();
-    let mut machine = match Machine::new(alloc, checked, limits.cells()) {
-        Ok(machine) => machine,
-        Err(fault) => return Err(RunFault::Start(fault)),
-    };
-    let mut interactions = 0;
-    let mut pace = Pace::begin(alloc);
-    loop {
-        if let Some(stop) = stop(&machine, limits.limit(), interactions) {
-            return Ok(Outcome {
-                machine,
-                interactions,
-                stop,
-            });
-        }
-        interactions += advance(rt, alloc, &mut machine, limits, interactions, &mut pace);
-    }
+    run_watched(rt, alloc, checked, limits, &mut NoWatch)
 }

@@ -1,9 +1,9 @@
-//! The program `inet`: checks a program of interaction nets (Lafont 1990) that comes on standard input, and writes one line on
+//! The program `inet`: checks a program of interaction nets (Lafont 1990) that comes on standard input or in a file, and writes one line on
 //! what it found; the steps that build its rules and its net; or what its net comes to when it is run.
 //!
-//! It has the words read and calls `in_program::act` over the standard streams. A reader that keeps a copy of what it passes on
-//! (`keeping`) gives it the text again after a refusal, for the diagnosis. The streams keep why a read or a write failed, and `serve`
-//! tells it.
+//! It has the words read and calls `in_program::act_watched` over the standard streams, or a file. A reader that keeps a copy of what it passes on
+//! (`keeping`) gives it the text again after a refusal, for the diagnosis (`words`). A watch (`watching`) shows at a terminal how far a long
+//! run is, and counts for figures. The streams keep why a read or a write failed, and `serve` tells it.
 #![tactic(auto)]
 
 ghost use Rattle.std.specs.Prelude.{◌-◌, ◌<◌, ◌^◌};
@@ -11,20 +11,44 @@ ghost use Rattle.std.specs.Prelude.{◌-◌, ◌<◌, ◌^◌};
 mod keeping;
 #[cfg(test)]
 mod tests;
+mod watching;
+mod words;
 
 use crate::keeping::KeepingIn;
-use in_command_line::{Action, Usage, action_of};
-use in_diagnosis::diagnosis;
-use in_program::{Status, StreamIn, StreamOut, act, tell, tell_usage};
+use crate::watching::Watching;
+use crate::words::{tell_diagnosis, tell_help};
+use in_command_line::{Request, Usage, action_of};
+use in_program::{
+    Device, Status, StreamIn, StreamOut, act_watched, tell, tell_failure, tell_usage,
+};
 use in_syntax::TextOut;
 use in_version::version_line;
 use std::alloc::Global;
 use std::env::Args;
-use std::io::{Error, ErrorKind, Read, Write};
+use std::io::{Error, ErrorKind, IsTerminal, Read, Write};
 use std::process::ExitCode;
-use std::sync::Wait;
+use std::rt::Files;
 use std::thread::Threads;
-use std::{env, io};
+use std::time::Clock;
+use std::{env, fs, io};
+
+/// The status of a read that failed.
+const UNREAD: Status = Status(6);
+
+/// What is told who starts the program at a terminal without a file.
+const AT_TERMINAL: &[u8] =
+    b"inet: reads the program from the terminal; end it with Ctrl-D on a line of its own\n";
+
+/// Which streams are a terminal's.
+#[derive(Clone, Copy)]
+struct Console {
+    /// Standard input.
+    reads: bool,
+    /// Standard error.
+    tells: bool,
+    /// Whether what is told there is in colours.
+    colours: bool,
+}
 
 /// Why the program's words can't be had: running out of memory, or a word that is not valid UTF-8.
 fn unreadable(alloc: Global, error: Error) -> Usage {
@@ -42,52 +66,80 @@ fn unreadable(alloc: Global, error: Error) -> Usage {
     }
 }
 
-/// What the words ask for.
-fn action_asked(alloc: Global, words: io::Result<Args>) -> Result<Action, Usage> {
-    let owned: Vec<String> = match words {
-        Ok(words) => words.collect(alloc)?,
-        Err(error) => return Err(unreadable(alloc, error)),
-    };
-    let words: Vec<&str> = owned.iter().map(|word| word.as_str()).collect(alloc)?;
-    action_of(alloc, words.as_slice())
-}
-
-/// Tells what is wrong with a text that is refused, in words for people. Where memory runs out, or it can't be told, nothing is added.
-fn tell_diagnosis<E: Write>(alloc: Global, text: &[u8], errors: &mut E) {
-    if let Ok(Some(words)) = diagnosis(alloc, text) {
-        let _ = errors.write_all(words.as_bytes());
+/// The program's words.
+fn words_read(alloc: Global, words: io::Result<Args>) -> Result<Vec<String>, Usage> {
+    match words {
+        Ok(words) => Ok(words.collect(alloc)?),
+        Err(error) => Err(unreadable(alloc, error)),
     }
 }
 
-/// Tells what failed, and why. Where memory runs out, or it can't be told, nothing is added.
-fn tell_failure<E: Write>(alloc: Global, what: &str, why: Error, errors: &mut E) {
-    if let Ok(words) = format!(in alloc; "error: {what}: {why}\n") {
-        let _ = errors.write_all(words.as_bytes());
-    }
-}
-
-/// Does what the words ask for, and tells what is wrong with a text that is refused, or why it can't be read.
-fn answer<T: Threads + Wait, R: Read + Drop, W: TextOut, E: Write>(
+/// Does what the words ask for with the text of this reader, and tells what is wrong with a text that is refused, why it can't be read, what helps
+/// where a run has stopped early, and the figures that are wanted.
+fn answer_text<T: Threads + Clock, R: Read + Drop, W: TextOut, E: Write>(
     rt: &T,
     alloc: Global,
-    action: &Action,
+    request: &Request,
     reader: R,
     output: &mut W,
     errors: &mut E,
+    console: Console,
 ) -> Status
     requires { (W.device output.old).failures < 2 ^ 64 - 1 }
 {
     let mut input = KeepingIn::new(alloc, StreamIn::new(reader));
-    let status = act(rt, alloc, action, &mut input, output);
+    let mut watch = Watching::new(rt, alloc, &mut *errors, console.tells, request.stats);
+    let status = act_watched(rt, alloc, &request.action, &mut input, output, &mut watch);
+    watch.tell();
     if status == Status(1) {
         if let Some(text) = input.kept() {
-            tell_diagnosis(alloc, text, errors);
+            tell_diagnosis(alloc, request.file, text, console.colours, errors);
         }
     }
     if let Some(why) = input.reader().failure() {
-        tell_failure(alloc, "standard input can't be read", why, errors);
+        let device = match request.file {
+            Some(file) => Device::File(file),
+            None => Device::Input,
+        };
+        tell_failure(alloc, device, "read", why, errors);
     }
+    tell_help(alloc, status, &request.action, errors);
     status
+}
+
+/// Tells that memory ran out.
+fn tell_memory<W: TextOut>(output: &mut W) -> Status
+    requires { (W.device output.old).failures < 2 ^ 64 - 1 }
+{
+    tell(output, b"memory\n", Status(5))
+}
+
+/// The same with the text of the file that is named, or of standard input.
+fn answer<T: Threads + Clock + Files, R: Read + Drop, W: TextOut, E: Write>(
+    rt: &T,
+    alloc: Global,
+    request: &Request,
+    reader: R,
+    output: &mut W,
+    errors: &mut E,
+    console: Console,
+) -> Status
+    requires { (W.device output.old).failures < 2 ^ 64 - 1 }
+{
+    let Some(file) = request.file else {
+        if console.reads {
+            let _ = errors.write_all(AT_TERMINAL);
+        }
+        return answer_text(rt, alloc, request, reader, output, errors, console);
+    };
+    match fs::open(rt, file) {
+        Ok(opened) => answer_text(rt, alloc, request, opened, output, errors, console),
+        Err(why) if why.kind() == ErrorKind::OutOfMemory => tell_memory(output),
+        Err(why) => {
+            tell_failure(alloc, Device::File(file), "opened", why, errors);
+            UNREAD
+        }
+    }
 }
 
 /// Tells the version of the program.
@@ -96,46 +148,104 @@ fn tell_version<W: TextOut>(alloc: Global, output: &mut W) -> Status
 {
     match version_line(alloc, "inet") {
         Ok(line) => tell(output, line.as_bytes(), Status(0)),
-        Err(_) => tell(output, b"memory\n", Status(5)),
+        Err(_) => tell_memory(output),
     }
 }
 
-/// Does what the program's words ask for, or tells why they ask for nothing.
-fn answer_words<T: Threads + Wait, R: Read + Drop, W: TextOut, E: Write>(
+/// Tells why the words ask for nothing, or the version.
+fn tell_nothing_asked<W: TextOut, E: Write>(
+    alloc: Global,
+    usage: &Usage,
+    output: &mut W,
+    errors: &mut E,
+) -> Status
+    requires { (W.device output.old).failures < 2 ^ 64 - 1 }
+{
+    match usage {
+        Usage::Version => tell_version(alloc, output),
+        _ => tell_usage(usage, output, &mut StreamOut::new(&mut *errors)),
+    }
+}
+
+/// Does what these words ask for, or tells why they ask for nothing.
+fn answer_words<T: Threads + Clock + Files, R: Read + Drop, W: TextOut, E: Write>(
+    rt: &T,
+    alloc: Global,
+    words: &[&str],
+    reader: R,
+    output: &mut W,
+    errors: &mut E,
+    console: Console,
+) -> Status
+    requires { (W.device output.old).failures < 2 ^ 64 - 1 }
+{
+    match action_of(alloc, words) {
+        Ok(request) => answer(rt, alloc, &request, reader, output, errors, console),
+        Err(usage) => tell_nothing_asked(alloc, &usage, output, errors),
+    }
+}
+
+/// Does what the program's words ask for, or tells why they can't be had.
+fn answer_program<T: Threads + Clock + Files, R: Read + Drop, W: TextOut, E: Write>(
     rt: &T,
     alloc: Global,
     words: io::Result<Args>,
     reader: R,
     output: &mut W,
     errors: &mut E,
+    console: Console,
 ) -> Status
     requires { (W.device output.old).failures < 2 ^ 64 - 1 }
 {
-    match action_asked(alloc, words) {
-        Ok(action) => answer(rt, alloc, &action, reader, output, errors),
-        Err(Usage::Version) => tell_version(alloc, output),
-        Err(usage) => tell_usage(&usage, output, &mut StreamOut::new(&mut *errors)),
+    let words = match words_read(alloc, words) {
+        Ok(words) => words,
+        Err(usage) => return tell_nothing_asked(alloc, &usage, output, errors),
+    };
+    match words
+        .iter()
+        .map(|word| word.as_str())
+        .collect::<Vec<&str>>(alloc)
+    {
+        Ok(words) => answer_words(rt, alloc, words.as_slice(), reader, output, errors, console),
+        Err(_) => tell_memory(output),
     }
 }
 
-/// The same, and tells why its output can't be written.
-fn serve<T: Threads + Wait, R: Read + Drop, W: Write + Drop, E: Write>(
+/// The same, and tells why its output can't be written, where it isn't that its reader went away.
+fn serve<T: Threads + Clock + Files, R: Read + Drop, W: Write + Drop, E: Write>(
     rt: &T,
     alloc: Global,
     words: io::Result<Args>,
     reader: R,
     writer: W,
     errors: &mut E,
+    console: Console,
 ) -> Status {
     let mut output = StreamOut::new(writer);
-    let status = answer_words(rt, alloc, words, reader, &mut output, errors);
+    let status = answer_program(rt, alloc, words, reader, &mut output, errors, console);
     if let Some(why) = output.failure() {
-        tell_failure(alloc, "standard output can't be written", why, errors);
+        if why.kind() != ErrorKind::BrokenPipe {
+            tell_failure(alloc, Device::Output, "written", why, errors);
+        }
     }
     status
 }
 
+/// Whether a variable of the environment is set, and not empty.
+fn is_in_environment(rt: &HostRuntime, name: &str) -> bool {
+    match env::var(rt, name) {
+        Ok(value) => !value.as_str().is_empty(),
+        Err(_) => false,
+    }
+}
+
 fn main(rt: HostRuntime) -> ExitCode {
+    let tells = rt.stderr().is_terminal();
+    let console = Console {
+        reads: rt.stdin().is_terminal(),
+        tells,
+        colours: tells && !is_in_environment(&rt, "NO_COLOR"),
+    };
     let status = serve(
         &rt,
         rt.alloc(),
@@ -143,6 +253,7 @@ fn main(rt: HostRuntime) -> ExitCode {
         rt.reader(),
         io::writer(&rt),
         &mut rt.stderr(),
+        console,
     );
     ExitCode::from(status.0)
 }

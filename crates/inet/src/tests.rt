@@ -1,14 +1,22 @@
-//! What is told of words that can't be had, of a file's name among them, of streams that fail, and of a text that is too long.
-use crate::{serve, unreadable};
+//! What is told of words that can't be had, of streams that fail, at a terminal, and of a text that is too long.
+use crate::{Console, serve, unreadable};
 use in_command_line::Usage;
 use in_program::Status;
 use std::alloc::{AllocError, Global};
 use std::env::Args;
 use std::io;
 use std::io::{Error, ErrorKind, Read, Write};
-use std::sync::Wait;
+use std::rt::Files;
 use std::test::Fail;
 use std::thread::Threads;
+use std::time::Clock;
+
+/// No stream is a terminal's.
+const AWAY: Console = Console {
+    reads: false,
+    tells: false,
+    colours: false,
+};
 
 /// A stream that fails at once with an error of the system.
 #[derive(Clone, Copy)]
@@ -39,7 +47,7 @@ fn words(alloc: Global, command: &str) -> Result<Args, AllocError> {
 }
 
 /// Whether a command on these streams ends with status 6, and tells this on standard error.
-fn fails_with<T: Threads + Wait, R: Read + Drop, W: Write + Drop>(
+fn fails_with<T: Threads + Clock + Files, R: Read + Drop, W: Write + Drop>(
     rt: &T,
     alloc: Global,
     command: &str,
@@ -55,6 +63,7 @@ fn fails_with<T: Threads + Wait, R: Read + Drop, W: Write + Drop>(
         reader,
         writer,
         &mut errors,
+        AWAY,
     );
     Ok(status == Status(6) && errors.as_slice() == told.as_bytes())
 }
@@ -82,7 +91,7 @@ fn a_failed_stream_is_told_with_its_error(rt: HostRuntime) -> Result<(), Fail> {
 
 /// Whether a text of that many bytes is refused, and what is told begins with these words.
 fn is_too_long(
-    rt: &(impl Threads + Wait),
+    rt: &(impl Threads + Clock + Files),
     alloc: Global,
     bytes: usize,
     told: &str,
@@ -90,7 +99,15 @@ fn is_too_long(
     let text = vec![in alloc; b'#'; bytes]?;
     let mut errors = Vec::new(alloc);
     let words = Ok(words(alloc, "check")?);
-    let status = serve(rt, alloc, words, text.as_slice(), io::sink(), &mut errors);
+    let status = serve(
+        rt,
+        alloc,
+        words,
+        text.as_slice(),
+        io::sink(),
+        &mut errors,
+        AWAY,
+    );
     Ok(status == Status(1) && errors.as_slice().starts_with(told.as_bytes()))
 }
 
@@ -101,38 +118,37 @@ fn a_text_that_is_too_long_is_told_by_the_limit(rt: HostRuntime) -> Result<(), F
     Ok(())
 }
 
-/// The words of `inet` with these after it.
-fn words_with(alloc: Global, further: &[&str]) -> Result<Args, AllocError> {
-    let mut words = Vec::new(alloc);
-    words.push(String::from_str(alloc, "inet")?)?;
-    for word in further {
-        words.push(String::from_str(alloc, word)?)?;
-    }
-    Ok(words.into_iter())
+#[test]
+fn a_reader_that_went_away_is_not_told(rt: HostRuntime) -> Result<(), Fail> {
+    assert!(rt; fails_with(&rt, rt.alloc(), "--help", (io::empty(), Failing(32)), "")?);
+    Ok(())
 }
 
-/// Whether these words are wrong, and what is told ends so.
-fn is_wrong(
-    rt: &(impl Threads + Wait),
+/// What is told of a text at a terminal.
+fn told_at_terminal(
+    rt: &(impl Threads + Clock + Files),
     alloc: Global,
-    further: &[&str],
-    told: &str,
-) -> Result<bool, AllocError> {
+    text: &[u8],
+) -> Result<Vec<u8>, AllocError> {
     let mut errors = Vec::new(alloc);
-    let words = Ok(words_with(alloc, further)?);
-    let status = serve(rt, alloc, words, io::empty(), io::sink(), &mut errors);
-    Ok(status == Status(2) && errors.as_slice().ends_with(told.as_bytes()))
+    let words = Ok(words(alloc, "check")?);
+    let console = Console {
+        reads: true,
+        tells: true,
+        colours: true,
+    };
+    serve(rt, alloc, words, text, io::sink(), &mut errors, console);
+    Ok(errors)
 }
 
 #[test]
-fn a_file_among_the_words_is_told_to_come_on_standard_input(rt: HostRuntime) -> Result<(), Fail> {
-    let alloc = rt.alloc();
-    let checked = "\nThe program comes on standard input: inet check < sum.inet\n";
-    assert!(rt; is_wrong(&rt, alloc, &["check", "sum.inet"], checked)?);
-    let run = "\nThe program comes on standard input: inet run < sum.inet\n";
-    assert!(rt; is_wrong(&rt, alloc, &["run", "--limit", "5", "sum.inet"], run)?);
-    assert!(rt; is_wrong(&rt, alloc, &["sum.inet"], run)?);
-    assert!(rt; is_wrong(&rt, alloc, &["check", "--all"], "try '--help'.\n")?);
+fn a_terminal_is_told_and_has_colours(rt: HostRuntime) -> Result<(), Fail> {
+    let told = told_at_terminal(&rt, rt.alloc(), b"net net")?;
+    assert!(rt;
+        told.as_slice().starts_with(
+            b"inet: reads the program from the terminal; end it with Ctrl-D on a line of its own\n\x1b[1;31merror:\x1b[0m "
+        )
+    );
     Ok(())
 }
 

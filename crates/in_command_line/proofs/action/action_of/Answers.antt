@@ -23,7 +23,7 @@ unreachable-requires c =
     let none : faults words ≡ [] = sym (ap (λ (a : App). fault_of a words) is) ∙ c.in-Ok.ensures.kinds (ap is_simple_and_free is ∙ simple_and_free) in
     let given = (c.in-Ok.ensures.matches (ap is_simple is ∙ simple)).1 ∙ ap (λ (a : App). subcommand_of a words) is in
     let asked = faultless_asks words none in
-    c.in-None.ensures asked.1.name asked.1.options asked.0 (given ∙ asked.1.given) asked.1.named
+    c.in-None.ensures asked.1.name asked.1.options asked.0.action (given ∙ asked.1.given) asked.1.named
 
 pub returns-in-Some-clause-ok : goal.returns-in-Some-clause-ok
 returns-in-Some-clause-ok c =
@@ -32,7 +32,7 @@ returns-in-Some-clause-ok c =
     let none : faults words ≡ [] = sym (ap (λ (a : App). fault_of a words) is) ∙ c.in-Ok.ensures.kinds (ap is_simple_and_free is ∙ simple_and_free) in
     let given = (c.in-Ok.ensures.matches (ap is_simple is ∙ simple)).1 ∙ ap (λ (a : App). subcommand_of a words) is in
     let n = c.in-Some.ensures in
-    record { name = n.0; options = n.1; taken = none; given = sym given ∙ n.2; named = n.3 }
+    record { name = n.0; options = n.1; taken = none; given = sym given ∙ n.2; named = n.3; file_is = n.4; stats_are = n.5 }
 
 pub returns-in-Err-clause-err : goal.returns-in-Err-clause-err
 returns-in-Err-clause-err c =

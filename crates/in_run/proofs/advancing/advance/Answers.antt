@@ -8,10 +8,12 @@ returns-then-workers-eq1-clause-goes g c = up_to_numbers_anyhow c.args.machine.n
 
 pub returns-then-workers-eq1-clause-some : goal.returns-then-workers-eq1-clause-some
 returns-then-workers-eq1-clause-some g c =
-    let goes = c.requires in
+    let goes = c.requires.goes in
     let limit = c.limit.ensures.limit in
     let within = goes.1 in
-    takes_some c.args.machine.now c.take_first.new.self c.take_first.result (c.limit.result - c.args.interactions) c.take_first.ensures.runs goes.0 goes.2 (omega (arith, limit, within)) c.take_first.ensures.fewer
+    let least = c.min.ensures in
+    let turn = c.requires.turn in
+    takes_some c.args.machine.now c.take_first.new.self c.take_first.result c.min.result c.take_first.ensures.runs goes.0 goes.2 (omega (arith, limit, within, least, turn)) c.take_first.ensures.fewer
 
 pub returns-then-interactions-lt-PHASES_FROM-clause-goes : goal.returns-then-interactions-lt-PHASES_FROM-clause-goes
 returns-then-interactions-lt-PHASES_FROM-clause-goes g c =
@@ -20,12 +22,12 @@ returns-then-interactions-lt-PHASES_FROM-clause-goes g c =
 pub returns-then-interactions-lt-PHASES_FROM-clause-some : goal.returns-then-interactions-lt-PHASES_FROM-clause-some
 returns-then-interactions-lt-PHASES_FROM-clause-some g c =
     let taken = c.take_first-then-interactions-lt-PHASES_FROM in
-    let goes = c.requires in
+    let goes = c.requires.goes in
     let limit = c.limit.ensures.limit in
     let within = goes.1 in
-    let least = c.min.ensures in
+    let least = c.min-then-interactions-lt-PHASES_FROM.ensures in
     let early = c.if-interactions-lt-PHASES_FROM.true in
-    takes_some c.args.machine.now taken.new.self taken.result c.min.result taken.ensures.runs goes.0 goes.2 (omega (arith, limit, within, least, early)) taken.ensures.fewer
+    takes_some c.args.machine.now taken.new.self taken.result c.min-then-interactions-lt-PHASES_FROM.result taken.ensures.runs goes.0 goes.2 (omega (arith, limit, within, least, early)) taken.ensures.fewer
 
 pub returns-clause-goes : goal.returns-clause-goes
 returns-clause-goes g c =

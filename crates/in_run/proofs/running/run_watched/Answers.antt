@@ -3,7 +3,7 @@ use Rattle.in_reducer.specs.Starts.{IsStart}
 use Rattle.in_run.specs.Stops.{IsStop}
 use Rattle.in_run.proofs.OneEnd.{state_ended}
 use Rattle.in_run.proofs.StatesOfRuns.{advances_further, begins, ends_so}
-use Rattle.in_run.proofs.running.run.Goals as goal
+use Rattle.in_run.proofs.running.run_watched.Goals as goal
 
 pub loop-stop-init : goal.loop-stop-init
 loop-stop-init g c =

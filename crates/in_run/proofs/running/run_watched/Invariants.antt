@@ -1,6 +1,6 @@
 use Rattle.std.proofs.Common.{◌-◌}
 use Rattle.in_run.proofs.StatesOfRuns.{IsStateOfRun}
-use Rattle.in_run.proofs.running.run.Given as goal
+use Rattle.in_run.proofs.running.run_watched.Given as goal
 
 abbrev pub invariant-loop-stop : goal.invariant-loop-stop
 invariant-loop-stop g l = IsStateOfRun l.checked l.limits l.interactions l.machine

@@ -1,0 +1,36 @@
+# Made by tools/command_line.py from --help: completions for bash. Source this file.
+_inet() {
+  local word=${COMP_WORDS[COMP_CWORD]} before=${COMP_WORDS[COMP_CWORD-1]} words files=
+  if ((COMP_CWORD == 1)); then
+    words='check derive run help -h --help -V --version'
+  else
+    case ${COMP_WORDS[1]} in
+      check)
+        words='-h --help' files=1 ;;
+      derive)
+        words='-h --help' files=1 ;;
+      run)
+        case $before in --workers|--limit|--cells) return ;; esac
+        words='--workers --limit --cells --no-net --stats -h --help' files=1 ;;
+      help) if ((COMP_CWORD == 2)); then words='check derive run'; fi ;;
+    esac
+  fi
+  if [[ $files && $word != -* ]]; then
+    compopt -o filenames
+    mapfile -t COMPREPLY < <(compgen -d -- "$word"; compgen -f -X '!*.inet' -- "$word")
+  else
+    mapfile -t COMPREPLY < <(compgen -W "$words" -- "$word")
+  fi
+}
+complete -F _inet inet
+_inet_export() {
+  local word=${COMP_WORDS[COMP_CWORD]} before=${COMP_WORDS[COMP_CWORD-1]} words files=
+  words='-h --help -V --version' files=1
+  if [[ $files && $word != -* ]]; then
+    compopt -o filenames
+    mapfile -t COMPREPLY < <(compgen -d -- "$word"; compgen -f -X '!*.inet' -- "$word")
+  else
+    mapfile -t COMPREPLY < <(compgen -W "$words" -- "$word")
+  fi
+}
+complete -F _inet_export inet_export

@@ -1,0 +1,23 @@
+# Made by tools/command_line.py from --help: completions for fish.
+complete -c inet -f
+complete -c inet -n 'not __fish_seen_subcommand_from check derive run help' -a check -d 'Says whether a program is accepted'
+complete -c inet -n 'not __fish_seen_subcommand_from check derive run help' -a derive -d 'Prints the steps that build a program'\''s rules and its net'
+complete -c inet -n 'not __fish_seen_subcommand_from check derive run help' -a run -d 'Reduces a program'\''s net, and prints it'
+complete -c inet -n 'not __fish_seen_subcommand_from check derive run help' -a help -d 'Print help'
+complete -c inet -n 'not __fish_seen_subcommand_from check derive run help' -s h -l help -d 'Print help'
+complete -c inet -n 'not __fish_seen_subcommand_from check derive run help' -s V -l version -d 'Print version'
+complete -c inet -n '__fish_seen_subcommand_from check' -f -a "(__fish_complete_suffix .inet)"
+complete -c inet -n '__fish_seen_subcommand_from check' -s h -l help -d 'Print help'
+complete -c inet -n '__fish_seen_subcommand_from derive' -f -a "(__fish_complete_suffix .inet)"
+complete -c inet -n '__fish_seen_subcommand_from derive' -s h -l help -d 'Print help'
+complete -c inet -n '__fish_seen_subcommand_from run' -f -a "(__fish_complete_suffix .inet)"
+complete -c inet -n '__fish_seen_subcommand_from run' -l workers -x -d 'The workers that share the interactions, 1 to 64'
+complete -c inet -n '__fish_seen_subcommand_from run' -l limit -x -d 'The most interactions, 0 to 1000000000000'
+complete -c inet -n '__fish_seen_subcommand_from run' -l cells -x -d 'The cells for agents of each size, 16 to 1048576'
+complete -c inet -n '__fish_seen_subcommand_from run' -l no-net -d 'Prints no net, only how many interactions there were and why it stopped'
+complete -c inet -n '__fish_seen_subcommand_from run' -l stats -d 'Prints figures of the run on standard error'
+complete -c inet -n '__fish_seen_subcommand_from run' -s h -l help -d 'Print help'
+complete -c inet -n '__fish_seen_subcommand_from help' -a 'check derive run'
+complete -c inet_export -f -a "(__fish_complete_suffix .inet)"
+complete -c inet_export -s h -l help -d 'Print help'
+complete -c inet_export -s V -l version -d 'Print version'

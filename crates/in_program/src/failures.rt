@@ -1,0 +1,52 @@
+// What is told of a stream or a file that fails.
+use std::alloc::{AllocError, Global};
+use std::io::{Error, Write};
+
+/// What failed: a standard stream, or a file of this name.
+#[derive(Clone, Copy)]
+pub enum Device<'a> {
+    /// Standard input.
+    Input,
+    /// Standard output.
+    Output,
+    /// A file.
+    File(&'a str),
+}
+
+/// A file's name as it is told: each control character of it is shown as U+FFFD, so that it stays on its line.
+pub fn shown(alloc: Global, file: &str) -> Result<String, AllocError> {
+    let mut name = String::new(alloc);
+    for character in file.chars() {
+        name.push(if character.is_control() {
+            '\u{FFFD}'
+        } else {
+            character
+        })?;
+    }
+    Ok(name)
+}
+
+/// What can't be done with a device, and why.
+fn failure(alloc: Global, device: Device, done: &str, why: Error) -> Result<String, AllocError> {
+    match device {
+        Device::Input => format!(in alloc; "error: standard input can't be {done}: {why}\n"),
+        Device::Output => format!(in alloc; "error: standard output can't be {done}: {why}\n"),
+        Device::File(file) => {
+            let name = shown(alloc, file)?;
+            format!(in alloc; "error: {name} can't be {done}: {why}\n")
+        }
+    }
+}
+
+/// Tells what can't be done with a device, as `read`, and why. Where memory runs out, or it can't be told, nothing is added.
+pub fn tell_failure<E: Write>(
+    alloc: Global,
+    device: Device,
+    done: &str,
+    why: Error,
+    errors: &mut E,
+) {
+    if let Ok(words) = failure(alloc, device, done, why) {
+        let _ = errors.write_all(words.as_bytes());
+    }
+}

@@ -1,0 +1,46 @@
+// Who sees how far a run is.
+use in_machine::Need;
+
+/// How far a run is.
+#[derive(Clone, Copy, Debug, PartialEq, Eq)]
+pub struct Progress {
+    /// The interactions that were done.
+    pub interactions: u64,
+    /// The phases, in which several threads reduced the net in parts.
+    pub phases: u64,
+    /// The most threads of a phase; 1 where there was none.
+    pub threads: u32,
+    /// The cells of each class that agents have now.
+    pub used: Need,
+}
+
+/// Who watches a run. What it does changes nothing of the run.
+pub trait Watch {
+    /// A run begins: its program is checked.
+    fn begin(&mut self);
+
+    /// How many interactions one worker does at most before the watch looks again; 0 is as 1.
+    fn turn(&self) -> u64;
+
+    /// The run goes on.
+    fn look(&mut self, progress: Progress);
+
+    /// The run has stopped.
+    fn end(&mut self, progress: Progress);
+}
+
+/// The watch that sees nothing.
+#[derive(Clone, Copy, Debug)]
+pub struct NoWatch;
+
+impl Watch for NoWatch {
+    fn begin(&mut self) {}
+
+    fn turn(&self) -> u64 {
+        u64::MAX
+    }
+
+    fn look(&mut self, _progress: Progress) {}
+
+    fn end(&mut self, _progress: Progress) {}
+}

@@ -1,0 +1,188 @@
+use in_program::{Progress, Watch};
+use std::alloc::Global;
+use std::cmp::max;
+use std::io::Write;
+use std::time::{Clock, Duration, Instant};
+
+/// How many interactions are done before it is looked whether a second is over.
+const SHOWN_TURN: u64 = 1 << 20;
+
+/// .. and, for figures, how many cells are in use.
+const COUNTED_TURN: u64 = 1 << 10;
+
+/// How a line of a terminal is taken back.
+const TAKEN_BACK: &str = "\r\x1b[K";
+
+/// Watches a run for who sits at a terminal, or wants figures of it.
+#[derive(Drop)]
+pub struct Watching<'a, T, E> {
+    clock: &'a T,
+    alloc: Global,
+    errors: E,
+    /// Whether it shows each second how many interactions were done.
+    shows: bool,
+    /// Whether figures are wanted.
+    counts: bool,
+    /// When the program was started, its run began, a line was shown, and the run stopped.
+    started: Option<Instant>,
+    begun: Option<Instant>,
+    shown: Option<Instant>,
+    stopped: Option<Instant>,
+    is_shown: bool,
+    /// What was seen, with the most cells in use that were.
+    seen: Option<Progress>,
+}
+
+/// The larger numbers of cells.
+fn with_most(seen: Option<Progress>, progress: Progress) -> Progress {
+    let mut most = progress;
+    if let Some(seen) = seen {
+        most.used.small = max(seen.used.small, progress.used.small);
+        most.used.large = max(seen.used.large, progress.used.large);
+        most.used.wide = max(seen.used.wide, progress.used.wide);
+    }
+    most
+}
+
+/// How long it was from one time to the other, where both are known.
+fn between(from: Option<Instant>, to: Option<Instant>) -> Option<Duration> {
+    Some(to?.duration_since(from?))
+}
+
+impl<'a, T: Clock, E: Write> Watching<'a, T, E> {
+    /// A watch from now on.
+    pub fn new(
+        clock: &'a T,
+        alloc: Global,
+        errors: E,
+        shows: bool,
+        counts: bool,
+    ) -> Watching<'a, T, E> {
+        Watching {
+            clock,
+            alloc,
+            errors,
+            shows,
+            counts,
+            started: Instant::now(clock).ok(),
+            begun: None,
+            shown: None,
+            stopped: None,
+            is_shown: false,
+            seen: None,
+        }
+    }
+
+    /// Writes a line to standard error; where it can't be written, nothing changes.
+    fn say(&mut self, line: &str) {
+        let _ = self.errors.write_all(line.as_bytes());
+    }
+
+    /// Shows how many interactions were done, where a second is over.
+    fn show(&mut self, interactions: u64) {
+        let now = Instant::now(self.clock).ok();
+        let is_due = match between(self.shown, now) {
+            Some(time) => time >= Duration::from_secs(1),
+            None => false,
+        };
+        if is_due {
+            self.shown = now;
+            if let Ok(line) = format!(in self.alloc;
+                "{TAKEN_BACK}inet: {interactions} interactions"
+            ) {
+                self.is_shown = true;
+                self.say(line.as_str());
+            }
+        }
+    }
+
+    /// Tells how long something took.
+    fn tell_time(&mut self, what: &str, time: Duration) {
+        let seconds = time.as_secs();
+        let thousandths = time.subsec_millis();
+        if let Ok(line) = format!(in self.alloc; "time to {what}: {seconds}.{thousandths:03} s\n") {
+            self.say(line.as_str());
+        }
+    }
+
+    /// Tells how many interactions there were in a second.
+    fn tell_rate(&mut self, interactions: u64, time: Duration) {
+        let micros = time.as_micros();
+        if micros == 0 {
+            return;
+        }
+        let rate = u128::from(interactions) * 1_000_000 / micros;
+        if let Ok(line) = format!(in self.alloc; "interactions a second: {rate}\n") {
+            self.say(line.as_str());
+        }
+    }
+
+    /// Tells of a run how many cells, threads and phases it had.
+    fn tell_seen(&mut self, seen: Progress) {
+        let Progress {
+            used,
+            threads,
+            phases,
+            ..
+        } = seen;
+        let (small, large, wide) = (used.small, used.large, used.wide);
+        if let Ok(lines) = format!(in self.alloc;
+            "most cells in use: {small} small, {large} large, {wide} wide\nthreads: {threads}\nphases: {phases}\n"
+        ) {
+            self.say(lines.as_str());
+        }
+    }
+
+    /// Tells the figures, where they are wanted and there was a run.
+    pub fn tell(&mut self) {
+        if !self.counts {
+            return;
+        }
+        if let Some(time) = between(self.started, self.begun) {
+            self.tell_time("check", time);
+        }
+        let run = between(self.begun, self.stopped);
+        if let Some(time) = run {
+            self.tell_time("run", time);
+        }
+        if let Some(seen) = self.seen {
+            if let Some(time) = run {
+                self.tell_rate(seen.interactions, time);
+            }
+            self.tell_seen(seen);
+        }
+    }
+}
+
+impl<'a, T: Clock, E: Write> Watch for Watching<'a, T, E> {
+    fn begin(&mut self) {
+        self.begun = Instant::now(self.clock).ok();
+        self.shown = self.begun;
+    }
+
+    fn turn(&self) -> u64 {
+        if self.counts {
+            COUNTED_TURN
+        } else if self.shows {
+            SHOWN_TURN
+        } else {
+            u64::MAX
+        }
+    }
+
+    fn look(&mut self, progress: Progress) {
+        self.seen = Some(with_most(self.seen, progress));
+        if self.shows {
+            self.show(progress.interactions);
+        }
+    }
+
+    fn end(&mut self, progress: Progress) {
+        self.stopped = Instant::now(self.clock).ok();
+        self.seen = Some(with_most(self.seen, progress));
+        if self.is_shown {
+            self.is_shown = false;
+            self.say(TAKEN_BACK);
+        }
+    }
+}

@@ -1,0 +1,172 @@
+use in_check::check;
+use in_command_line::Action;
+use in_diagnosis::diagnosis;
+use in_limits::{Limits, MOST_CELLS, MOST_INTERACTIONS};
+use in_program::{Status, shown};
+use in_syntax::{Fault, Place};
+use std::alloc::{AllocError, Global};
+use std::io::Write;
+
+/// A colour of a terminal, in bold.
+#[derive(Clone, Copy)]
+enum Colour {
+    Red,
+    Green,
+    Blue,
+    Cyan,
+}
+
+/// How a terminal goes back from a colour.
+const PLAIN: &str = "\x1b[0m";
+
+/// How a terminal goes to a colour.
+fn code(colour: Colour) -> &'static str {
+    match colour {
+        Colour::Red => "\x1b[1;31m",
+        Colour::Green => "\x1b[1;32m",
+        Colour::Blue => "\x1b[1;34m",
+        Colour::Cyan => "\x1b[1;36m",
+    }
+}
+
+/// Where the text is refused.
+fn place_of(alloc: Global, text: &[u8]) -> Result<Option<Place>, AllocError> {
+    match check(alloc, text) {
+        Err(Fault::Refused(refusal)) => Ok(Some(refusal.place)),
+        Err(Fault::Memory(error)) => Err(error),
+        Ok(checked) => {
+            drop(checked);
+            Ok(None)
+        }
+    }
+}
+
+/// The line that says in which file, and where there, a text is refused.
+fn head(alloc: Global, file: &str, text: &[u8]) -> Result<String, AllocError> {
+    match place_of(alloc, text)? {
+        Some(Place { line, col, .. }) => {
+            let name = shown(alloc, file)?;
+            format!(in alloc; " --> {name}:{line}:{col}\n")
+        }
+        None => Ok(String::new(alloc)),
+    }
+}
+
+/// The colour of a line's first part, and where that part ends, where it has one; `mark` is the colour of marks below an excerpt.
+fn coloured_part(line: &str, mark: Colour) -> Option<(Colour, usize)> {
+    if line.starts_with("error:") {
+        Some((Colour::Red, 6))
+    } else if line.starts_with("note:") {
+        Some((Colour::Cyan, 5))
+    } else if line.starts_with("help:") {
+        Some((Colour::Green, 5))
+    } else if line.starts_with(" -->") {
+        Some((Colour::Blue, 4))
+    } else if line.trim_start().starts_with('|') {
+        Some((mark, line.len()))
+    } else {
+        None
+    }
+}
+
+/// Adds a line in its colours.
+fn add_coloured(
+    words: &mut String,
+    line: &str,
+    colour: Colour,
+    end: usize,
+) -> Result<(), AllocError> {
+    words.push_str(code(colour))?;
+    words.push_str(line.get(..end).unwrap_or(""))?;
+    words.push_str(PLAIN)?;
+    words.push_str(line.get(end..).unwrap_or(""))
+}
+
+/// The words in colours: what kind of line it is, and the marks below excerpts.
+pub fn in_colours(alloc: Global, words: &str) -> Result<String, AllocError> {
+    let mut told = String::new(alloc);
+    let mut mark = Colour::Red;
+    for line in words.lines() {
+        match coloured_part(line, mark) {
+            Some((colour, end)) => {
+                add_coloured(&mut told, line, colour, end)?;
+                if line.starts_with("note:") {
+                    mark = Colour::Cyan;
+                }
+            }
+            None => told.push_str(line)?,
+        }
+        told.push('\n')?;
+    }
+    Ok(told)
+}
+
+/// What is wrong with a text that is refused, in words for people, after a line with its file.
+fn told(
+    alloc: Global,
+    file: Option<&str>,
+    text: &[u8],
+    colours: bool,
+) -> Result<String, AllocError> {
+    let mut words = match file {
+        Some(file) => head(alloc, file, text)?,
+        None => String::new(alloc),
+    };
+    if let Some(diagnosis) = diagnosis(alloc, text)? {
+        words.push_str(diagnosis.as_str())?;
+    }
+    if colours {
+        in_colours(alloc, words.as_str())
+    } else {
+        Ok(words)
+    }
+}
+
+/// Tells what is wrong with a text that is refused. Where memory runs out, or it can't be told, nothing is added.
+pub fn tell_diagnosis<E: Write>(
+    alloc: Global,
+    file: Option<&str>,
+    text: &[u8],
+    colours: bool,
+    errors: &mut E,
+) {
+    if let Ok(words) = told(alloc, file, text, colours) {
+        let _ = errors.write_all(words.as_bytes());
+    }
+}
+
+/// The limits of a run.
+fn limits_in(action: &Action) -> Option<Limits> {
+    match action {
+        Action::Check | Action::Derive => None,
+        Action::Run(limits) | Action::Count(limits) => Some(*limits),
+    }
+}
+
+/// What helps where a run has stopped with this status.
+fn help(alloc: Global, status: Status, limits: Limits) -> Result<Option<String>, AllocError> {
+    match status {
+        Status(3) if limits.limit() == MOST_INTERACTIONS => Ok(Some(format!(in alloc;
+            "help: no run may have more interactions than {MOST_INTERACTIONS}\n"
+        )?)),
+        Status(3) => Ok(Some(format!(in alloc;
+            "help: `--limit N` allows more interactions, up to {MOST_INTERACTIONS}\n"
+        )?)),
+        Status(4) if limits.cells() == MOST_CELLS => Ok(Some(format!(in alloc;
+            "help: no run may have more cells of a size than {MOST_CELLS}\n"
+        )?)),
+        Status(4) => Ok(Some(format!(in alloc;
+            "help: `--cells N` gives more cells of each size, up to {MOST_CELLS}\n"
+        )?)),
+        _ => Ok(None),
+    }
+}
+
+/// Tells what helps where a run has stopped at its limit, or for lack of cells. Where memory runs out, or it can't be told, nothing is added.
+pub fn tell_help<E: Write>(alloc: Global, status: Status, action: &Action, errors: &mut E) {
+    if let Some(limits) = limits_in(action) {
+        if let Ok(Some(words)) = help(alloc, status, limits) {
+            let _ = errors.write_all(words.as_bytes());
+        }
+    }
+}

@@ -1,0 +1,340 @@
+#!/usr/bin/env python3
+"""The man pages in man/ and the completions in completions/, from the one definition of the command line: from what the programs print for
+--help.
+
+Usage: tools/command_line.py make [INET INET_EXPORT]      writes these files
+       tools/command_line.py check [INET INET_EXPORT]     names those that are missing, too many or have other bytes
+
+INET and INET_EXPORT are the programs, by default those that were built here.
+"""
+import os
+import re
+import subprocess
+import sys
+from dataclasses import dataclass
+
+import streams
+
+TOP = os.path.dirname(os.path.dirname(os.path.abspath(__file__)))
+BUILT = [os.path.join(TOP, "crates", name, "out", name) for name in ("inet", "inet_export")]
+FOLDERS = ("man", "completions")
+# A line of a list in help: the words, and what is said of them.
+ENTRY = re.compile(r"^ {2,}(\S.*?) {2,}(\S.*)$")
+# An option's short and long name, and what stands for its value.
+OPTION = re.compile(r"^(?:(-\w)(?:, )?)?(--[\w-]+)?(?: <(\w+)>)?$")
+USUAL = re.compile(r" \[default: (.*)\]$")
+# What no help says.
+STATUSES = (
+    ("0", "The program is accepted; its run has come to its end; help or the version was asked for."),
+    ("1", "The program is refused."),
+    ("2", "The words are wrong."),
+    ("3", "The run stopped at its limit."),
+    ("4", "The run stopped for lack of cells, or the net doesn't fit the cells."),
+    ("5", "Out of memory."),
+    ("6", "A file or a stream could not be read or written."),
+)
+OF_RUNS = ("3", "4")
+EXAMPLES = {
+    "inet": (("inet check sum.inet", "Says whether the program is accepted."), ("inet run --no-net --stats sum.inet", "Counts its interactions, and tells how fast they were.")),
+    "inet_export": (("inet_export sum.inet | python3 -m json.tool", "Shows the program as data."),),
+}
+
+
+@dataclass(frozen=True)
+class Option:
+    """An option: its names, what stands for its value, what it is for, and its usual value."""
+
+    short: str
+    long: str
+    value: str
+    what: str
+    usual: str
+
+    def names(self):
+        return [name for name in (self.short, self.long) if name]
+
+
+@dataclass(frozen=True)
+class Command:
+    """A command: what it does, how it is called, its arguments, its options, and its commands."""
+
+    name: str
+    what: str
+    usage: str
+    arguments: tuple[tuple[str, str], ...]
+    options: tuple[Option, ...]
+    commands: tuple["Command", ...]
+
+    def takes_file(self):
+        return any("FILE" in name for name, _what in self.arguments)
+
+
+# ---- the definition
+
+
+def help_of(path, words):
+    """What a program prints for --help."""
+    try:
+        ran = subprocess.run([path, *words, "--help"], stdin=subprocess.DEVNULL, stdout=subprocess.PIPE, check=False)
+    except OSError as error:
+        raise streams.Refused(f"{path} can't be run: {error.strerror}") from None
+    if ran.returncode != 0:
+        raise streams.Refused(f"{path} {' '.join(words)} --help: status {ran.returncode}")
+    return ran.stdout.decode()
+
+
+def entries(text, title):
+    """The lines of a list in help."""
+    found = re.search(rf"^{title}:\n((?: .*\n)*)", text, re.MULTILINE)
+    return [ENTRY.match(line).groups() for line in found[1].splitlines()] if found else []
+
+
+def option_in(names, what):
+    """An option of a line of help."""
+    short, long, value = OPTION.match(names).groups(default="")
+    usual = USUAL.search(what)
+    return Option(short, long, value, USUAL.sub("", what), usual[1] if usual else "")
+
+
+def command_of(path, name, words=()):
+    """A command as a program's help has it."""
+    text = help_of(path, words)
+    usage = re.search(r"^Usage: \S+ ?(.*)$", text, re.MULTILINE)[1]
+    below = [word for word, _what in entries(text, "Commands") if word != "help"]
+    return Command(
+        name=name,
+        what=text.split("\n", 1)[0],
+        usage=usage,
+        arguments=tuple(entries(text, "Arguments")),
+        options=tuple(option_in(*entry) for entry in entries(text, "Options")),
+        commands=tuple(command_of(path, word, (*words, word)) for word in below),
+    )
+
+
+# ---- man pages
+
+
+def roff(text):
+    """The text as roff has it."""
+    escaped = text.replace("\\", "\\e").replace("-", "\\-")
+    return "\\&" + escaped if escaped[:1] in (".", "'") else escaped
+
+
+def roff_options(options):
+    for option in options:
+        names = ", ".join(f"\\fB{roff(name)}\\fR" for name in option.names())
+        yield f".TP\n{names}" + (f" \\fI{option.value}\\fR" if option.value else "")
+        yield roff(option.what) + "." + (f" Usually {option.usual}." if option.usual else "")
+
+
+def man_page(command):
+    """The man page of a program."""
+    name = command.name
+    runs = bool(command.commands)
+    lines = [
+        f".\\\" Made by tools/command_line.py from {name} --help.",
+        f'.TH {name.upper()} 1 "" "" "Interaction nets"',
+        ".SH NAME",
+        f"{roff(name)} \\- {roff(command.what[0].lower() + command.what[1:])}",
+        ".SH SYNOPSIS",
+    ]
+    for one in command.commands or (command,):
+        words = one.usage if runs else f"{one.usage}"
+        lines += [".br", f"\\fB{roff(name)}\\fR {roff(words)}"]
+    lines.append(".SH DESCRIPTION")
+    if runs:
+        lines.append("The language is that of Yves Lafont, \"Interaction Nets\" (POPL 1990). A program that is accepted never blocks, in any order of interactions, and each of its runs that ends prints the same.")
+    else:
+        lines.append("The data is one JSON object on one line. Of a program that is refused the line is that of \\fBinet check\\fR.")
+    for one in command.commands:
+        lines += [f".SS {roff(name)} {roff(one.usage)}", roff(one.what) + "."]
+        for argument, what in one.arguments:
+            lines += [f".TP\n\\fI{roff(argument.strip('[]'))}\\fR", roff(what) + "."]
+        lines += roff_options(one.options)
+    lines.append(".SH OPTIONS")
+    for argument, what in command.arguments:
+        lines += [f".TP\n\\fI{roff(argument.strip('[]'))}\\fR", roff(what) + "."]
+    lines += roff_options(command.options)
+    lines.append(".SH EXIT STATUS")
+    for status, what in STATUSES:
+        if runs or status not in OF_RUNS:
+            lines += [f".TP\n\\fB{status}\\fR", roff(what)]
+    if runs:
+        lines += [".SH ENVIRONMENT", ".TP\n\\fBNO_COLOR\\fR", "Where it is set and not empty, a diagnosis has no colours at a terminal."]
+    lines.append(".SH EXAMPLES")
+    for example, what in EXAMPLES[name]:
+        lines += [f".TP\n\\fB{roff(example)}\\fR", roff(what)]
+    other = "inet_export" if name == "inet" else "inet"
+    lines += [".SH SEE ALSO", f"\\fB{roff(other)}\\fR(1)"]
+    return "\n".join(lines) + "\n"
+
+
+# ---- completions
+
+
+def words_for(command):
+    """All names of a command's options."""
+    return [name for option in command.options for name in option.names()]
+
+
+def bash(programs):
+    """Completions for bash."""
+    lines = ["# Made by tools/command_line.py from --help: completions for bash. Source this file."]
+    for program in programs:
+        function = f"_{program.name}"
+        lines += [f"{function}() {{", '  local word=${COMP_WORDS[COMP_CWORD]} before=${COMP_WORDS[COMP_CWORD-1]} words files=']
+        if program.commands:
+            lines.append("  if ((COMP_CWORD == 1)); then")
+            first = [one.name for one in program.commands] + ["help", *words_for(program)]
+            lines += [f"    words='{' '.join(first)}'", "  else", "    case ${COMP_WORDS[1]} in"]
+            for one in program.commands:
+                valued = "|".join(name for option in one.options if option.value for name in option.names())
+                lines.append(f"      {one.name})")
+                if valued:
+                    lines.append(f"        case $before in {valued}) return ;; esac")
+                lines.append(f"        words='{' '.join(words_for(one))}' files=1 ;;")
+            lines.append(f"      help) if ((COMP_CWORD == 2)); then words='{' '.join(one.name for one in program.commands)}'; fi ;;")
+            lines += ["    esac", "  fi"]
+        else:
+            lines.append(f"  words='{' '.join(words_for(program))}' files=1")
+        lines += [
+            '  if [[ $files && $word != -* ]]; then',
+            '    compopt -o filenames',
+            '    mapfile -t COMPREPLY < <(compgen -d -- "$word"; compgen -f -X \'!*.inet\' -- "$word")',
+            "  else",
+            '    mapfile -t COMPREPLY < <(compgen -W "$words" -- "$word")',
+            "  fi",
+            "}",
+            f"complete -F {function} {program.name}",
+        ]
+    return "\n".join(lines) + "\n"
+
+
+def quoted(text):
+    """A text in single quotes, as all three shells take it."""
+    return "'" + text.replace("'", "'\\''") + "'"
+
+
+def zsh_text(text):
+    """What zsh says of an option, without the signs that end it."""
+    return text.replace("[", "(").replace("]", ")").replace(":", "\\:")
+
+
+def zsh_arguments(command):
+    """The arguments of a command, for `_arguments`."""
+    for option in command.options:
+        value = f":{option.value}:" if option.value else ""
+        for name in option.names():
+            yield quoted(f"{name}[{zsh_text(option.what)}]{value}")
+    if command.takes_file():
+        yield quoted("::file:_files -g '*.inet'")
+
+
+def zsh(programs):
+    """Completions for zsh."""
+    lines = [f"#compdef {' '.join(program.name for program in programs)}", "# Made by tools/command_line.py from --help: completions for zsh. Put it on `fpath`."]
+    for program in programs:
+        lines.append(f"_{program.name}() {{")
+        if program.commands:
+            lines.append("  local -a commands")
+            described = [f"{one.name}:{zsh_text(one.what)}" for one in program.commands] + ["help:Print help"]
+            lines.append("  commands=(" + " ".join(quoted(one) for one in described) + ")")
+            lines.append("  if ((CURRENT == 2)); then")
+            lines += ["    _describe command commands", "    _arguments " + " ".join(zsh_arguments(program)), "    return", "  fi"]
+            lines += ["  local command=$words[2]", "  shift words", "  ((CURRENT--))", "  case $command in"]
+            for one in program.commands:
+                lines.append(f"    {one.name}) _arguments {' '.join(zsh_arguments(one))} ;;")
+            lines += ["    help) _describe command commands ;;", "  esac"]
+        else:
+            lines.append("  _arguments " + " ".join(zsh_arguments(program)))
+        lines.append("}")
+    lines.append("case $service in")
+    lines += [f"  {program.name}) _{program.name} ;;" for program in programs]
+    lines.append("esac")
+    return "\n".join(lines) + "\n"
+
+
+def fish_options(program, command, condition):
+    for option in command.options:
+        names = (f" -s {option.short[1:]}" if option.short else "") + (f" -l {option.long[2:]}" if option.long else "")
+        value = " -x" if option.value else ""
+        yield f"complete -c {program.name}{condition}{names}{value} -d {quoted(option.what)}"
+
+
+def fish(programs):
+    """Completions for fish."""
+    lines = ["# Made by tools/command_line.py from --help: completions for fish."]
+    files = '-f -a "(__fish_complete_suffix .inet)"'
+    for program in programs:
+        if not program.commands:
+            lines += [f"complete -c {program.name} {files}", *fish_options(program, program, "")]
+            continue
+        names = " ".join(one.name for one in program.commands)
+        first = f" -n 'not __fish_seen_subcommand_from {names} help'"
+        lines.append(f"complete -c {program.name} -f")
+        for one in program.commands:
+            lines.append(f"complete -c {program.name}{first} -a {one.name} -d {quoted(one.what)}")
+        lines.append(f"complete -c {program.name}{first} -a help -d 'Print help'")
+        lines += fish_options(program, program, first)
+        for one in program.commands:
+            inside = f" -n '__fish_seen_subcommand_from {one.name}'"
+            lines += [f"complete -c {program.name}{inside} {files}", *fish_options(program, one, inside)]
+        lines.append(f"complete -c {program.name} -n '__fish_seen_subcommand_from help' -a '{names}'")
+    return "\n".join(lines) + "\n"
+
+
+# ---- the files
+
+
+def made(paths):
+    """The texts of all files, by their paths below the top."""
+    programs = [command_of(path, os.path.basename(built)) for path, built in zip(paths, BUILT)]
+    pages = {f"man/{program.name}.1": man_page(program) for program in programs}
+    return {**pages, "completions/inet.bash": bash(programs), "completions/_inet": zsh(programs), "completions/inet.fish": fish(programs)}
+
+
+def read(name):
+    """The text of a file below the top, None where it isn't there."""
+    path = os.path.join(TOP, name)
+    if not os.path.exists(path):
+        return None
+    with open(path, encoding="utf-8") as file:
+        return file.read()
+
+
+def wrong(paths):
+    """What is wrong with the files: a line for each."""
+    wanted = made(paths)
+    for name, text in wanted.items():
+        if read(name) != text:
+            yield f"{name} isn't there" if read(name) is None else f"{name} has other bytes"
+    for folder in FOLDERS:
+        for file in sorted(os.listdir(os.path.join(TOP, folder))):
+            if f"{folder}/{file}" not in wanted:
+                yield f"{folder}/{file} is of no program"
+
+
+def make(paths):
+    for name, text in made(paths).items():
+        os.makedirs(os.path.join(TOP, os.path.dirname(name)), exist_ok=True)
+        with open(os.path.join(TOP, name), "w", encoding="utf-8") as file:
+            file.write(text)
+    return 0
+
+
+def check(paths):
+    found = [*wrong(paths)]
+    streams.write("\n".join(found or ["the man pages and completions are as they should be"]) + "\n")
+    return 1 if found else 0
+
+
+def main():
+    commands = {"make": make, "check": check}
+    if len(sys.argv) not in (2, 4) or sys.argv[1] not in commands:
+        streams.write(f"{__doc__.strip()}\n")
+        return 0 if sys.argv[1:] == ["--help"] else streams.WRONG_WORDS
+    return commands[sys.argv[1]](sys.argv[2:] or BUILT)
+
+
+if __name__ == "__main__":
+    streams.run(main)
