@@ -1,10 +1,13 @@
 /* Reads a program's text from standard input, and refuses a wrong one with its line and its diagnosis, as `inet check` does. */
-#include "inet.h"
+#include <inet.h>
 
 #include <stdio.h>
 #include <stdlib.h>
 
 typedef uint8_t call(const uint8_t *, size_t, uint8_t *, size_t, size_t *);
+
+/* The program's statuses for a write or a read that failed, which are no call's. */
+enum { STREAM = 6 };
 
 /* A longer text is refused, and so no more is read. */
 static uint8_t text[1048576 + 1];
@@ -23,6 +26,8 @@ static int write_answer(call *ask, size_t text_length, FILE *to)
     }
     if (room)
         fwrite(room, 1, length, to);
+    else if (to == stdout)
+        fputs("memory\n", to);
     free(room);
     return status;
 }
@@ -30,8 +35,12 @@ static int write_answer(call *ask, size_t text_length, FILE *to)
 int main(void)
 {
     size_t text_length = fread(text, 1, sizeof text, stdin);
+    if (ferror(stdin))
+        return STREAM;
     int status = write_answer(inet_check, text_length, stdout);
+    if (fflush(stdout) || ferror(stdout))
+        return STREAM;
     if (status == INET_REFUSED)
         write_answer(inet_diagnose, text_length, stderr);
-    return ferror(stdin) || fflush(stdout) ? EXIT_FAILURE : status;
+    return status;
 }

@@ -1,2 +1,5 @@
+mod Chosen
+mod Exported
 mod Given
 mod Said
+mod Told

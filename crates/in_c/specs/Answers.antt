@@ -1,5 +1,13 @@
 -- What a call answers to a text. What is said of a text is the program's: see `in_program`'s definitions of what it does.
 use Rattle.std.specs.Prelude.{◌≡◌, ◌⊎◌, ℕ, true, false, List, [], Some, None}
+use Rattle.in_syntax.specs.declared.faults.Refusal.{Refusal}
+use Rattle.in_check.specs.Checking.{IsAccepted, IsRefused}
+use Rattle.in_check.specs.Programs.{Program}
+use Rattle.in_export.specs.Programs.{program_line}
+use Rattle.in_certificates.specs.declared.given.GivenStep.{GivenStep}
+use Rattle.in_certificates.specs.Given.{steps_of}
+use Rattle.in_certificates.specs.Verifying.{AreStepsOf, item_of, shape_of}
+use Rattle.in_diagnosis.specs.Data.{IsDataOf}
 use Rattle.in_diagnosis.specs.Programs.{IsToldOfText}
 use Rattle.in_limits.specs.AllowedLimits.{AreLimits}
 use Rattle.in_limits.specs.declared.limits.Limits.{Limits}
@@ -7,7 +15,13 @@ use Rattle.in_command_line.specs.declared.action.Action.{Action}
 use Rattle.in_command_line.specs.declared.action.Action.TheVariants.{Run}
 use Rattle.in_program.specs.declared.acting.Status.{Status}
 use Rattle.in_program.specs.Acting.{IsReply, WantsMemory, memory_status, status}
+use Rattle.in_program.specs.Lines.{refused_line}
+use Rattle.in_c.specs.declared.refusing.Numbers.{Numbers}
+use Rattle.in_c.specs.declared.choosing.RunNumbers.{RunNumbers}
+use Rattle.in_c.specs.declared.choosing.Shown.{Shown}
+use Rattle.in_c.specs.Choosing.{IsRunBy}
 use Rattle.in_c.specs.Giving.{IsGiven}
+use Rattle.in_c.specs.Numbers.{no_numbers, numbers_of}
 
 -- the program's reply to the text, or that memory ran out
 abbrev pub IsSaid : Action → List ℕ → List ℕ → Status → Type 0
@@ -24,6 +38,38 @@ pub data IsDiagnosis (text words : List ℕ) (s : Status) : Type 0 where
   accepted : IsToldOfText text false → words ≡ [] → s ≡ status 0 → IsDiagnosis text words s
   wanting : words ≡ [] → s ≡ memory_status → IsDiagnosis text words s
 
+-- the text is accepted, and this is so of its program
+abbrev pub OfProgram : List ℕ → (Program → Type 0) → Type 0
+OfProgram text So = (p : Program) × IsAccepted text p × So p
+
+-- the text is refused, and this is so of its refusal
+abbrev pub OfRefusal : List ℕ → (Refusal → Type 0) → Type 0
+OfRefusal text So = (r : Refusal) × IsRefused text r × So r
+
+-- the diagnosis as data of a text that is refused; nothing, where it is accepted; or nothing, when out of memory
+abbrev pub IsDiagnosisData : List ℕ → List ℕ → Status → Type 0
+IsDiagnosisData text line s =
+    OfRefusal text (λ r. IsDataOf r line × (s ≡ status 1)) ⊎ (OfProgram text (λ p. (line ≡ []) × (s ≡ status 0)) ⊎ ((line ≡ []) × (s ≡ memory_status)))
+
+-- the line of the text's program; that of its refusal; or that memory ran out
+abbrev pub IsExported : List ℕ → List ℕ → Status → Type 0
+IsExported text line s =
+    OfProgram text (λ p. (line ≡ program_line p) × (s ≡ status 0)) ⊎ (OfRefusal text (λ r. (line ≡ refused_line text r) × (s ≡ status 1)) ⊎ WantsMemory line s)
+
+-- the numbers of the text's refusal; none where it is accepted, or when out of memory
+abbrev pub IsRefusedAs : List ℕ → Numbers → Status → Type 0
+IsRefusedAs text n s =
+    OfRefusal text (λ r. (n ≡ numbers_of r) × (s ≡ status 1)) ⊎ (OfProgram text (λ p. (n ≡ no_numbers) × (s ≡ status 0)) ⊎ ((n ≡ no_numbers) × (s ≡ memory_status)))
+
+-- this is so, or it isn't
+abbrev pub SaysWhether : Type 0 → Status → Type 0
+SaysWhether So s = (So × (s ≡ status 0)) ⊎ ((So → ⊥) × (s ≡ status 2))
+
+-- whether the numbers are steps that build the rule of that number, or the net, of the text's program; or there is no program
+abbrev pub IsVerified : List ℕ → ℕ → List GivenStep → List ℕ → Status → Type 0
+IsVerified text k given parts s =
+    OfProgram text (λ p. SaysWhether (AreStepsOf (shape_of p (item_of p k)) (steps_of parts given)) s) ⊎ (OfRefusal text (λ r. s ≡ status 1) ⊎ (s ≡ memory_status))
+
 -- `count` bytes and this status, of which this is so, are given
 abbrev pub GivesAnswer : (List ℕ → Status → Type 0) → List ℕ → List ℕ → ℕ → ℕ → Type 0
 GivesAnswer So old new count s = (bytes : List ℕ) × So bytes (status s) × IsGiven bytes old new count
@@ -38,3 +84,13 @@ AnswersRun limit cells text old new count s = GivesAnswer (IsRunSaid limit cells
 
 abbrev pub Diagnoses : List ℕ → List ℕ → List ℕ → ℕ → ℕ → Type 0
 Diagnoses text old new count s = GivesAnswer (IsDiagnosis text) old new count s
+
+abbrev pub DiagnosesAsData : List ℕ → List ℕ → List ℕ → ℕ → ℕ → Type 0
+DiagnosesAsData text old new count s = GivesAnswer (IsDiagnosisData text) old new count s
+
+abbrev pub AnswersExport : List ℕ → List ℕ → List ℕ → ℕ → ℕ → Type 0
+AnswersExport text old new count s = GivesAnswer (IsExported text) old new count s
+
+-- what is shown of the run is given: its bytes, its numbers and its status
+abbrev pub AnswersRunBy : ℕ → ℕ → List ℕ → List ℕ → RunNumbers → List ℕ → List ℕ → ℕ → ℕ → Type 0
+AnswersRunBy limit cells text choices n old new count s = (a : Shown) × IsRunBy text choices limit cells a × (n ≡ a.numbers) × (status s ≡ a.status) × IsGiven a.bytes.items old new count

@@ -1,2 +1,4 @@
 pub mod Answers
+pub mod Choosing
 pub mod Giving
+pub mod Numbers

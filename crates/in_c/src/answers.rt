@@ -14,6 +14,10 @@ pub const REFUSED: Status = Status(1);
 
 pub const WRONG_WORDS: Status = Status(2);
 
+pub const LIMIT: Status = Status(3);
+
+pub const FULL: Status = Status(4);
+
 pub const MEMORY: Status = Status(5);
 
 pub const FAULT: Status = Status(6);

@@ -1,7 +1,7 @@
-ghost use Rattle.in_c.specs.Answers.{IsDiagnosis};
+ghost use Rattle.in_c.specs.Answers.{IsDiagnosis, IsDiagnosisData};
 
 use crate::answers::{ACCEPTED, Answer, MEMORY, REFUSED};
-use in_diagnosis::diagnosis;
+use in_diagnosis::{diagnosis, diagnosis_data};
 use std::alloc::Global;
 
 /// What is told of a text that is refused.
@@ -11,6 +11,26 @@ pub fn told(alloc: Global, text: &[u8]) -> Answer
     match diagnosis(alloc, text) {
         Ok(Some(words)) => Answer {
             bytes: words.into_bytes(),
+            status: REFUSED,
+        },
+        Ok(None) => Answer {
+            bytes: Vec::new(alloc),
+            status: ACCEPTED,
+        },
+        Err(_) => Answer {
+            bytes: Vec::new(alloc),
+            status: MEMORY,
+        },
+    }
+}
+
+/// The same as data.
+pub fn told_as_data(alloc: Global, text: &[u8]) -> Answer
+    ensures { IsDiagnosisData text.now result.bytes.items result.status }
+{
+    match diagnosis_data(alloc, text) {
+        Ok(Some(line)) => Answer {
+            bytes: line,
             status: REFUSED,
         },
         Ok(None) => Answer {

@@ -3,25 +3,49 @@
 //!
 //! Nothing is kept from call to call, so that several threads may call at once, each on a text and a room of its own.
 //!
-//! There is an export for each call. It has its answer made in memory (`saying`, `diagnosing`) by a writer that keeps what it takes
-//! (`collecting`), and gives it to the caller's room (`giving`). What is said is `in_program`'s `report_text` and `run_text`: the latter
+//! There is an export for each call. It has its answer made in memory (`saying`, `exporting`, `diagnosing`) by a writer that keeps what it
+//! takes (`collecting`), and gives it to the caller's room (`giving`); or it answers by numbers (`refusing`, `verifying`). What is said is `in_program`'s `report_text` and `run_text`: the latter
 //! runs in turn, since an export has no runtime to give to `act`. No crate can use a static library, so its tests are `tests/run --only
 //! library`. `docs/use/LIBRARY.md` has the page for users.
 #![tactic(auto)]
 
-ghost use Rattle.in_c.specs.Answers.{Answers, AnswersRun, Diagnoses};
+ghost use Rattle.std.specs.Prelude.{◌≡◌};
+ghost use Rattle.in_c.specs.Answers.{Answers, AnswersRun, AnswersRunBy, Diagnoses, DiagnosesAsData, AnswersExport, IsRefusedAs, IsVerified};
+ghost use Rattle.in_c.specs.Numbers.{version_number};
+ghost use Rattle.in_program.specs.Acting.{status};
 ghost use Rattle.in_command_line.specs.declared.action.Action.TheVariants.{Check, Derive};
 
 mod answers;
+mod choosing;
 mod collecting;
 mod diagnosing;
+mod exporting;
 mod giving;
+mod refusing;
 mod saying;
+mod verifying;
 
-use crate::diagnosing::told;
+use crate::answers::Answer;
+use crate::choosing::{RunNumbers, Shown, ran_by};
+use crate::diagnosing::{told, told_as_data};
+use crate::exporting::exported;
 use crate::giving::give;
+use crate::refusing::{Numbers, refused};
 use crate::saying::{ran, reported};
+use crate::verifying::verified;
+use in_certificates::GivenStep;
 use std::alloc::Global;
+
+/// The version of these calls: a million for the first number of `in_version`'s, a thousand for the second one, and the third one.
+const VERSION: u32 = 1_000;
+
+/// The version of the library, as a number.
+#[unsafe(no_mangle)]
+pub extern "C" fn inet_version() -> u32
+    ensures { result ≡ version_number }
+{
+    VERSION
+}
 
 /// What `inet check` writes on a text: as many first bytes of it as there is room for, and how many bytes the whole has. Answers the
 /// program's status.
@@ -68,4 +92,79 @@ pub extern "C" fn inet_diagnose(
     ensures { Diagnoses text.now room.old room.new length.new result }
 {
     give(Ok(told(alloc, text)), room, length)
+}
+
+/// The same diagnosis as data: one JSON object and a line feed, as `in_diagnosis::diagnosis_data` says; nothing where the text is accepted, and
+/// none when out of memory. Answers the status of the text.
+#[unsafe(no_mangle)]
+pub extern "C" fn inet_diagnose_data(
+    alloc: Global,
+    text: &[u8],
+    room: &mut [u8],
+    length: &mut usize,
+) -> u8
+    ensures { DiagnosesAsData text.now room.old room.new length.new result }
+{
+    give(Ok(told_as_data(alloc, text)), room, length)
+}
+
+/// The accepted program as data, as the program `inet_export` writes it; where the text is refused, what `inet check` writes. Answers the
+/// program's status.
+#[unsafe(no_mangle)]
+pub extern "C" fn inet_export(alloc: Global, text: &[u8], room: &mut [u8], length: &mut usize) -> u8
+    ensures { AnswersExport text.now room.old room.new length.new result }
+{
+    give(exported(alloc, text), room, length)
+}
+
+/// Why a text is refused, as numbers; all are 0 where it is accepted, and when out of memory. Answers the status of the text.
+#[unsafe(no_mangle)]
+pub extern "C" fn inet_refusal(alloc: Global, text: &[u8], refusal: &mut Numbers) -> u8
+    ensures { IsRefusedAs text.now refusal.new (status result) }
+{
+    let (numbers, status) = refused(alloc, text);
+    *refusal = numbers;
+    status.0
+}
+
+/// Whether these steps build the rule of that number of the text's program, or its net, which has the number after the last rule's: the
+/// status is 0 where they do, that of wrong words where they don't, or that of the text. `in_certificates` says what the numbers are.
+#[unsafe(no_mangle)]
+pub extern "C" fn inet_verify(
+    alloc: Global,
+    text: &[u8],
+    number: u32,
+    steps: &[GivenStep],
+    parts: &[u32],
+) -> u8
+    ensures { IsVerified text.now number steps.now parts.now (status result) }
+{
+    verified(alloc, text, number, steps, parts).0
+}
+
+/// A run in which first the pairs of these numbers in the queue interact, one after another, and then at most `limit` pairs first in, first
+/// out, with `cells` cells of each class: the net as `inet run` writes it, and where the run stands. It breaks off at a choice of which there is
+/// no pair, or whose pair needs more cells than are free. Answers 0 where no pair is left, 3 where as many came as are allowed, 4 where cells are
+/// too few, and that of wrong words for a choice without a pair; nothing is written, and all numbers are 0, where the text is refused, a number
+/// is out of range, the net doesn't fit the cells, or memory runs out.
+#[unsafe(no_mangle)]
+pub extern "C" fn inet_run_by(
+    alloc: Global,
+    text: &[u8],
+    choices: &[u32],
+    limit: u64,
+    cells: u32,
+    numbers: &mut RunNumbers,
+    room: &mut [u8],
+    length: &mut usize,
+) -> u8
+    ensures { AnswersRunBy limit cells text.now choices.now numbers.new room.old room.new length.new result }
+{
+    let Shown {
+        numbers: found,
+        bytes,
+        status,
+    } = ran_by(alloc, text, choices, limit, cells);
+    *numbers = found;
+    give(Ok(Answer { bytes, status }), room, length)
 }

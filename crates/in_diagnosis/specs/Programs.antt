@@ -1,5 +1,5 @@
 -- Of which texts something is told.
-use Rattle.std.specs.Prelude.{Bool, true, false, List, ℕ, Ok, Err}
+use Rattle.std.specs.Prelude.{Bool, true, false, List, ℕ, Ok, Err, Option, Some, None}
 use Rattle.in_syntax.specs.declared.faults.Refusal.{Refusal}
 use Rattle.in_syntax.specs.declared.faults.Fault.TheVariants.{Refused}
 use Rattle.in_syntax.specs.declared.tree.Source.{Source}
@@ -11,7 +11,12 @@ abbrev pub IsToldOfText : List ℕ → Bool → Type 0
 IsToldOfText text true = (r : Refusal) × IsRefused text r
 IsToldOfText text false = (p : Program) × IsAccepted text p
 
+-- a text is refused so, or accepted
+abbrev pub Refuses : List ℕ → Option Refusal → Type 0
+Refuses text (Some r) = IsRefused text r
+Refuses text None = (p : Program) × IsAccepted text p
+
 -- the same of a text's tree
-abbrev pub IsToldOfTree : Source → Bool → Type 0
-IsToldOfTree s true = (r : Refusal) × ChecksNames s (Err (Refused r))
-IsToldOfTree s false = (p : Program) × ChecksNames s (Ok p)
+abbrev pub RefusesTree : Source → Option Refusal → Type 0
+RefusesTree s (Some r) = ChecksNames s (Err (Refused r))
+RefusesTree s None = (p : Program) × ChecksNames s (Ok p)

@@ -9,14 +9,18 @@
 //! `wires` tells the ends of a wire. `directed` finds agents in a circle of which each gives what the next one takes; where there are none,
 //! `circles` finds a circle through a part in which nothing splits. `stuck` tells it, and `remedies` tries declarations with other braces
 //! (`braces` of `in_diagnosis_words` writes them): each alone, and then the usual ones of all symbols.
+//!
+//! A `Report` gets all of it, and gives it out as a text or as data, before which `heads` writes the refusal.
 #![tactic(auto)]
 
 mod circles;
 mod directed;
+mod heads;
 mod remedies;
 mod sentences;
 mod stuck;
 mod telling;
 mod wires;
 
-pub use telling::diagnosis;
+pub use heads::code_number;
+pub use telling::{diagnosis, diagnosis_data};

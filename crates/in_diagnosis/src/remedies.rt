@@ -130,7 +130,8 @@ impl Refused<'_> {
 
     /// What a change does.
     fn effect(&self, alloc: Global, change: Change) -> Result<Effect, AllocError> {
-        let changed = Changed::new(alloc, self.text, self.source, change)?;
+        let edits = change.edits(alloc, self.text, self.source)?;
+        let changed = Changed::new(alloc, self.text, edits.as_slice())?;
         match answer_to(alloc, changed.text()) {
             Ok(Outcome::Accepted) => Ok(Effect::Accepts),
             Ok(Outcome::Stuck(at)) => Ok(self.effect_at(changed.before(at))),
@@ -235,30 +236,42 @@ fn add_declaration(
     }
 }
 
+/// Adds a change of the text, which was tried, to what was told last.
+fn add_change(report: &mut Report, refused: Refused, change: Change, accepted: bool) {
+    match change.edits(report.alloc, refused.text, refused.source) {
+        Ok(edits) => report.change_by(edits, accepted),
+        Err(error) => report.fail(error),
+    }
+}
+
+/// Adds what a remedy does that builds what was refused, by a sentence with its declaration.
+fn add_mending(
+    report: &mut Report,
+    refused: Refused,
+    sentence: &str,
+    remedy: Remedy,
+    accepted: bool,
+) {
+    let Refused { what, place, .. } = refused;
+    add_declaration(report, Kind::Help, sentence, remedy, what, place);
+    let change = Change::One(remedy.symbol, remedy.braces);
+    add_change(report, refused, change, accepted);
+}
+
 /// Adds what a remedy does, where it does anything. Says whether it builds what was refused.
 fn add_tried(report: &mut Report, refused: Refused, tried: Trial) -> bool {
-    let Refused {
-        text,
-        what,
-        place,
-        ..
-    } = refused;
     let remedy = tried.remedy;
     match tried.effect {
-        Effect::Accepts => {
-            add_declaration(report, Kind::Help, sentences::MENDS, remedy, what, place);
-        }
-        Effect::Builds => {
-            add_declaration(report, Kind::Help, sentences::BUILDS, remedy, what, place);
-        }
+        Effect::Accepts => add_mending(report, refused, sentences::MENDS, remedy, true),
+        Effect::Builds => add_mending(report, refused, sentences::BUILDS, remedy, false),
         Effect::BreaksRuleAt(at) => {
-            let there = place_at(text, at);
+            let there = place_at(refused.text, at);
             add_declaration(
                 report,
                 Kind::Note,
                 sentences::REFUSED_BEFORE,
                 remedy,
-                what,
+                refused.what,
                 there,
             );
         }
@@ -268,7 +281,7 @@ fn add_tried(report: &mut Report, refused: Refused, tried: Trial) -> bool {
 }
 
 /// Adds the declarations that the usual braces change, by a sentence on what these do.
-fn add_usual(report: &mut Report, refused: Refused, sentence: &str) {
+fn add_usual(report: &mut Report, refused: Refused, sentence: &str, accepted: bool) {
     let mut words = Words::new(report.alloc);
     words.fill(sentence, &[("what", Value::Text(refused.what))]);
     Change::AllUsual.say(&mut words, refused.source, MOST_DECLARED);
@@ -278,6 +291,7 @@ fn add_usual(report: &mut Report, refused: Refused, sentence: &str) {
         words.fill(sentences::AND_MORE, &[("count", more)]);
     }
     report.add(Kind::Help, None, words);
+    add_change(report, refused, Change::AllUsual, accepted);
 }
 
 /// The first symbol of a program that has no usual braces.
@@ -312,8 +326,8 @@ fn add_without(report: &mut Report, source: &Source, best: Option<Trial>) {
 /// Adds what the usual braces do, or else one declaration, which was tried, or else what is known.
 fn add_usual_or(report: &mut Report, refused: Refused, best: Option<Trial>, usual: Effect) {
     match (usual, best) {
-        (Effect::Accepts, _) => add_usual(report, refused, sentences::USUAL_MENDS),
-        (Effect::Builds, _) => add_usual(report, refused, sentences::USUAL_BUILDS),
+        (Effect::Accepts, _) => add_usual(report, refused, sentences::USUAL_MENDS, true),
+        (Effect::Builds, _) => add_usual(report, refused, sentences::USUAL_BUILDS, false),
         (_, Some(tried)) if add_tried(report, refused, tried) => (),
         _ => add_without(report, refused.source, best),
     }

@@ -1,8 +1,10 @@
 //! The diagnosis of a program's text.
 ghost use Rattle.std.specs.Prelude.{◌≡◌, IfOk, is_some};
 ghost use Rattle.in_syntax.specs.Parsing.{IsOfText};
-ghost use Rattle.in_diagnosis.specs.Programs.{IsToldOfText, IsToldOfTree};
+ghost use Rattle.in_diagnosis.specs.Data.{IsDataOf, IsToldAsData};
+ghost use Rattle.in_diagnosis.specs.Programs.{Refuses, RefusesTree, IsToldOfText};
 
+use crate::heads::head;
 use crate::sentences;
 use crate::stuck::add_stuck;
 use crate::wires::add_misfit;
@@ -63,35 +65,35 @@ fn add_shape_fault(
     }
 }
 
-/// What is wrong with a program that has a tree; says whether anything is.
-fn add_refusal(report: &mut Report, source: &Source) -> Result<bool, AllocError>
+/// What is wrong with a program that has a tree, and why it is refused; nothing where it isn't.
+fn add_refusal(report: &mut Report, source: &Source) -> Result<Option<Refusal>, AllocError>
     requires { IsOfText source.now }
-    ensures { IfOk result (IsToldOfTree source.now) }
+    ensures { IfOk result (RefusesTree source.now) }
 {
     let mut evidence = None;
     let told = match refusal_of(report.alloc, source, &mut evidence) {
         Ok(Some(refusal)) => {
             add_fault(report, source, refusal);
             add_shape_fault(report, source, refusal, evidence.as_ref());
-            Ok(true)
+            Ok(Some(refusal))
         }
-        Ok(None) => Ok(false),
+        Ok(None) => Ok(None),
         Err(error) => Err(error),
     };
     drop(evidence);
     told
 }
 
-/// What is wrong with a text, the report's; says whether anything is.
-fn add_first_fault(report: &mut Report, text: &[u8]) -> Result<bool, AllocError>
-    ensures { IfOk result (IsToldOfText text.now) }
+/// What is wrong with a text, the report's, and why it is refused; nothing where it isn't.
+fn add_first_fault(report: &mut Report, text: &[u8]) -> Result<Option<Refusal>, AllocError>
+    ensures { IfOk result (Refuses text.now) }
 {
     let mut expected = Expected::Item;
     match parse_expecting(report.alloc, text, &mut expected) {
         Ok(source) => add_refusal(report, &source),
         Err(Fault::Refused(refusal)) => {
             add_text_fault(report, refusal, expected);
-            Ok(true)
+            Ok(Some(refusal))
         }
         Err(Fault::Memory(error)) => Err(error),
     }
@@ -107,9 +109,34 @@ pub fn diagnosis(alloc: Global, text: &[u8]) -> Result<Option<String>, AllocErro
     ensures { IfOk result (λ found. IsToldOfText text.now (is_some found)) }
 {
     let mut report = Report::new(alloc, text);
-    if add_first_fault(&mut report, text)? {
-        Ok(Some(report.into_text()?))
-    } else {
-        Ok(None)
+    match add_first_fault(&mut report, text)? {
+        Some(_refusal) => Ok(Some(report.into_text()?)),
+        None => Ok(None),
+    }
+}
+
+/// The line of data on a refusal.
+fn line_of(alloc: Global, refusal: Refusal, report: Report) -> Result<Vec<u8>, AllocError>
+    ensures { IfOk result (λ line. IsDataOf refusal line.items) }
+{
+    let parts = report.into_data()?;
+    let mut line = head(alloc, refusal)?;
+    line.extend_from_slice(parts.as_bytes())?;
+    Ok(line)
+}
+
+/// The diagnosis of a program's text as data: one JSON object and a line feed, in UTF-8. It begins with the number of this form, the code, the
+/// line, the column and the bytes of the refusal; then come the sentences of the diagnosis, which are those of `diagnosis`, each with its place
+/// and with the change of the text that it tells. Nothing where `in_check::check` accepts the text. Its only error is running out of memory.
+///
+/// The refusal is that of `in_check::check`. The form and the words are this project's own choice: a clause says how the line begins, and none
+/// says how it goes on.
+pub fn diagnosis_data(alloc: Global, text: &[u8]) -> Result<Option<Vec<u8>>, AllocError>
+    ensures { IfOk result (IsToldAsData text.now) }
+{
+    let mut report = Report::new(alloc, text);
+    match add_first_fault(&mut report, text)? {
+        Some(refusal) => Ok(Some(line_of(alloc, refusal, report)?)),
+        None => Ok(None),
     }
 }

@@ -1,5 +1,6 @@
 //! Declarations of symbols with other braces.
 use crate::declarations::{arity, place_in, port, sign};
+use crate::edits::Edit;
 use crate::words::Words;
 use in_syntax::{Place, Source, SourceSymbol};
 use std::alloc::{AllocError, Global};
@@ -154,6 +155,22 @@ impl Change<'_> {
         count
     }
 
+    /// What it changes in the text of this program, in the order of the text.
+    pub fn edits(
+        &self,
+        alloc: Global,
+        text: &[u8],
+        source: &Source,
+    ) -> Result<Vec<Edit>, AllocError> {
+        let mut edits = Vec::new(alloc);
+        for symbol in source.symbols.as_slice() {
+            if let Some(braces) = self.braces_of(symbol) {
+                edits.push(edit_of(alloc, text, symbol, braces)?)?;
+            }
+        }
+        Ok(edits)
+    }
+
     /// Says the first declarations that it changes, `most` at most, each as it is with the change and in a line of its own.
     pub fn say(&self, words: &mut Words, source: &Source, most: usize) {
         let mut left = most;
@@ -193,18 +210,33 @@ fn declaration_end(text: &[u8], name: Place) -> usize {
     text.len()
 }
 
-/// Where a declaration ended, and where it ends now.
+/// The change of a text that gives a symbol these braces.
+fn edit_of(
+    alloc: Global,
+    text: &[u8],
+    symbol: &SourceSymbol,
+    braces: Braces,
+) -> Result<Edit, AllocError> {
+    let words = declaration_with(alloc, symbol, braces)?;
+    Ok(Edit {
+        from: symbol.name.place.from,
+        to: declaration_end(text, symbol.name.place),
+        words,
+    })
+}
+
+/// Where what is replaced ended, and where its replacement ends.
 #[derive(Clone, Copy)]
-struct Edit {
+struct Shift {
     before: usize,
     after: usize,
 }
 
-/// A text with other braces, beside the one that it was made of.
+/// A text with changes, beside the one that it was made of.
 #[derive(Drop)]
 pub struct Changed {
     text: Vec<u8>,
-    edits: Vec<Edit>,
+    shifts: Vec<Shift>,
 }
 
 impl Changed {
@@ -213,21 +245,21 @@ impl Changed {
         self.text.as_slice()
     }
 
-    /// Where the byte that stands at this one, in no declaration that was changed, stood before.
+    /// Where the byte that stands at this one, in nothing that was replaced, stood before.
     pub fn before(&self, at: usize) -> usize {
         let mut found = at;
-        for edit in self.edits.as_slice() {
-            if edit.after <= at {
-                found = edit.before.saturating_add(at - edit.after);
+        for shift in self.shifts.as_slice() {
+            if shift.after <= at {
+                found = shift.before.saturating_add(at - shift.after);
             }
         }
         found
     }
 
-    /// Goes on with the text from where the last declaration that was changed ended, up to this byte.
+    /// Goes on with the text from the end of what was replaced last, up to this byte.
     fn copy(&mut self, text: &[u8], to: usize) -> Result<(), AllocError> {
-        let from = match self.edits.last() {
-            Some(edit) => edit.before,
+        let from = match self.shifts.last() {
+            Some(shift) => shift.before,
             None => 0,
         };
         self.text
@@ -235,52 +267,32 @@ impl Changed {
         Ok(())
     }
 
-    /// Goes on up to the declaration of a symbol, and with it in these braces.
-    fn declare(
-        &mut self,
-        alloc: Global,
-        text: &[u8],
-        symbol: &SourceSymbol,
-        braces: Braces,
-    ) -> Result<(), AllocError> {
-        let declaration = declaration_with(alloc, symbol, braces)?;
-        self.copy(text, symbol.name.place.from)?;
-        self.text.extend_from_slice(declaration.as_bytes())?;
-        self.edits.push(Edit {
-            before: declaration_end(text, symbol.name.place),
+    /// Goes on up to a change, and with it.
+    fn replace(&mut self, text: &[u8], edit: &Edit) -> Result<(), AllocError> {
+        self.copy(text, edit.from)?;
+        self.text.extend_from_slice(edit.words.as_bytes())?;
+        self.shifts.push(Shift {
+            before: edit.to,
             after: self.text.len(),
         })?;
         Ok(())
     }
 
-    /// Goes on to the end with what is changed so.
-    fn fill(
-        &mut self,
-        alloc: Global,
-        text: &[u8],
-        source: &Source,
-        change: Change,
-    ) -> Result<(), AllocError> {
-        for symbol in source.symbols.as_slice() {
-            if let Some(braces) = change.braces_of(symbol) {
-                self.declare(alloc, text, symbol, braces)?;
-            }
+    /// Goes on to the end with these changes.
+    fn fill(&mut self, text: &[u8], edits: &[Edit]) -> Result<(), AllocError> {
+        for edit in edits {
+            self.replace(text, edit)?;
         }
         self.copy(text, text.len())
     }
 
-    /// The text of this program with a change.
-    pub fn new(
-        alloc: Global,
-        text: &[u8],
-        source: &Source,
-        change: Change,
-    ) -> Result<Changed, AllocError> {
+    /// The text with these changes, which come in the order of the text.
+    pub fn new(alloc: Global, text: &[u8], edits: &[Edit]) -> Result<Changed, AllocError> {
         let mut changed = Changed {
             text: Vec::new(alloc),
-            edits: Vec::new(alloc),
+            shifts: Vec::new(alloc),
         };
-        changed.fill(alloc, text, source, change)?;
+        changed.fill(text, edits)?;
         Ok(changed)
     }
 }

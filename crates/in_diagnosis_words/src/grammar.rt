@@ -273,6 +273,7 @@ impl Unexpected<'_> {
 fn add_missing_semicolon(report: &mut Report, before: &[Token]) {
     if let Some(place) = place_after(before) {
         report.note(place, sentences::SEMICOLON_HERE);
+        report.change(place.to, place.to, ";");
     }
 }
 
@@ -300,6 +301,12 @@ fn open_before(unexpected: &Unexpected) -> Option<Token> {
     }
 }
 
+/// Adds the word that may have been meant at a place.
+fn add_meant(report: &mut Report, place: Place, word: &str) {
+    report.help_on(sentences::MEANT_WORD, word);
+    report.change(place.from, place.to, word);
+}
+
 /// What helps.
 fn add_help(report: &mut Report, unexpected: &Unexpected) {
     if let Some(name) = unexpected.bare_name() {
@@ -307,7 +314,7 @@ fn add_help(report: &mut Report, unexpected: &Unexpected) {
         return;
     }
     match unexpected.meant(report.alloc) {
-        Ok(Some(word)) => report.help_on(sentences::MEANT_WORD, word),
+        Ok(Some(word)) => add_meant(report, unexpected.place, word),
         Ok(None) => report.help(unexpected.help()),
         Err(error) => report.fail(error),
     }

@@ -11,14 +11,17 @@
 //! `before` alone: those before a place where the grammar refuses, where there is no tree.
 //!
 //! `sentences` has each sentence whole, with named slots; `words` writes a sentence with what stands in its slots (`slots`). `reports` keeps
-//! the parts of a diagnosis, and writes its text with `excerpts`: lines of the text with marks under them. A `Report` keeps that memory ran
-//! out, and `into_text` returns it.
+//! the parts of a diagnosis, and the changes of the text that they tell (`edits`). It writes them as a text with `excerpts`, lines of the text
+//! with marks under them, or as members of a JSON object with `data`. A `Report` keeps that memory ran out, and `into_text` and `into_data`
+//! return it.
 #![tactic(auto)]
 
 mod before;
 mod braces;
 mod closed_wires;
+mod data;
 mod declarations;
+mod edits;
 mod ends;
 mod excerpts;
 mod grammar;
@@ -39,6 +42,7 @@ pub use braces::{
     Braces, Change, Changed, changed_braces, declaration_with, has_usual_braces, place_at,
 };
 pub use declarations::port;
+pub use edits::Edit;
 pub use ends::{Giving, ToldEnd, agent_end, free_end, head_end, say_ends};
 pub use grammar::add_more_than;
 pub use nodes::{add_braces, port_of, say_node_at};

@@ -80,6 +80,9 @@ fn add_name(report: &mut Report, name: &Name, further: bool) {
         sentences::MEANT_NAME
     };
     report.note_on(name.place, sentence, name.text.as_str());
+    if let Some(place) = report.wrong_place() {
+        report.change(place.from, place.to, name.text.as_str());
+    }
 }
 
 /// Adds those names that differ by `distance` characters, where `told` are told already; answers how many are told now.

@@ -1,4 +1,6 @@
-//! A diagnosis, part by part, and its text.
+//! A diagnosis, part by part, and its text, or the data of it.
+use crate::data::add_parts;
+use crate::edits::Edit;
 use crate::excerpts::{add_excerpt, between};
 use crate::slots::Slot;
 use crate::words::Words;
@@ -6,7 +8,7 @@ use in_syntax::Place;
 use std::alloc::{AllocError, Global};
 
 /// What a part of a diagnosis has: what is wrong, what belongs to it, or what helps.
-#[derive(Clone, Copy)]
+#[derive(Clone, Copy, PartialEq, Eq)]
 pub enum Kind {
     Error,
     Note,
@@ -15,10 +17,19 @@ pub enum Kind {
 
 /// A sentence of a diagnosis, and the place of the text that it is about.
 #[derive(Drop)]
-struct Part {
-    kind: Kind,
-    place: Option<Place>,
-    sentence: String,
+pub(crate) struct Part {
+    pub(crate) kind: Kind,
+    pub(crate) place: Option<Place>,
+    pub(crate) sentence: String,
+}
+
+/// A change of the text that the part of this number tells. Whether the program is accepted with all changes of that part, as a check of the
+/// changed text found; where none was made, it is false.
+#[derive(Drop)]
+pub(crate) struct Remedy {
+    pub(crate) part: usize,
+    pub(crate) edit: Edit,
+    pub(crate) accepted: bool,
 }
 
 /// A diagnosis of a program's text that is being made. That memory ran out is kept, and `into_text` returns it: so code that makes one has one
@@ -29,6 +40,7 @@ pub struct Report<'a> {
     pub alloc: Global,
     text: &'a [u8],
     parts: Vec<Part>,
+    remedies: Vec<Remedy>,
     failure: Option<AllocError>,
 }
 
@@ -39,6 +51,7 @@ impl<'a> Report<'a> {
             alloc,
             text,
             parts: Vec::new(alloc),
+            remedies: Vec::new(alloc),
             failure: None,
         }
     }
@@ -148,12 +161,48 @@ impl<'a> Report<'a> {
         self.add_with(Kind::Help, None, sentence, slots);
     }
 
+    /// Adds a change of the text to the last part, which has to be there.
+    fn push_change(&mut self, edit: Edit, accepted: bool) -> Result<(), AllocError> {
+        let part = self.parts.len().saturating_sub(1);
+        self.remedies.push(Remedy {
+            part,
+            edit,
+            accepted,
+        })?;
+        Ok(())
+    }
+
+    /// Adds these changes of the text to the last part: what it tells, as data. Whether the program is accepted with all of them.
+    pub fn change_by(&mut self, edits: Vec<Edit>, accepted: bool) {
+        for edit in edits {
+            let done = self.push_change(edit, accepted);
+            self.keep(done);
+        }
+    }
+
+    /// Adds the change that puts these words in the place of these bytes to the last part.
+    pub(crate) fn change(&mut self, from: usize, to: usize, words: &str) {
+        match Edit::new(self.alloc, from, to, words) {
+            Ok(edit) => {
+                let done = self.push_change(edit, false);
+                self.keep(done);
+            }
+            Err(error) => self.fail(error),
+        }
+    }
+
+    /// The place of what is wrong, which is told first.
+    pub(crate) fn wrong_place(&self) -> Option<Place> {
+        self.parts.first()?.place
+    }
+
     /// The whole diagnosis. Refused only when out of memory, also where that was met while the diagnosis was made.
     pub fn into_text(self) -> Result<String, AllocError> {
         let Report {
             alloc,
             text,
             parts,
+            remedies: _,
             failure,
         } = self;
         match failure {
@@ -161,6 +210,33 @@ impl<'a> Report<'a> {
             Some(error) => Err(error),
         }
     }
+
+    /// The same as data: the members of a JSON object that hold the parts, and its end. Refused as the text is.
+    pub fn into_data(self) -> Result<String, AllocError> {
+        let Report {
+            alloc,
+            text,
+            parts,
+            remedies,
+            failure,
+        } = self;
+        match failure {
+            None => data_of(alloc, text, parts.as_slice(), remedies.as_slice()),
+            Some(error) => Err(error),
+        }
+    }
+}
+
+/// The data of these parts.
+fn data_of(
+    alloc: Global,
+    text: &[u8],
+    parts: &[Part],
+    remedies: &[Remedy],
+) -> Result<String, AllocError> {
+    let mut page = Words::new(alloc);
+    add_parts(&mut page, text, parts, remedies);
+    page.into_text()
 }
 
 /// The text of these parts.

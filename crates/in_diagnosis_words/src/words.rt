@@ -46,6 +46,32 @@ impl Words {
         self.keep(done);
     }
 
+    /// Goes on with a character as it stands in a string of JSON.
+    fn quote_character(&mut self, c: char) {
+        match c {
+            '"' => self.say("\\\""),
+            '\\' => self.say("\\\\"),
+            '\u{0}'..='\u{1F}' => self.escape(c),
+            _ => self.push(c),
+        }
+    }
+
+    /// Goes on with the number of a character, as JSON writes it.
+    fn escape(&mut self, c: char) {
+        let number = u32::from(c);
+        self.say("\\u");
+        self.put(&format_args!("{number:04x}"));
+    }
+
+    /// Goes on with these words as a string of JSON.
+    pub(crate) fn quote(&mut self, words: &str) {
+        self.say("\"");
+        for c in words.chars() {
+            self.quote_character(c);
+        }
+        self.say("\"");
+    }
+
     /// Goes on with a sentence, with a text in the place of its one slot.
     pub(crate) fn fill_one(&mut self, sentence: &str, text: &str) {
         match sentence.split_once('{') {

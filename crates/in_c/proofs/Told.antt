@@ -1,0 +1,40 @@
+-- Diagnoses as data, refusals and steps, each with its status.
+use Rattle.std.proofs.Common.{◌≡◌, List, ℕ, [], Vec, Global, Bool, true, false, Some, None, Ok, inl, inr, refl, subst}
+use Rattle.in_syntax.specs.declared.faults.Refusal.{Refusal}
+use Rattle.in_check.specs.Checking.{IsAccepted, IsRefused}
+use Rattle.in_check.specs.Programs.{Program}
+use Rattle.in_diagnosis.specs.Data.{IsToldAsData}
+use Rattle.in_certificates.specs.declared.given.GivenStep.{GivenStep}
+use Rattle.in_certificates.specs.Verifying.{Verifies}
+use Rattle.in_program.specs.Acting.{status}
+use Rattle.in_c.specs.declared.refusing.Numbers.{Numbers}
+use Rattle.in_c.specs.Answers.{IsDiagnosisData, IsRefusedAs, IsVerified}
+use Rattle.in_c.specs.Numbers.{no_numbers, numbers_of}
+
+pub data_told : (text : List ℕ) (line : Vec ℕ Global) → IsToldAsData text (Some line) → IsDiagnosisData text line.items (status 1)
+data_told text line (r, refuses, is) = inl (r, refuses, (is, refl))
+
+pub nothing_told : (text bytes : List ℕ) → IsToldAsData text None → bytes ≡ [] → IsDiagnosisData text bytes (status 0)
+nothing_told text bytes (p, accepts) none = inr (inl (p, accepts, (none, refl)))
+
+pub not_refused : (text : List ℕ) (p : Program) (n : Numbers) → IsAccepted text p → n ≡ no_numbers → IsRefusedAs text n (status 0)
+not_refused text p n accepts none = inr (inl (p, accepts, (none, refl)))
+
+pub refused_as : (text : List ℕ) (r : Refusal) (n : Numbers) → IsRefused text r → n ≡ numbers_of r → IsRefusedAs text n (status 1)
+refused_as text r n refuses are = inl (r, refuses, (are, refl))
+
+abbrev only_false : Bool → Type 0
+only_false true = ⊥
+only_false false = Unit {0}
+
+not_true : false ≡ true → ⊥
+not_true e = subst only_false e tt
+
+pub builds : (text : List ℕ) (k : ℕ) (given : List GivenStep) (parts : List ℕ) → Verifies text k given parts (Ok true) → IsVerified text k given parts (status 0)
+builds text k given parts (p, accepts, whether) = inl (p, accepts, inl (whether.0 refl, refl))
+
+pub fails : (text : List ℕ) (k : ℕ) (given : List GivenStep) (parts : List ℕ) → Verifies text k given parts (Ok false) → IsVerified text k given parts (status 2)
+fails text k given parts (p, accepts, whether) = inl (p, accepts, inr (λ steps. not_true (whether.1 steps), refl))
+
+pub without_program : (text : List ℕ) (k : ℕ) (given : List GivenStep) (parts : List ℕ) (r : Refusal) → IsRefused text r → IsVerified text k given parts (status 1)
+without_program text k given parts r refuses = inr (inl (r, refuses, refl))

@@ -1,0 +1,8 @@
+use Rattle.std.proofs.Common.{Ok}
+use Rattle.std.specs.declared.alloc.AllocError.{AllocError}
+use Rattle.in_c.specs.Answers.{IsDiagnosisData}
+use Rattle.in_c.proofs.Given.{gives}
+use Rattle.in_c.proofs.inet_diagnose_data.Goals as goal
+
+pub returns : goal.returns
+returns c = gives {E = AllocError} (IsDiagnosisData c.args.text.now) (Ok c.told_as_data.result) _ _ _ _ c.told_as_data.ensures tt c.give.ensures.ok tt

@@ -1,0 +1,73 @@
+// A refusal as numbers.
+ghost use Rattle.std.specs.Prelude.{◌≡◌};
+ghost use Rattle.in_c.specs.Answers.{IsRefusedAs};
+ghost use Rattle.in_c.specs.Numbers.{no_numbers, numbers_of};
+
+use crate::answers::{ACCEPTED, MEMORY, REFUSED};
+use in_check::check;
+use in_diagnosis::code_number;
+use in_program::Status;
+use in_syntax::{Fault, Refusal};
+use std::alloc::Global;
+
+/// Why a text is refused: the number of the code, 1 to 15; the line and the column, from 1; from which byte of the text, from 0, up to which
+/// one the place goes; and the same of the other place, which a pair without a rule has. All are 0 where there is none.
+#[repr(C)]
+#[derive(Clone, Copy, Debug, PartialEq, Eq)]
+pub struct Numbers {
+    pub code: u32,
+    pub line: u32,
+    pub column: u32,
+    pub from: usize,
+    pub to: usize,
+    pub other_from: usize,
+    pub other_to: usize,
+}
+
+const NONE: Numbers = Numbers {
+    code: 0,
+    line: 0,
+    column: 0,
+    from: 0,
+    to: 0,
+    other_from: 0,
+    other_to: 0,
+};
+
+/// The numbers of a refusal.
+fn numbers_of(refusal: Refusal) -> Numbers
+    ensures { result ≡ numbers_of refusal }
+{
+    let Refusal { code, place, other } = refusal;
+    let (other_from, other_to) = match other {
+        Some(other) => (other.from, other.to),
+        None => (0, 0),
+    };
+    Numbers {
+        code: code_number(code),
+        line: place.line,
+        column: place.col,
+        from: place.from,
+        to: place.to,
+        other_from,
+        other_to,
+    }
+}
+
+/// No numbers.
+fn no_numbers() -> Numbers
+    ensures { result ≡ no_numbers }
+{
+    NONE
+}
+
+/// Why a text is refused, and the status of the text.
+pub fn refused(alloc: Global, text: &[u8]) -> (Numbers, Status)
+    ensures { IsRefusedAs text.now result.0 result.1 }
+{
+    match check(alloc, text) {
+        Ok(_program) => (no_numbers(), ACCEPTED),
+        Err(Fault::Refused(refusal)) => (numbers_of(refusal), REFUSED),
+        Err(Fault::Memory(_)) => (no_numbers(), MEMORY),
+    }
+}

@@ -1,0 +1,2 @@
+mod Built
+mod Read

@@ -1,0 +1,10 @@
+//! Certificates that somebody else made: steps that come as numbers, of which is asked whether they build a rule or the net of a text.
+//!
+//! `given` reads the steps, and `verifying` has the call, which asks `in_simple::verify`. The static library gives it to C.
+#![tactic(auto)]
+
+mod given;
+mod verifying;
+
+pub use given::GivenStep;
+pub use verifying::verify_given;

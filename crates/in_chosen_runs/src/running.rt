@@ -1,0 +1,51 @@
+// A run whose first pairs are chosen.
+ghost use Rattle.std.specs.Prelude.{ℕ, ◌≡◌, ◌≤◌, length, slice_get, Some};
+ghost use Rattle.in_reducer.specs.Limiting.{least_cells, most_cells};
+ghost use Rattle.in_chosen_runs.specs.Choosing.{RunsAsChosen};
+
+use crate::choosing::choose;
+use in_check::Checked;
+use in_machine::{Machine, StartFault};
+use std::alloc::Global;
+
+/// What such a run came to: its machine, how many of the choices it did, and how many interactions came after them.
+#[derive(Drop)]
+pub struct Chosen<'a> {
+    pub machine: Machine<'a>,
+    pub chosen: usize,
+    pub further: u64,
+}
+
+/// How many interactions may come after so many of the choices: none where some of them are left.
+fn allowed(chosen: usize, choices: &[u32], limit: u64) -> u64
+    ensures most { result ≤ limit }
+    ensures all { chosen ≡ length choices.now → result ≡ limit }
+    ensures left { (c : ℕ) → slice_get choices.now chosen ≡ Some c → result ≡ 0 }
+{
+    if chosen < choices.len() { 0 } else { limit }
+}
+
+/// Runs a program: first the interactions of the pairs of these numbers in the queue, from 0, one after another, and then, where all were
+/// done, at most `limit` interactions first in, first out. It breaks off at the first choice of which there is no pair, or whose pair needs
+/// more cells than are free; and after the choices where no pair is left, or the first one needs more. Each interaction is Lafont 1990's, and
+/// takes no memory. Refused only where no machine starts.
+pub fn run_chosen<'a>(
+    alloc: Global,
+    checked: &'a Checked,
+    choices: &[u32],
+    limit: u64,
+    cells: u32,
+) -> Result<Chosen<'a>, StartFault>
+    requires least { least_cells ≤ cells }
+    requires most { cells ≤ most_cells }
+    ensures { RunsAsChosen checked.now choices.now limit cells result }
+{
+    let mut machine = Machine::new(alloc, checked, cells)?;
+    let chosen = choose(&mut machine, choices);
+    let further = machine.take_first(allowed(chosen, choices, limit));
+    Ok(Chosen {
+        machine,
+        chosen,
+        further,
+    })
+}

@@ -1,0 +1,27 @@
+-- A diagnosis as data. Its form is this project's own choice.
+use Rattle.std.specs.Prelude.{◌≡◌, ℕ, List, [], ◌∷◌, ◌++◌, codes, decimal, Option, Some, None, Vec}
+use Rattle.std.specs.Global.{Global}
+use Rattle.in_syntax.specs.declared.faults.Refusal.{Refusal}
+use Rattle.in_syntax.specs.Refusals.{code_number}
+use Rattle.in_check.specs.Checking.{IsAccepted, IsRefused}
+use Rattle.in_check.specs.Programs.{Program}
+
+-- the name of a member of an object, and a colon
+abbrev member : List ℕ → List ℕ
+member name = 34 ∷ [] ++ (name ++ (34 ∷ 58 ∷ []))
+
+-- how it begins: the number of this form, which another form doesn't have; the number of the code; the line, the column and the bytes
+abbrev pub data_head : Refusal → List ℕ
+data_head r =
+    codes "{" ++ (member (codes "format") ++ (codes "1," ++ (member (codes "code") ++ (decimal (code_number r.code)
+    ++ (codes "," ++ (member (codes "line") ++ (decimal r.place.line ++ (codes "," ++ (member (codes "column") ++ (decimal r.place.col
+    ++ (codes "," ++ (member (codes "bytes") ++ (codes "[" ++ (decimal r.place.from ++ (codes "," ++ (decimal r.place.to ++ codes "],"))))))))))))))))
+
+-- the line of a refusal: it begins so
+abbrev pub IsDataOf : Refusal → List ℕ → Type 0
+IsDataOf r line = (rest : List ℕ) × (line ≡ data_head r ++ rest)
+
+-- there is one on a text that is refused, and none on one that is accepted
+abbrev pub IsToldAsData : List ℕ → Option (Vec ℕ Global) → Type 0
+IsToldAsData text (Some line) = (r : Refusal) × IsRefused text r × IsDataOf r line.items
+IsToldAsData text None = (p : Program) × IsAccepted text p
