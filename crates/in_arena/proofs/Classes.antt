@@ -41,3 +41,15 @@ numbers_apart cells n Large Wide p q = let below = p.1 in let from = q.0 in absu
 numbers_apart cells n Wide Small p q = let from = p.0 in let below = q.1 in absurd (omega (arith, below, from))
 numbers_apart cells n Wide Large p q = let from = p.0 in let below = q.1 in absurd (omega (arith, below, from))
 numbers_apart cells n Wide Wide p q = refl
+
+-- two classes with one number are one
+pub same_class : (c d : CellClass) → class_no c ≡ class_no d → c ≡ d
+same_class Small Small e = refl
+same_class Large Large e = refl
+same_class Wide Wide e = refl
+same_class Small Large e = absurd (omega (arith, e))
+same_class Small Wide e = absurd (omega (arith, e))
+same_class Large Small e = absurd (omega (arith, e))
+same_class Large Wide e = absurd (omega (arith, e))
+same_class Wide Small e = absurd (omega (arith, e))
+same_class Wide Large e = absurd (omega (arith, e))

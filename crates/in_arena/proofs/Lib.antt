@@ -1,3 +1,4 @@
+pub mod Again
 pub mod Arenas
 pub mod Bags
 pub mod ByClass

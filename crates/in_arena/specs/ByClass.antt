@@ -101,6 +101,11 @@ abbrev pub Begin : Regions → CellClass → ℕ → ℕ → Option ℕ → Regi
 Begin r c word count None s = (count_by is_vacant (row_of r c) ≡ 0) × (s ≡ r)
 Begin r c word count (Some i) s = (cell_at r c i ≡ Vacant) × ((x : State) × IsBegun word count x × Become r s c i x)
 
+-- .. and this is its number among the cells of all classes
+abbrev pub BeginNumber : Regions → CellClass → ℕ → ℕ → Option ℕ → Regions → Type 0
+BeginNumber r c word count None s = Begin r c word count None s
+BeginNumber r c word count (Some n) s = (i : ℕ) × (n ≡ class_no c * s.cells + i) × Begin r c word count (Some i) s
+
 -- this number is that of a cell of this class, at this place of its region
 abbrev pub IsPlace : ℕ → ℕ → CellClass → ℕ → Type 0
 IsPlace cells n c i = (i < cells) × (n ≡ class_no c * cells + i)

@@ -1,19 +1,28 @@
--- An end in one word of 64 bits: the number of its cell or of its free end, and in the low half the place, or 256 for a free end.
-use Rattle.std.specs.Prelude.{◌≤◌, ◌+◌, ◌*◌, ◌/◌, ◌%◌, ℕ, nat_eq, if◌then◌else◌}
+-- An end in one word of 64 bits. For a place of a cell its low 16 bits are the place, and above stands the number of the cell. For a free end these 16
+-- bits are full, above stands its number, and the top bit is set: so what stands above is less than the number of cells for places of cells alone.
+use Rattle.std.specs.Prelude.{◌≡◌, ◌≤◌, ◌<◌, ◌+◌, ◌-◌, ◌*◌, ◌/◌, ◌%◌, ℕ, nat_eq, if◌then◌else◌}
 use Rattle.in_arena.specs.declared.content.End.{End}
 use Rattle.in_arena.specs.declared.content.End.TheVariants.{Cell, Free}
 
--- how many values a half has
-abbrev pub half : ℕ
-half = 4294967296
+-- from here on stands the number
+abbrev pub above : ℕ
+above = 65536
+
+-- and from here on the top bit, as it stands there
+abbrev pub top : ℕ
+top = 140737488355328
+
+-- how many numbers there are
+abbrev pub numbers : ℕ
+numbers = 4294967296
 
 abbrev pub end_in : ℕ → End
-end_in bits = if nat_eq (bits % half) 256 then Free (bits / half) else Cell (record { 0 = bits / half }) (bits % half)
+end_in bits = if nat_eq (bits % above) 65535 then Free (bits / above - top) else Cell (record { 0 = bits / above }) (bits % above)
 
 abbrev pub bits_of : End → ℕ
-bits_of (Cell c place) = c.0 * half + place
-bits_of (Free number) = number * half + 256
+bits_of (Cell c place) = c.0 * above + place
+bits_of (Free number) = (top + number) * above + 65535
 
--- a place is less than 256
+-- it is the word of an end, whose number has 32 bits and whose place is less than 256
 abbrev pub FitsEnd : ℕ → Type 0
-FitsEnd bits = bits % half ≤ 256
+FitsEnd bits = (bits % above ≡ 65535 → (top ≤ bits / above) × (bits / above < top + numbers)) × ((bits % above ≡ 65535 → ⊥) → (bits % above < 256) × (bits / above < numbers))

@@ -1,10 +1,13 @@
 // An arena: regions of cells, in which each cell has a number.
-ghost use Rattle.std.specs.Prelude.{ℕ, ◌≡◌, ◌*◌, ◌<◌, ◌≤◌, ◌↔◌, IsTrue, MatchOption, Some, IfOk, length, replicate};
+ghost use Rattle.std.specs.Prelude.{ℕ, ◌≡◌, ◌*◌, ◌<◌, ◌≤◌, ◌↔◌, IsTrue, true, false, MatchOption, Some, IfOk, length, replicate};
 ghost use Rattle.in_arena.specs.States.{State, Vacant, Leased, IsLive, IsLeased, IsBegun, HasEnds, word_of, end_at, places, with_end};
 ghost use Rattle.in_arena.specs.Arenas.{Leases, BeginsCell, IsOf, IsUsedOf, NoneLeased, state_at, changed, free_of};
 ghost use Rattle.in_arena.specs.Bags.{IsBagOf, IsFor, IsInBag, LeasesTo, empty_bag};
-ghost use Rattle.in_arena.specs.Classes.{Holds, classes};
+ghost use Rattle.in_arena.specs.Classes.{Holds, IsNumberOf, classes};
 ghost use Rattle.in_arena.specs.declared.content.CellClass.{CellClass as Class};
+ghost use Rattle.in_arena.specs.declared.content.CellClass.TheVariants.{Small};
+ghost use Rattle.in_arena.specs.declared.content.CellNo.{CellNo as Number};
+ghost use Rattle.in_arena.specs.declared.content.End.TheVariants.{Cell};
 ghost use Rattle.in_arena.specs.Changes.{HasAllCells};
 ghost use Rattle.in_arena.specs.Limiting.{most_cells};
 
@@ -208,6 +211,23 @@ impl Arena {
         self.regions.set_word(class, index, place, end);
     }
 
+    /// Writes it at a place of a live cell where that cell is a small one. Returns whether it is: an end that is a place of another cell, or a
+    /// free end, is left to the caller. Most agents have small cells, and there a place is found without a test for each class.
+    #[inline(always)]
+    pub fn set_small(&mut self, at: EndWord, end: EndWord) -> bool
+        requires { (c : Number) (p : ℕ) → at ≡ Cell c p → p < places (state_at self.old c.0) }
+        ensures small { result ≡ true → (c : Number) × (p : ℕ) × (at ≡ Cell c p) × (self.new ≡ changed self.old c.0 (with_end (state_at self.old c.0) p end)) }
+        ensures other { result ≡ false → (self.new ≡ self.old) × ((c : Number) (p : ℕ) → at ≡ Cell c p → IsNumberOf self.old.cells Small c.0 → ⊥) }
+    {
+        match at.place_below(self.regions.cells) {
+            Some((index, place)) => {
+                self.regions.set_small(index, place, end);
+                true
+            }
+            None => false,
+        }
+    }
+
     /// A free cell of this class is live with this symbol word and so many places, the principal port's among them: as many as the class is
     /// for. What they lead to is open until it is written. Nothing changes where none of the class is free. Which free cell it is is open.
     #[inline(always)]
@@ -215,8 +235,52 @@ impl Arena {
         requires { Holds class places }
         ensures { MatchOption result ((free_of self.old class ≡ 0) × (self.new ≡ self.old)) (λ c. BeginsCell class symbol places self.old c.0 self.new) }
     {
-        let index = self.regions.begin(class, symbol, u32::from(places))?;
-        Some(CellNo(class.number() * self.regions.cells + index))
+        let number = self.regions.begin(class, symbol, u32::from(places))?;
+        Some(CellNo(number))
+    }
+
+    /// A live cell is free, and a free cell of this class is live with this symbol word and so many places, as `begin` says, nothing more where
+    /// none of the class is free then. It is the same cell where that is one of this class, but which free cell it is is open.
+    #[inline(always)]
+    pub fn begin_in(
+        &mut self,
+        cell: CellNo,
+        class: CellClass,
+        symbol: SymbolWord,
+        places: u8,
+    ) -> Option<CellNo>
+        requires live { IsLive (state_at self.old cell.0) }
+        requires many { Holds class places }
+        ensures { MatchOption result ((free_of (changed self.old cell.0 Vacant) class ≡ 0) × (self.new ≡ changed self.old cell.0 Vacant)) (λ c. BeginsCell class symbol places (changed self.old cell.0 Vacant) c.0 self.new) }
+    {
+        // Most cells are small, and most agents have small ones.
+        if class.number() == 0 && cell.0 < self.regions.cells {
+            self.regions
+                .renew(CellClass::Small, cell.0, symbol, u32::from(places));
+            return Some(cell);
+        }
+        self.begin_once_free(cell, class, symbol, places)
+    }
+
+    // The same for cells of all classes.
+    fn begin_once_free(
+        &mut self,
+        cell: CellNo,
+        class: CellClass,
+        symbol: SymbolWord,
+        places: u8,
+    ) -> Option<CellNo>
+        requires live { IsLive (state_at self.old cell.0) }
+        requires many { Holds class places }
+        ensures { MatchOption result ((free_of (changed self.old cell.0 Vacant) class ≡ 0) × (self.new ≡ changed self.old cell.0 Vacant)) (λ c. BeginsCell class symbol places (changed self.old cell.0 Vacant) c.0 self.new) }
+    {
+        let (own, index) = place_of(self.regions.cells, cell);
+        if own.number() == class.number() {
+            self.regions.renew(own, index, symbol, u32::from(places));
+            return Some(cell);
+        }
+        self.regions.retire(own, index);
+        self.begin(class, symbol, places)
     }
 
     /// A live cell has this symbol word and so many places from now on, the principal port's among them: as many as its class is for. What

@@ -3,10 +3,10 @@ ghost use Rattle.std.specs.Prelude.{◌≡◌, ◌*◌, ◌<◌, ◌≤◌, ◌�
 ghost use Rattle.in_arena.specs.States.{State, Live, Vacant, IsLive, IsLeased, IsBegun, is_vacant, word_of, end_at, places, with_end, HasEnds};
 ghost use Rattle.in_arena.specs.Arenas.{written};
 ghost use Rattle.in_arena.specs.Classes.{Holds, classes, width};
-ghost use Rattle.in_arena.specs.declared.content.CellClass.TheVariants.{Wide as Widest};
+ghost use Rattle.in_arena.specs.declared.content.CellClass.TheVariants.{Small as Smallest, Wide as Widest};
 ghost use Rattle.in_arena.specs.Limiting.{most_cells};
 ghost use Rattle.in_arena.specs.Regions.{IsFreshRegion};
-ghost use Rattle.in_arena.specs.ByClass.{IsRegions, AreWhole, AreFresh, Become, Begin, Lend, IsCellOf, IsHeldCell, IsPlace, IsSacks, IsOut, SacksBecome, HandOut, AreEmpty, row_of, cell_at, cell_view, index_of, sack_cell};
+ghost use Rattle.in_arena.specs.ByClass.{IsRegions, AreWhole, AreFresh, Become, BeginNumber, Lend, IsCellOf, IsHeldCell, IsPlace, IsSacks, IsOut, SacksBecome, HandOut, AreEmpty, row_of, cell_at, cell_view, index_of, sack_cell};
 
 use crate::content::{CellClass, CellNo, End, SymbolWord};
 use crate::region::{Held, Region, Sack};
@@ -266,16 +266,35 @@ impl Regions {
         }
     }
 
-    // A free cell of this class is live with this symbol word and so many ends, which are open; nothing where none is free.
+    // Writes the end at a place of a small live cell.
+    #[inline(always)]
+    pub fn set_small(&mut self, index: u32, place: u8, end: EndWord)
+        requires { IsRegions self.old × (place < places (cell_at self.old Smallest index)) }
+        ensures { Become self.old self.new Smallest index (with_end (cell_at self.old Smallest index) place end) }
+    {
+        self.small.set_word(index, place, end);
+    }
+
+    // A free cell of this class is live with this symbol word and so many ends, which are open; nothing where none is free. Returns its number
+    // among the cells of all classes.
     #[inline(always)]
     pub fn begin(&mut self, class: CellClass, symbol: SymbolWord, count: u32) -> Option<u32>
-        requires { IsRegions self.old × Holds class count }
-        ensures { Begin self.old class symbol count result self.new }
+        requires { IsRegions self.old × (self.old.cells ≤ most_cells) × Holds class count }
+        ensures { BeginNumber self.old class symbol count result self.new }
     {
         match class {
-            CellClass::Small => self.small.begin(symbol, count),
-            CellClass::Large => self.large.begin(symbol, count),
-            CellClass::Wide => self.wide.begin(symbol, count),
+            CellClass::Small => {
+                let index = self.small.begin(symbol, count)?;
+                Some(index)
+            }
+            CellClass::Large => {
+                let index = self.large.begin(symbol, count)?;
+                Some(self.cells + index)
+            }
+            CellClass::Wide => {
+                let index = self.wide.begin(symbol, count)?;
+                Some(self.cells + self.cells + index)
+            }
         }
     }
 

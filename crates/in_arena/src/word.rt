@@ -1,19 +1,23 @@
 // An end in one word.
-ghost use Rattle.std.specs.Prelude.{◌≡◌, ◌≢◌, ◌⊎◌, MatchOption};
+ghost use Rattle.std.specs.Prelude.{◌≡◌, ◌≢◌, ◌⊎◌, ◌<◌, ◌≤◌, ℕ, MatchOption};
 ghost use Rattle.in_arena.specs.declared.content.CellNo.{CellNo as Number};
 ghost use Rattle.in_arena.specs.declared.content.End.TheVariants.{Cell, Free};
 
 use crate::content::{CellNo, End};
 use std::marker::Model;
 
-// What the low half of a word has for a free end. A place is less.
-const FREE: u64 = 256;
+// From here on a word has a number.
+const ABOVE: u64 = 65536;
 
-// How many values the low half of a word has.
-const HALF: u64 = 4294967296;
+// The top bit, as it stands above.
+const TOP: u64 = 140737488355328;
 
-/// An end in one word, so that it is read, tested and written as a whole. Contracts see the end. The high half is the number of its cell
-/// or of its free end, the low half the place, or 256 for a free end. That form is this project's own choice.
+// What the low bits have for a free end. A place is less.
+const FREE: u64 = 65535;
+
+/// An end in one word, so that it is read, tested and written as a whole. Contracts see the end. Above its low 16 bits, which have the place,
+/// stands the number of its cell, or a number that no cell has and its own where it is a free end: so one test tells whether it is a place of
+/// one of the first cells. That form is this project's own choice.
 #[derive(Clone, Copy)]
 pub struct EndWord {
     bits: u64,
@@ -50,7 +54,7 @@ impl EndWord {
         ensures { result ≡ Cell cell place }
     {
         EndWord {
-            bits: u64::from(cell.0) * HALF + u64::from(place),
+            bits: u64::from(cell.0) * ABOVE + u64::from(place),
         }
     }
 
@@ -60,7 +64,7 @@ impl EndWord {
         ensures { result ≡ Free number }
     {
         EndWord {
-            bits: u64::from(number) * HALF + FREE,
+            bits: (TOP + u64::from(number)) * ABOVE + FREE,
         }
     }
 
@@ -69,12 +73,12 @@ impl EndWord {
     pub fn end(self) -> End
         ensures { result ≡ self }
     {
-        let number = (self.bits / HALF) as u32;
-        let place = self.bits % HALF;
+        let place = self.bits % ABOVE;
+        let number = self.bits / ABOVE;
         if place == FREE {
-            End::Free(number)
+            End::Free((number - TOP) as u32)
         } else {
-            End::Cell(CellNo(number), place as u8)
+            End::Cell(CellNo(number as u32), place as u8)
         }
     }
 
@@ -83,8 +87,8 @@ impl EndWord {
     pub fn principal(self) -> Option<CellNo>
         ensures { MatchOption result ((c : Number) → self ≢ Cell c 0) (λ c. self ≡ Cell c 0) }
     {
-        if self.bits % HALF == 0 {
-            Some(CellNo((self.bits / HALF) as u32))
+        if self.bits % ABOVE == 0 {
+            Some(CellNo((self.bits / ABOVE) as u32))
         } else {
             None
         }
@@ -99,6 +103,19 @@ impl EndWord {
     {
         EndWord {
             bits: self.bits + u64::from(place),
+        }
+    }
+
+    // The number of its cell and its place, where it is a place of one of the first `cells` cells.
+    #[inline(always)]
+    pub fn place_below(self, cells: u32) -> Option<(u32, u8)>
+        ensures { MatchOption result ((c : Number) (p : ℕ) → self ≡ Cell c p → cells ≤ c.0) (λ x. (self ≡ Cell (record { 0 = x.0 }) x.1) × (x.0 < cells)) }
+    {
+        let number = self.bits / ABOVE;
+        if number < u64::from(cells) {
+            Some((number as u32, (self.bits % ABOVE) as u8))
+        } else {
+            None
         }
     }
 }

@@ -10,7 +10,7 @@ pub use Rattle.in_compile.proofs.Needs.Classes.{one_short, same_need, short_need
 pub use Rattle.in_compile.proofs.Placements.EndByEnd.{inside_of}
 pub use Rattle.in_compile.proofs.Compiled.OneTemplate.{has_template, held, one_class, one_for}
 pub use Rattle.in_compile.proofs.Placements.OnePut.{one_put}
-pub use Rattle.in_compile.proofs.Placements.Put.{none_begun, one_more_begun, some_free}
+pub use Rattle.in_compile.proofs.Placements.Put.{begins, none_begun, one_more_begun, some_free}
 pub use Rattle.in_compile.proofs.Placements.Settled.{settled}
 pub use Rattle.in_compile.proofs.Compiled.Sound.{few_agents, joints_many, sound}
 pub use Rattle.in_compile.proofs.Placements.Stocked.{all_stay, cells_all, count_all, memory_all, none_in_empty}

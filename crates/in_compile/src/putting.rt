@@ -2,7 +2,7 @@
 ghost use Rattle.std.specs.Prelude.{◌≡◌, ◌≤◌, ◌<◌, ℕ, [], length, Some, slice_get, vec_capacity};
 ghost use Rattle.in_arena.specs.Arenas.{ArenaView, changed, free_of, state_at};
 ghost use Rattle.in_arena.specs.Changes.{HasAllCells};
-ghost use Rattle.in_arena.specs.States.{IsBegun};
+ghost use Rattle.in_arena.specs.States.{Vacant, IsBegun, IsLive};
 ghost use Rattle.in_arena.specs.declared.content.CellNo.{CellNo as Number};
 ghost use Rattle.in_compile.specs.Cells.{count_of, IsEnough};
 ghost use Rattle.in_compile.specs.Members.{AgentParts};
@@ -26,6 +26,29 @@ impl Member {
     {
         self.is_sound();
         let begun = arena.begin(self.class(agent), self.symbol(agent).0, self.places(agent));
+        let Some(cell) = begun else {
+            // A cell of that class is free.
+            unreachable!()
+        };
+        cell
+    }
+
+    /// The same once a live cell is free, which that agent then has where it is one of its class.
+    #[inline(always)]
+    pub fn begin_in(&self, agent: u32, cell: CellNo, arena: &mut Arena) -> CellNo
+        requires there { agent < length self.now.agents }
+        requires live { IsLive (state_at arena.old cell.0) }
+        requires all { HasAllCells arena.old }
+        requires free { (a : AgentParts) → slice_get self.now.agents agent ≡ Some a → 0 < free_of (changed arena.old cell.0 Vacant) a.class }
+        ensures { (a : AgentParts) → slice_get self.now.agents agent ≡ Some a → BeginsAgent a (changed arena.old cell.0 Vacant) result.0 arena.new }
+    {
+        self.is_sound();
+        let begun = arena.begin_in(
+            cell,
+            self.class(agent),
+            self.symbol(agent).0,
+            self.places(agent),
+        );
         let Some(cell) = begun else {
             // A cell of that class is free.
             unreachable!()

@@ -5,7 +5,7 @@ ghost use Rattle.in_cover.specs.Cover.{IsPair};
 use crate::sheet::Sheet;
 use crate::words::{small, word};
 use in_check::{Checked, Item};
-use in_command_line::{Action, Usage, action_of};
+use in_command_line::{Action, Request, Usage, action_of};
 use in_cover::RuleNo;
 use in_open_nets::OpenPoint;
 use in_simple::{Derivation, Node, OpenNet, Step, verify};
@@ -170,20 +170,33 @@ pub fn add_verified(sheet: &mut Sheet, program: &Checked, words: &[String]) {
     }
 }
 
-/// What words ask of `inet`.
-fn add_asked(sheet: &mut Sheet, action: &Action) {
-    match action {
-        Action::Check => sheet.say("check\n"),
-        Action::Derive => sheet.say("derive\n"),
-        Action::Run(limits) => {
-            let numbers = [
-                limits.workers() as u64,
-                limits.limit(),
-                limits.cells() as u64,
-            ];
-            sheet.fill("run # # #\n", &numbers);
-        }
+/// An action, with the limits of a run.
+fn add_named(sheet: &mut Sheet, action: &Action) {
+    let (name, limits) = match action {
+        Action::Check => return sheet.say("check"),
+        Action::Derive => return sheet.say("derive"),
+        Action::Run(limits) => ("run # # #", limits),
+        Action::Count(limits) => ("count # # #", limits),
+    };
+    let numbers = [
+        limits.workers() as u64,
+        limits.limit(),
+        limits.cells() as u64,
+    ];
+    sheet.fill(name, &numbers);
+}
+
+/// What words ask of `inet`: the action, the file, and whether figures are wanted.
+fn add_asked(sheet: &mut Sheet, request: &Request) {
+    add_named(sheet, &request.action);
+    if let Some(file) = request.file {
+        sheet.say(" on ");
+        sheet.say(file);
     }
+    if request.stats {
+        sheet.say(" with figures");
+    }
+    sheet.say("\n");
 }
 
 /// Why words ask nothing of it.
@@ -204,7 +217,7 @@ fn add_usage(sheet: &mut Sheet, usage: &Usage) {
 
 fn add_action_of(sheet: &mut Sheet, words: &[&str]) {
     match action_of(sheet.alloc, words) {
-        Ok(action) => add_asked(sheet, &action),
+        Ok(request) => add_asked(sheet, &request),
         Err(usage) => add_usage(sheet, &usage),
     }
 }

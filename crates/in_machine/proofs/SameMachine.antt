@@ -6,8 +6,8 @@ use Rattle.in_check.specs.Programs.{Program}
 use Rattle.in_check.specs.Runs.{Reached, then_renamed}
 use Rattle.in_check.specs.Systems.{system_of}
 use Rattle.in_reducer.specs.Machines.{MachineParts, parts_of, plain_of}
-use Rattle.in_names.specs.Same.{AreSame}
-use Rattle.in_names.proofs.Public.{reducer_same}
+use Rattle.in_reducer.specs.Same.{AreSame}
+use Rattle.in_reducer.proofs.Public.{reducer_same}
 use Rattle.in_machine.specs.Machines.{IsMachine}
 use Rattle.in_machine.proofs.StepsOn.{as_machine, as_reducer}
 

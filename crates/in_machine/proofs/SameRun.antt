@@ -11,10 +11,9 @@ use Rattle.in_reducer.specs.Machines.{MachineParts, plain_of}
 use Rattle.in_machine.specs.Machines.{IsMachine}
 use Rattle.in_reducer.specs.Steps.{NeedsAt, HasRoomAt, StepsAt}
 use Rattle.in_reducer.specs.Runs.{Runs, at_start, then_step}
-use Rattle.in_names.specs.Same.{IsSameMachine, AreSame}
-use Rattle.in_reducer.proofs.Public.{one_rule}
+use Rattle.in_reducer.specs.Same.{IsSameMachine, AreSame}
+use Rattle.in_reducer.proofs.Public.{need_moved, one_rule, same_run as reducers_run}
 use Rattle.in_compile.proofs.Public.{same_need}
-use Rattle.in_names.proofs.Public.{need_moved, same_run as reducers_run}
 use Rattle.in_machine.proofs.StepsOn.{as_reducer, machine_on}
 
 -- ---- runs reach

@@ -16,11 +16,9 @@ use Rattle.in_compile.specs.Cells.{agents_of, count_of}
 use Rattle.in_reducer.specs.Machines.{MachineParts, parts_of, plain_of}
 use Rattle.in_machine.specs.Machines.{IsMachine}
 use Rattle.in_reducer.specs.Starts.{IsStart}
-use Rattle.in_names.specs.Same.{AreSame}
+use Rattle.in_reducer.specs.Same.{AreSame}
 use Rattle.in_compile.proofs.Public.{same_need}
-use Rattle.in_reducer.proofs.Public.{as_many_of}
-use Rattle.in_names.proofs.Public.{between, from_to, renamed_between, map_same, map_twice}
-use Rattle.in_reducer.proofs.Public.{lives, queue_moved}
+use Rattle.in_reducer.proofs.Public.{as_many_of, between, from_to, lives, map_same, map_twice, queue_moved, renamed_between}
 
 -- of the `cells` cells of each class, as many are free as the agents of the program's net leave
 pub count_at : (p : Program) (cells : ℕ) (m : MachineParts) → IsStart p cells m → (c : CellClass) → count_of m.vacant c + agents_of p.tables c p.net.cells ≡ cells

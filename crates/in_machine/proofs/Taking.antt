@@ -3,8 +3,8 @@ use Rattle.std.proofs.Common.{◌≡◌, ◌⊎◌, inl, inr, ◌<◌, ℕ, Opti
 use Rattle.in_interaction.specs.Queues.{both}
 use Rattle.in_reducer.specs.Machines.{MachineParts}
 use Rattle.in_reducer.specs.Runs.{Runs}
-use Rattle.in_names.specs.Same.{AreSame}
-use Rattle.in_names.proofs.Public.{an_equivalence}
+use Rattle.in_reducer.specs.Same.{AreSame}
+use Rattle.in_reducer.proofs.Public.{an_equivalence}
 use Rattle.in_machine.specs.Machines.{IsMachine}
 use Rattle.in_machine.specs.Taking.{TakesNoFirst, FirstsTakenAreOne}
 use Rattle.in_machine.proofs.SameMachine.{machine_same}

@@ -17,7 +17,7 @@ use Rattle.in_reducer.specs.Reducers.{IsReducer}
 use Rattle.in_reducer.specs.Steps.{HasRoomAt, StepsAt}
 use Rattle.in_reducer.specs.Starts.{IsStart}
 use Rattle.in_reducer.specs.Runs.{Runs}
-use Rattle.in_names.specs.Same.{AreSame}
+use Rattle.in_reducer.specs.Same.{AreSame}
 use Rattle.in_machine.specs.Texts.{text_of}
 
 -- what a machine shows is as promised

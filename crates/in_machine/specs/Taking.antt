@@ -2,7 +2,7 @@
 use Rattle.std.specs.Prelude.{◌≡◌, ◌⊎◌, ◌<◌, ◌≤◌, ℕ, []}
 use Rattle.in_reducer.specs.Machines.{MachineParts}
 use Rattle.in_reducer.specs.Steps.{HasRoomAt}
-use Rattle.in_names.specs.Same.{AreSame, RunsUpToNumbers}
+use Rattle.in_reducer.specs.Same.{AreSame, RunsUpToNumbers}
 use Rattle.in_machine.specs.Machines.{IsMachine}
 
 -- no pair is left, or what the first one needs isn't free

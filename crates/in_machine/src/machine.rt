@@ -5,7 +5,7 @@ ghost use Rattle.in_reducer.specs.Limiting.{least_cells, most_cells};
 ghost use Rattle.in_reducer.specs.Machines.{plain_of};
 ghost use Rattle.in_reducer.specs.Steps.{HasRoomAt, StepsAt};
 ghost use Rattle.in_reducer.specs.Taking.{TakesNoLast};
-ghost use Rattle.in_names.specs.Same.{RunsUpToNumbers};
+ghost use Rattle.in_reducer.specs.Same.{RunsUpToNumbers};
 ghost use Rattle.in_machine.specs.Phases.{IsPhase};
 ghost use Rattle.in_machine.specs.Starts.{Starts};
 ghost use Rattle.in_machine.specs.Taking.{TakesNoFirst};

@@ -24,7 +24,7 @@ pub fn steps_keep_machines()
     ensures { StepsKeepMachines }
 {}
 
-/// A machine is a reducer: the laws of `in_names` on what is the same up to the numbers of agents hold of machines.
+/// A machine is a reducer: the laws of `in_reducer` on what is the same up to the numbers of agents hold of machines.
 pub fn machines_are_reducers()
     ensures { MachinesAreReducers }
 {}

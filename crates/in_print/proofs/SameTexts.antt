@@ -11,10 +11,9 @@ use Rattle.in_check.specs.NetText.{Words, text}
 use Rattle.in_check.proofs.Public.{nat_test, text_same}
 use Rattle.in_reducer.specs.Machines.{MachineParts, parts_of}
 use Rattle.in_machine.specs.Machines.{IsMachine}
-use Rattle.in_names.specs.Same.{IsSameMachine}
-use Rattle.in_reducer.proofs.Public.{as_many_of}
+use Rattle.in_reducer.specs.Same.{IsSameMachine}
+use Rattle.in_reducer.proofs.Public.{all_classes, as_many_of, few_ports}
 use Rattle.in_machine.proofs.Public.{machine_queue, machine_promised}
-use Rattle.in_reducer.proofs.Public.{few_ports, all_classes}
 use Rattle.in_machine.specs.Texts.{words_of, text_of}
 
 named_at : (fs : List FreeEnd) (k : ℕ) → option_map (λ (f : FreeEnd). f.name) (slice_get fs k) ≡ slice_get (map (λ (f : FreeEnd). f.name) fs) k

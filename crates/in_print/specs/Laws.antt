@@ -5,7 +5,7 @@ use Rattle.in_check.specs.NetText.{TextPart, text_parts}
 use Rattle.in_check.specs.Promises.{HoldsAll}
 use Rattle.in_reducer.specs.Machines.{MachineParts, parts_of}
 use Rattle.in_machine.specs.Machines.{IsMachine}
-use Rattle.in_names.specs.Same.{AreSame}
+use Rattle.in_reducer.specs.Same.{AreSame}
 use Rattle.in_machine.specs.Texts.{words_of, text_of}
 
 -- the text in parts: names of agents, variables, and the bytes between them

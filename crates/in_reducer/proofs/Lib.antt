@@ -1,5 +1,6 @@
 pub mod Cells
 pub mod Cuts
+pub mod Numbers
 pub mod Pairs
 pub mod Parts
 pub mod Public

@@ -1,5 +1,6 @@
 -- One interaction.
 pub mod Ahead
+pub mod Anew
 pub mod Besides
 pub mod CanWire
 pub mod Finished
@@ -10,11 +11,14 @@ pub mod NextWire
 pub mod OneWire
 pub mod Ordered
 pub mod Points
+pub mod Reading
+pub mod Reused
 pub mod SetUp
 pub mod Settled
 pub mod Sided
 pub mod Stepped
 pub mod StepsOn
 pub mod StillNet
+pub mod Taken
 pub mod TakesNeed
 pub mod Wired

@@ -1,3 +1,4 @@
+pub mod Aside
 pub mod Cutting
 pub mod Gluing
 pub mod Inside
@@ -7,6 +8,7 @@ pub mod Laying
 pub mod Lent
 pub mod Limiting
 pub mod Machines
+pub mod NameLaws
 pub mod Wiring
 pub mod Parting
 pub mod PartingLaws
@@ -14,6 +16,7 @@ pub mod Placed
 pub mod Reducers
 pub mod Reserved
 pub mod Runs
+pub mod Same
 pub mod Sides
 pub mod Standing
 pub mod Starts

@@ -1,19 +1,21 @@
 -- An interaction in place, over cells: new agents are begun in cells of their own, beside the pair, and the wires of the right member are
 -- written one after another, each at its two sides. Lafont 1990: the right member takes the place of the active pair on the same boundary
 -- ends. That an interaction is done so where no wire leads back to its pair is this project's own choice.
-use Rattle.std.specs.Prelude.{◌≡◌, ◌⊎◌, IsTrue, ◌↔◌, ◌≤◌, ◌<◌, ◌+◌, ◌-◌, ◌++◌, ℕ, suc, Bool, cond, List, [], ◌∷◌, length, map, take, slice_get, slice_index_or, Some, None}
-use Rattle.in_arena.specs.Arenas.{ArenaView, free_of, state_at}
+use Rattle.std.specs.Prelude.{◌≡◌, ◌≢◌, ◌⊎◌, IsTrue, ◌↔◌, ◌≤◌, ◌<◌, ◌+◌, ◌-◌, ◌++◌, ℕ, suc, Bool, cond, List, [], ◌∷◌, length, map, take, slice_get, slice_index_or, Some, None}
+use Rattle.in_arena.specs.Arenas.{ArenaView, changed, free_of, state_at}
 use Rattle.in_arena.specs.Changes.{HasAllCells}
 use Rattle.in_arena.specs.Classes.{IsNumberOf}
-use Rattle.in_arena.specs.States.{IsBegun, IsLive, word_of, end_at, places}
+use Rattle.in_arena.specs.States.{Vacant, IsBegun, IsLive, word_of, end_at, places}
 use Rattle.in_arena.specs.declared.content.CellNo.{CellNo}
 use Rattle.in_arena.specs.declared.content.End.{End}
 use Rattle.in_arena.specs.declared.content.End.TheVariants.{Cell}
 use Rattle.in_symbols.specs.Tables.{Tables}
 use Rattle.in_net.specs.Built.{IsOver}
 use Rattle.in_net.specs.declared.nets.AgentNo.{AgentNo}
+use Rattle.in_net.specs.Interactions.{IsOfPair, IsRedex, redex_at}
 use Rattle.in_net.specs.NetFaults.{max_member_agents}
-use Rattle.in_net.specs.Nets.{Point, Free, net_of, signature_of}
+use Rattle.in_net.specs.Nets.{Point, Free, IsNet, net_of, signature_of}
+use Rattle.in_net.specs.Parts.{Parts}
 use Rattle.in_interaction.specs.Queues.{numbers_of}
 use Rattle.in_cells.specs.Between.{Interaction, before, redex_of}
 use Rattle.in_cells.specs.Cells.{KeepsCells}
@@ -21,13 +23,15 @@ use Rattle.in_cells.specs.Pairs.{IsNoPair, IsPrincipal}
 use Rattle.in_cells.specs.Shown.{end_of, stands_at}
 use Rattle.in_compile.specs.Cells.{count_of, IsEnough}
 use Rattle.in_compile.specs.Members.{AgentParts, MemberParts}
+use Rattle.in_compile.specs.Putting.{AreBegunBelow}
 use Rattle.in_compile.specs.Templates.{TemplateParts, IsTemplateOf}
 use Rattle.in_compile.specs.Wires.{both_points, over_of, over_point, within_of}
 use Rattle.in_overwriting.specs.InTurn.{AreAllWiresOf, in_two_parts}
 use Rattle.in_overwriting.specs.MadeByWires.{CanOverwriteAt, MakeInTurn}
-use Rattle.in_overwriting.specs.Overwriting.{IsSideAt}
+use Rattle.in_overwriting.specs.Overwriting.{IsSide, IsSideAt}
 use Rattle.in_typing.specs.TypedNets.{IsTypedNet}
 use Rattle.in_reducer.specs.declared.sides.Pair.{Pair}
+use Rattle.in_reducer.specs.Aside.{IsAside}
 use Rattle.in_reducer.specs.Inside.{most_ends, most_points}
 use Rattle.in_reducer.specs.Interacting.{PairSetting, IsAbout, interaction_of}
 
@@ -52,27 +56,35 @@ pub record CanBegin (m : MemberParts) (a : ArenaView) (points : List End) : Type
   pub few : length m.agents ≤ max_member_agents
   pub long : most_points ≤ length points
 
+-- after the points of 32 boundary ends come those of the agents, which have these cells: their principal ports
+abbrev pub AreAtAgents : List CellNo → List End → Type 0
+AreAtAgents ns points = (k : ℕ) → k < length ns → slice_get points (32 + k) ≡ Some (Cell (slice_index_or ns k (record { 0 = 0 })) 0)
+
+-- the first x agents have their cells, and their points
+abbrev pub HasBegunBelow : MemberParts → ArenaView → ℕ → ArenaView → List End → Type 0
+HasBegunBelow m old x now points = (ns : List CellNo) × AreBegunBelow m old x now ns × AreAtAgents ns points
+
 -- ---- the wires that are written
 
 -- where a wire of the right member that has this point ends in the net after the interaction
 abbrev pub IsSideOf : Tables → Interaction → Point ℕ → Point ℕ → Type 0
 IsSideOf t x = IsSideAt (signature_of t) (before x) (redex_of x) x.name
 
--- a side of one of the first k of these wires
-abbrev pub IsSideOfFirst : Tables → Interaction → List (Point ℕ × Point ℕ) → ℕ → Point ℕ → Type 0
-IsSideOfFirst t x wires k u = (j : ℕ) × (p : Point ℕ) × (q : Point ℕ) × (j < k) × (slice_get wires j ≡ Some (p, q)) × (IsSideOf t x p u ⊎ IsSideOf t x q u)
+-- .. and such an end of any of its wires
+abbrev pub IsSideAfter : Tables → Interaction → Point ℕ → Type 0
+IsSideAfter t x = IsSide (signature_of t) (before x) (redex_of x) x.name
 
--- the cells hold the net's agents and the new ones. Of the first k of these wires both sides lead to each other; each other point of the net
--- before leads where it led, those of the pair too
+-- the cells hold the net's agents but for the pair, and the new ones. Of the first k of these wires both sides lead to each other; each other
+-- point of the net before leads where it led, but for the pair's ports and the sides of the other wires, of which nothing is said
 pub record AreFirstWired (t : Tables) (x : Interaction) (own : ℕ) (wires : List (Point ℕ × Point ℕ)) (k : ℕ) (a : ArenaView) (ends : List End) : Type 0 where
   pub can : CanOverwriteAt t x.net x.rule x.one x.two x.name
   pub all : AreAllWiresOf (redex_of x).member wires
   pub own_ends : own ≡ length (before x).free
   pub room : own ≤ length ends
-  pub symbols : (y s : ℕ) → (word_of (state_at a y) ≡ Some s) ↔ (((before x).symbol y ≡ Some s) ⊎ ((l : ℕ) × (x.name l ≡ y) × ((redex_of x).member.symbol l ≡ Some s)))
+  pub symbols : (y s : ℕ) → (word_of (state_at a y) ≡ Some s) ↔ (((y ≢ x.one.0) × (y ≢ x.two.0) × ((before x).symbol y ≡ Some s)) ⊎ ((l : ℕ) × (x.name l ≡ y) × ((redex_of x).member.symbol l ≡ Some s)))
   pub places : (y s : ℕ) → word_of (state_at a y) ≡ Some s → places (state_at a y) ≡ suc ((signature_of t).arity s)
   pub written : (j : ℕ) (p q u v : Point ℕ) → j < k → slice_get wires j ≡ Some (p, q) → IsSideOf t x p u → IsSideOf t x q v → (stands_at a ends u ≡ Some (end_of v)) × (stands_at a ends v ≡ Some (end_of u))
-  pub still : (u v : Point ℕ) → (before x).partner u ≡ Some v → (IsSideOfFirst t x wires k u → ⊥) → stands_at a ends u ≡ Some (end_of v)
+  pub still : (u v : Point ℕ) → (before x).partner u ≡ Some v → (IsOfPair (redex_of x) u → ⊥) → (IsSideAfter t x u → ⊥) → stands_at a ends u ≡ Some (end_of v)
 
 -- ---- the pairs that they make
 
@@ -100,6 +112,13 @@ pub record CanRead (a : ArenaView) (p : Pair) (many : ℕ) (points : List End) :
   pub few : many ≤ most_ends
   pub long : most_points ≤ length points
 
+-- the agent is live, has as many auxiliary ports as there are points from `first` to before `to`, and there are such points
+pub record HasPortsFor (a : ArenaView) (c : CellNo) (first to points : ℕ) : Type 0 where
+  pub live : IsLive (state_at a c.0)
+  pub order : first ≤ to
+  pub ports : to < first + places (state_at a c.0)
+  pub room : to ≤ points
+
 -- at the points from `first` to before `to` stands what the agent's auxiliary ports lead to, in their order. All other points are as they were
 pub record HasPortsIn (a : ArenaView) (c : CellNo) (first to : ℕ) (old new : List End) : Type 0 where
   pub read : (e : ℕ) → first ≤ e → e < to → slice_get new e ≡ end_at (state_at a c.0) (suc (e - first))
@@ -110,10 +129,6 @@ pub record HasPortsIn (a : ArenaView) (c : CellNo) (first to : ℕ) (old new : L
 abbrev pub AddsInOrder : Bool → End → End → List (ℕ × ℕ) → List (ℕ × ℕ) → Type 0
 AddsInOrder input x y old new =
     (IsNoPair x y × (new ≡ old)) ⊎ ((c : ℕ) × (d : ℕ) × IsPrincipal c x × IsPrincipal d y × (new ≡ old ++ cond input (d, c) (c, d) ∷ []))
-
--- after the points of 32 boundary ends come those of the agents, which have these cells: their principal ports
-abbrev pub AreAtAgents : List CellNo → List End → Type 0
-AreAtAgents ns points = (k : ℕ) → k < length ns → slice_get points (32 + k) ≡ Some (Cell (slice_index_or ns k (record { 0 = 0 })) 0)
 
 -- at the points of the boundary ends stand their sides
 pub record AreSidesIn (t : Tables) (x : Interaction) (ns : List CellNo) (points : List End) : Type 0 where
@@ -141,12 +156,59 @@ pub record CanWireUp (t : Tables) (p : TemplateParts) (pair : Pair) (a : ArenaVi
   pub begin : CanBegin p.member a points
   pub few : length p.member.joints ≤ most_ends
 
--- the agents were begun beside the pair, and all wires are written, whatever net it is about
+-- the pair's cells are free
+abbrev pub retired : Pair → ArenaView → ArenaView
+retired p a = changed (changed a p.one.0 Vacant) p.other.0 Vacant
+
+-- both are live
+abbrev pub AreLive : Pair → ArenaView → Type 0
+AreLive p a = IsLive (state_at a p.one.0) × IsLive (state_at (changed a p.one.0 Vacant) p.other.0)
+
+-- the agents were begun beside the pair, which was retired then, and all wires are written, whatever net it is about
 pub record IsWiredUp (t : Tables) (p : TemplateParts) (pair : Pair) (old : ArenaView) (old_ends : List End) (old_queue : List (ℕ × ℕ)) (new : ArenaView) (new_ends points : List End) (new_queue : List (ℕ × ℕ)) : Type 0 where
   pub cells : List CellNo
   pub middle : ArenaView
   pub begun : HasBegun p.member cells old middle
-  pub kept : KeepsCells middle new
+  pub live : AreLive pair middle
+  pub kept : KeepsCells (retired pair middle) new
   pub at : AreAtAgents cells points
   pub written : (s : PairSetting) (own : ℕ) → IsAbout t s p pair own old old_ends → IsWiring t s p own cells points (length (wires_of p.member)) new new_ends
   pub queued : (s : PairSetting) (own : ℕ) → IsAbout t s p pair own old old_ends → HasQueued t (interaction_of s cells) (map over_point (over_of p.member)) (length (over_of p.member)) old_queue new_queue
+
+-- ---- .. in the cells of the pair
+
+-- a net with the same agents and wires, but for the numbers of the pair, which no cell has
+pub record IsSetAside (t : Tables) (s : PairSetting) (a : ArenaView) (n : Parts) (f : ℕ → ℕ) : Type 0 where
+  pub aside : IsAside (net_of s.net) (net_of n) (redex_at s.rule s.one.0 s.two.0) f
+  pub net : IsNet (signature_of t) (net_of n)
+  pub typed : IsTypedNet (signature_of t) (net_of n)
+  pub redex : IsRedex (signature_of t) (net_of n) (redex_at s.rule (f s.one.0) (f s.two.0))
+  pub one : length a.states ≤ f s.one.0
+  pub two : length a.states ≤ f s.two.0
+
+-- the same interaction there
+abbrev pub aside_of : PairSetting → Parts → (ℕ → ℕ) → PairSetting
+aside_of s n f = record { net = n; rule = s.rule; one = record { 0 = f s.one.0 }; two = record { 0 = f s.two.0 } }
+
+-- the cells show a net of which this is a pair, of this template, and neither of its symbols is marked; the pair can be set aside; and the
+-- agents can be begun
+pub record CanWireAnew (t : Tables) (p : TemplateParts) (pair : Pair) (a : ArenaView) (ends points : List End) : Type 0 where
+  pub setting : PairSetting
+  pub own : ℕ
+  pub about : IsAbout t setting p pair own a ends
+  pub aside : (n : Parts) × (f : ℕ → ℕ) × IsSetAside t setting a n f
+  pub unmarked : IsTrue p.unmarked
+  pub begin : CanBegin p.member a points
+  pub few : length p.member.joints ≤ most_ends
+
+-- the pair was retired, the agents were begun then, and all wires are written, whatever net it is about and wherever the pair is set aside
+pub record IsWiredAnew (t : Tables) (p : TemplateParts) (pair : Pair) (old : ArenaView) (old_ends : List End) (old_queue : List (ℕ × ℕ)) (new : ArenaView) (new_ends points : List End) (new_queue : List (ℕ × ℕ)) : Type 0 where
+  pub cells : List CellNo
+  pub middle : ArenaView
+  pub live : AreLive pair old
+  pub begun : HasBegun p.member cells (retired pair old) middle
+  pub kept : KeepsCells middle new
+  pub at : AreAtAgents cells points
+  pub written : (s : PairSetting) (own : ℕ) (n : Parts) (f : ℕ → ℕ) → IsAbout t s p pair own old old_ends → IsSetAside t s old n f → IsWiring t (aside_of s n f) p own cells points (length (wires_of p.member)) new new_ends
+  pub queued : (s : PairSetting) (own : ℕ) (n : Parts) (f : ℕ → ℕ) → IsAbout t s p pair own old old_ends → IsSetAside t s old n f
+      → HasQueued t (interaction_of (aside_of s n f) cells) (map over_point (over_of p.member)) (length (over_of p.member)) old_queue new_queue

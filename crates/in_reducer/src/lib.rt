@@ -34,6 +34,7 @@ mod interacting;
 pub mod laws;
 mod limits;
 mod looking;
+pub mod names;
 mod numbered;
 mod queueing;
 mod reducer;

@@ -5,6 +5,7 @@ ghost use Rattle.in_compile.specs.Templates.{AreTemplatesOf};
 ghost use Rattle.in_net.specs.Parts.{symbol_in};
 ghost use Rattle.in_reducer.specs.Inside.{AreAsBefore, KeepsNet, StandsBeside, most_ends, over, reducer_view};
 ghost use Rattle.in_reducer.specs.Machines.{parts_of};
+ghost use Rattle.in_reducer.specs.Same.{StepsUpToNumbers};
 ghost use Rattle.in_reducer.specs.Standing.{AreLeasedAlike};
 ghost use Rattle.in_reducer.specs.Steps.{NeedsAt, HasRoomAt, StepsAt};
 ghost use Rattle.in_reducer.specs.Templates.{HasHeadsAt, IsTemplateAt};
@@ -14,7 +15,7 @@ use crate::interacting::interact;
 use crate::queueing::{queue_made, queue_own, take_out};
 use crate::reducer::Reducer;
 use crate::sides::{Pair, PlacedPair};
-use crate::wiring::{queue_begun, wire_up};
+use crate::wiring::{queue_begun, wire_anew, wire_up};
 use in_arena::CellNo;
 use in_base::use_promise;
 use in_compile::{Need, Template, Templates};
@@ -171,8 +172,6 @@ impl<'a> Reducer<'a> {
             body.tools.points.as_mut_slice(),
             &mut body.queue,
         );
-        body.arena.retire(pair.one);
-        body.arena.retire(pair.other);
         queue_begun(
             template.member(),
             body.tools.points.as_slice(),
@@ -208,27 +207,74 @@ impl<'a> Reducer<'a> {
         self.step_by(template, number);
     }
 
-    /// The interaction of the first pair, which has these symbols, as `step` says, where what it needs is free. Returns whether it was done.
+    /// The interaction of the first pair, up to numbers, where neither symbol of the pair is marked: its cells are free before the right member's
+    /// agents are begun, so that these stand there where they can.
+    #[inline(always)]
+    fn step_anew(&mut self, template: &Template)
+        requires at { IsTemplateAt self.old 0 template.now }
+        requires room { HasRoomAt self.old 0 }
+        requires unmarked { IsTrue template.now.unmarked }
+        ensures { StepsUpToNumbers self.old 0 self.new }
+    {
+        let body = &mut self.body;
+        let (one, other) = body.queue[0];
+        let pair = Pair {
+            one: CellNo(one),
+            other: CellNo(other),
+            first_ends: template.first_ends(),
+        };
+        use_promise!(body.arena.cells());
+        take_out(&mut body.queue, 0);
+        wire_anew(
+            template,
+            pair,
+            &mut body.arena,
+            body.ends.as_mut_slice(),
+            body.tools.points.as_mut_slice(),
+            &mut body.queue,
+        );
+        queue_begun(
+            template.member(),
+            body.tools.points.as_slice(),
+            &mut body.queue,
+        );
+    }
+
+    /// The interaction of the first pair, up to numbers.
+    #[inline(always)]
+    fn step_here(&mut self, template: &Template)
+        requires at { IsTemplateAt self.old 0 template.now }
+        requires room { HasRoomAt self.old 0 }
+        ensures { StepsUpToNumbers self.old 0 self.new }
+    {
+        if template.is_unmarked() {
+            self.step_anew(template);
+        } else {
+            self.step_beside(template, 0);
+        }
+    }
+
+    /// The interaction of the first pair, which has these symbols, up to numbers, where what it needs is free. Returns whether it was done.
     #[inline(always)]
     pub(crate) fn step_known(&mut self, templates: &Templates, heads: (SymbolNo, SymbolNo)) -> bool
         requires { AreTemplatesOf self.old.program templates.now × HasHeadsAt self.old 0 heads }
-        ensures done { result ≡ true → StepsAt self.old 0 self.new }
+        ensures done { result ≡ true → StepsUpToNumbers self.old 0 self.new }
         ensures none { result ≡ false → (self.new ≡ self.old) × (HasRoomAt self.old 0 → ⊥) }
     {
         let template = self.template_by(templates, 0, heads);
         if !self.fits(template, 0) {
             return false;
         }
-        self.step_by(template, 0);
+        self.step_here(template);
         true
     }
 
-    /// The interaction of the first pair, as `step` says, where there is one and what it needs is free. Returns whether it was done. The
+    /// The interaction of the first pair, up to numbers, where there is one and what it needs is free. Returns whether it was done. The
     /// templates are those of the program. It takes no memory.
     #[inline(always)]
     pub(crate) fn step_first(&mut self, templates: &Templates) -> bool
         requires { AreTemplatesOf self.old.program templates.now }
-        ensures done { result ≡ true → StepsAt self.old 0 self.new }
+        ensures done { result ≡ true → StepsUpToNumbers self.old 0 self.new }
         ensures none { result ≡ false → (self.new ≡ self.old) × ((self.old.queue ≡ []) ⊎ (HasRoomAt self.old 0 → ⊥)) }
     {
         if self.pairs() == 0 {

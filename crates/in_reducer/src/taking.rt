@@ -5,7 +5,7 @@ ghost use Rattle.in_symbols.specs.declared.symbols.SymbolNo.{SymbolNo as Symbol}
 ghost use Rattle.in_compile.specs.Cells.{count_of};
 ghost use Rattle.in_compile.specs.Templates.{AreTemplatesOf};
 ghost use Rattle.in_reducer.specs.Parting.{ReducesTo};
-ghost use Rattle.in_reducer.specs.Runs.{Runs};
+ghost use Rattle.in_reducer.specs.Same.{RunsUpToNumbers, StepsUpToNumbers};
 ghost use Rattle.in_reducer.specs.Steps.{HasRoomAt, StepsAt};
 ghost use Rattle.in_reducer.specs.Taking.{AreAhead, HasRoomBesides, TakesNoLast, together};
 ghost use Rattle.in_reducer.specs.Templates.{HasHeadsAt, IsTemplateAt};
@@ -66,7 +66,7 @@ impl<'a> Reducer<'a> {
     #[inline(always)]
     fn step_next(&mut self, templates: &Templates, ahead: &mut Ahead) -> bool
         requires { AreTemplatesOf self.old.program templates.now × AreAhead self.old ahead.old }
-        ensures done { result ≡ true → StepsAt self.old 0 self.new × AreAhead self.new ahead.new }
+        ensures done { result ≡ true → StepsUpToNumbers self.old 0 self.new × AreAhead self.new ahead.new }
         ensures none { result ≡ false → (self.new ≡ self.old) × ((self.old.queue ≡ []) ⊎ (HasRoomAt self.old 0 → ⊥)) }
     {
         use_promise!(self.pairs());
@@ -79,13 +79,15 @@ impl<'a> Reducer<'a> {
     }
 
     /// Interactions of the first pair of the queue, one after another, at most `most`, first in, first out. Fewer only where no pair is left, or
-    /// what the first one needs isn't free. Returns how many they were. The templates are those of the program. It takes no memory.
+    /// what the first one needs isn't free. Returns how many they were. They are those of a reducer that is this one up to the numbers of
+    /// agents: a new agent may have the number of one that is gone. The templates are those of the program. It takes no memory.
     pub fn take_first(&mut self, templates: &Templates, most: u64) -> u64
         requires { AreTemplatesOf self.old.program templates.now }
-        ensures runs { Runs self.old result self.new }
+        ensures runs { RunsUpToNumbers self.old result self.new }
         ensures most { result ≤ most }
         ensures fewer { result < most → (self.new.queue ≡ []) ⊎ (HasRoomAt self.new 0 → ⊥) }
     {
+        use_promise!(self.pairs());
         let mut ahead = Ahead::none();
         let mut count = 0;
         while count < most {

@@ -1,7 +1,7 @@
 // One interaction in place: new agents are begun beside the pair, and the wires of the right member are written.
 ghost use Rattle.std.specs.Prelude.{◌≡◌, ◌≤◌, ◌<◌, ◌+◌, ◌++◌, ℕ, Bool, List, length, map, Some, slice_get};
 ghost use Rattle.std.specs.VecDeque.{deque_len, deque_capacity};
-ghost use Rattle.in_arena.specs.Arenas.{state_at};
+ghost use Rattle.in_arena.specs.Arenas.{ArenaView, state_at};
 ghost use Rattle.in_arena.specs.States.{IsLive, places};
 ghost use Rattle.in_arena.specs.declared.content.CellNo.{CellNo as Number};
 ghost use Rattle.in_arena.specs.declared.content.End.{End};
@@ -13,7 +13,7 @@ ghost use Rattle.in_compile.specs.Wires.{over_of, over_point};
 ghost use Rattle.in_reducer.specs.Inside.{most_ends};
 ghost use Rattle.in_reducer.specs.Interacting.{PairSetting, interaction_of, named};
 ghost use Rattle.in_reducer.specs.Sides.{end_there, port_at};
-ghost use Rattle.in_reducer.specs.Wiring.{AddsInOrder, AreAtAgents, AreOwnPairs, CanBegin, CanRead, CanWireUp, HasBegun, HasPortsIn, HasQueued, IsAtPlace, IsWiredUp, IsWiring, wires_of};
+ghost use Rattle.in_reducer.specs.Wiring.{AddsInOrder, AreAtAgents, AreLive, AreOwnPairs, CanBegin, CanRead, CanWireAnew, CanWireUp, HasBegun, HasBegunBelow, HasPortsFor, HasPortsIn, HasQueued, IsAtPlace, IsWiredAnew, IsWiredUp, IsWiring, retired, wires_of};
 
 use crate::limits::MOST_ENDS;
 use crate::sides::Pair;
@@ -26,32 +26,52 @@ use std::collections::VecDeque;
 /// How many points a right member has at most: a boundary end each, and an agent each.
 pub(crate) const POINTS: usize = MOST_ENDS + MAX_MEMBER_AGENTS;
 
-/// Begins a cell for each agent, whose principal port is its point.
-#[inline(always)]
-fn begin_agents(member: &Member, arena: &mut Arena, points: &mut [EndWord])
-    requires { CanBegin member.now arena.old points.old }
-    ensures begun { (ns : List Number) × HasBegun member.now ns arena.old arena.new × AreAtAgents ns points.new }
+/// Begins a cell for each agent from this one on, whose principal port is its point.
+fn begin_rest(member: &Member, from: u32, arena: &mut Arena, points: &mut [EndWord])
+    requires begun { (a : ArenaView) × CanBegin member.now a points.old × HasBegunBelow member.now a from arena.old points.old }
+    requires few { from ≤ length member.now.agents }
+    ensures begun { (a : ArenaView) → CanBegin member.now a points.old → HasBegunBelow member.now a from arena.old points.old → (ns : List Number) × HasBegun member.now ns a arena.new × AreAtAgents ns points.new }
+    ensures ends { (e : ℕ) → e < most_ends → slice_get points.new e ≡ slice_get points.old e }
     ensures long { length points.new ≡ length points.old }
 {
     member.is_sound();
-    for agent in 0..member.agents() {
+    for agent in from..member.agents() {
         let cell = member.begin(agent, arena);
         points[MOST_ENDS + agent as usize] = EndWord::port(cell, 0);
     }
 }
 
+/// Begins a cell for each agent, whose principal port is its point.
+#[inline(always)]
+fn begin_agents(member: &Member, arena: &mut Arena, points: &mut [EndWord])
+    requires { CanBegin member.now arena.old points.old }
+    ensures begun { (ns : List Number) × HasBegun member.now ns arena.old arena.new × AreAtAgents ns points.new }
+    ensures ends { (e : ℕ) → e < most_ends → slice_get points.new e ≡ slice_get points.old e }
+    ensures long { length points.new ≡ length points.old }
+{
+    begin_rest(member, 0, arena, points);
+}
+
 /// Reads what the auxiliary ports of a live agent lead to, in their order, at the points from `first` to before `to`. It has so many.
 #[inline(always)]
 fn read_agent(arena: &Arena, cell: CellNo, first: u8, to: u8, points: &mut [EndWord])
-    requires live { IsLive (state_at arena.now cell.0) }
-    requires order { first ≤ to }
-    requires ports { to < first + places (state_at arena.now cell.0) }
-    requires room { to ≤ length points.old }
+    requires { HasPortsFor arena.now cell first to (length points.old) }
     ensures { HasPortsIn arena.now cell first to points.old points.new }
 {
     let ends = arena.ends(cell);
-    for number in first..to {
-        points[number as usize] = ends[(number - first) as usize + 1];
+    let many = to - first;
+    // Most agents have at most two auxiliary ports: these are read without a loop.
+    if many > 2 {
+        for number in first..to {
+            points[number as usize] = ends[(number - first) as usize + 1];
+        }
+        return;
+    }
+    if many > 0 {
+        points[first as usize] = ends[1];
+    }
+    if many > 1 {
+        points[first as usize + 1] = ends[2];
     }
 }
 
@@ -145,8 +165,8 @@ fn write_within(template: &Template, points: &[EndWord], arena: &mut Arena, ends
     }
 }
 
-/// Begins the right member's agents beside a pair to which no wire leads back, and writes the wires. The pairs that they make over boundary ends are
-/// queued. It takes no memory, and other cells may be on lease.
+/// Begins the right member's agents beside a pair to which no wire leads back, retires the pair, and writes the wires. The pairs that they make over
+/// boundary ends are queued. It takes no memory, and other cells may be on lease.
 #[inline(always)]
 pub(crate) fn wire_up(
     template: &Template,
@@ -165,6 +185,55 @@ pub(crate) fn wire_up(
 {
     begin_agents(template.member(), arena, points);
     read_ports(arena, pair, template.boundary_ends(), points);
+    arena.retire(pair.one);
+    arena.retire(pair.other);
+    write_over(template, points, arena, ends, queue);
+    write_within(template, points, arena, ends);
+}
+
+/// Begins a cell for each agent once the pair's cells are free: the first two agents have these where they are of their classes.
+#[inline(always)]
+fn begin_in(member: &Member, pair: Pair, arena: &mut Arena, points: &mut [EndWord])
+    requires { AreLive pair arena.old × CanBegin member.now arena.old points.old }
+    ensures begun { (ns : List Number) × HasBegun member.now ns (retired pair arena.old) arena.new × AreAtAgents ns points.new }
+    ensures ends { (e : ℕ) → e < most_ends → slice_get points.new e ≡ slice_get points.old e }
+    ensures long { length points.new ≡ length points.old }
+{
+    member.is_sound();
+    let many = member.agents();
+    if many < 2 {
+        arena.retire(pair.one);
+        arena.retire(pair.other);
+        begin_rest(member, 0, arena, points);
+        return;
+    }
+    let first = member.begin_in(0, pair.one, arena);
+    points[MOST_ENDS] = EndWord::port(first, 0);
+    let second = member.begin_in(1, pair.other, arena);
+    points[MOST_ENDS + 1] = EndWord::port(second, 0);
+    begin_rest(member, 2, arena, points);
+}
+
+/// Retires a pair to which no wire leads back, begins the right member's agents, which then stand in its cells where they can, and writes the wires,
+/// as `wire_up` does.
+#[inline(always)]
+pub(crate) fn wire_anew(
+    template: &Template,
+    pair: Pair,
+    arena: &mut Arena,
+    ends: &mut [EndWord],
+    points: &mut [EndWord],
+    queue: &mut VecDeque<(u32, u32)>,
+)
+    requires ready { (t : Tables) × CanWireAnew t template.now pair arena.old ends.old points.old }
+    requires room { deque_len queue.old + most_ends ≤ deque_capacity queue.old }
+    ensures wired { (t : Tables) → CanWireAnew t template.now pair arena.old ends.old points.old → IsWiredAnew t template.now pair arena.old ends.old queue.old.items arena.new ends.new points.new queue.new.items }
+    ensures points { length points.new ≡ length points.old }
+    ensures long { length ends.new ≡ length ends.old }
+    ensures capacity { deque_capacity queue.new ≡ deque_capacity queue.old }
+{
+    read_ports(arena, pair, template.boundary_ends(), points);
+    begin_in(template.member(), pair, arena, points);
     write_over(template, points, arena, ends, queue);
     write_within(template, points, arena, ends);
 }

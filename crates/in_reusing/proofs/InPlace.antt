@@ -14,8 +14,8 @@ use Rattle.in_base.proofs.Places.{is_some as there}
 use Rattle.in_check.proofs.Public.{net_renamed, symbol_kept, wire_kept}
 use Rattle.in_overwriting.specs.Overwriting.{CanOverwrite, IsOverwritten, IsSideAt, IsSide}
 use Rattle.in_overwriting.proofs.Public.{overwritten_exists, sides_are_apart, steps_are_overwritten}
-use Rattle.in_reusing.specs.Aside.{IsAside, AreAlikeAside}
-use Rattle.in_reusing.proofs.Aside.{pairs_aside_are_alike, point_stays}
+use Rattle.in_reducer.specs.Aside.{IsAside, AreAlikeAside}
+use Rattle.in_reducer.proofs.Public.{pairs_aside_are_alike, point_stays}
 use Rattle.in_reusing.specs.InPlace.{CanReuse, IsOverwrittenInPlace, InPlaceIsAStep, InPlaceExists, InPlaceIsOne}
 
 module _ (sig : Signature) (n m : Net ℕ) (x : Redex ℕ ℕ) (f name : ℕ → ℕ) (can : CanReuse sig n x f name) (aside : IsAside n m x f) where

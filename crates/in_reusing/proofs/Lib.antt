@@ -1,4 +1,3 @@
-pub mod Aside
 pub mod InPlace
 pub mod Public
 pub mod StepsInPlace

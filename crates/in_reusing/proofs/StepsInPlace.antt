@@ -19,11 +19,10 @@ use Rattle.in_overwriting.specs.Overwriting.{IsSideAt}
 use Rattle.in_overwriting.proofs.Public.{wires_make_all_pairs}
 use Rattle.in_reducer.specs.Machines.{MachineParts, parts_of}
 use Rattle.in_reducer.specs.Reducers.{IsReducer}
-use Rattle.in_reducer.proofs.Public.{as_many_of, other_pair, symbol_moved, was_there}
+use Rattle.in_reducer.proofs.Public.{apart_aside, as_many_of, f_aside, is_under, is_x, is_y, is_z, machine_under, map_removed, need_moved, number_below, one_step, other_pair, pair_moved, reducer_same, rule_moved, symbol_moved, was_there}
 use Rattle.in_reducer.proofs.Public.StepsOn as reducers
-use Rattle.in_reusing.specs.Aside.{IsAside, IsReusing}
-use Rattle.in_names.specs.Same.{IsSameMachine, StepsUpToNumbers}
-use Rattle.in_names.proofs.Public.{apart_aside, f_aside, is_x, is_y, is_z, is_under, machine_under, map_removed, need_moved, number_below, one_step, pair_moved, reducer_same, rule_moved}
+use Rattle.in_reducer.specs.Aside.{IsAside, IsReusing}
+use Rattle.in_reducer.specs.Same.{IsSameMachine, StepsUpToNumbers}
 use Rattle.in_reusing.specs.InPlace.{CanReuse}
 use Rattle.in_reusing.specs.StepsInPlace.{StepsInPlace, StepsInPlaceAreSteps, StepsInPlaceAreSame}
 use Rattle.in_reusing.proofs.InPlace.{can_m, side_m, side_n, steps}

@@ -5,7 +5,7 @@ use Rattle.in_net.specs.Interactions.{Redex, IsRedex, IsOfPair, IsStep}
 use Rattle.in_net.specs.Nets.{Point, Signature, Net, IsNet, IsPoint}
 use Rattle.in_check.specs.Runs.{moved}
 use Rattle.in_overwriting.specs.Overwriting.{NoneLeadsBack, AreSides, IsSide}
-use Rattle.in_reusing.specs.Aside.{IsAside, IsReusing}
+use Rattle.in_reducer.specs.Aside.{IsAside, IsReusing}
 
 -- both sides of each wire of the right member get each other, and what else stays keeps its partner. Nothing else has one: in particular no
 -- port of the pair, unless a new agent has its number

@@ -14,8 +14,8 @@ use Rattle.in_overwriting.specs.Overwriting.{NoneLeadsBack}
 use Rattle.in_reducer.specs.Machines.{MachineParts, parts_of, plain_of}
 use Rattle.in_reducer.specs.Reducers.{IsReducer}
 use Rattle.in_reducer.specs.Steps.{HasRoomAt}
-use Rattle.in_names.specs.Same.{AreSame, StepsUpToNumbers}
-pub use Rattle.in_reusing.specs.Aside.{IsNamingInPlace}
+use Rattle.in_reducer.specs.Same.{AreSame, StepsUpToNumbers}
+pub use Rattle.in_reducer.specs.Aside.{IsNamingInPlace}
 use Rattle.in_reusing.specs.InPlace.{IsOverwrittenInPlace}
 
 -- the interaction of the active pair of that number by its rule, where no wire leads back to the pair: partners are overwritten, and the

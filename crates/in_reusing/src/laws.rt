@@ -1,6 +1,6 @@
 //! Laws over interactions in place. No function here does anything.
 
-ghost use Rattle.in_reusing.specs.Aside.{PairsAsideAreAlike};
+ghost use Rattle.in_reducer.specs.Aside.{PairsAsideAreAlike};
 ghost use Rattle.in_reusing.specs.InPlace.{InPlaceExists, InPlaceIsAStep, InPlaceIsOne};
 ghost use Rattle.in_reusing.specs.StepsInPlace.{StepsInPlaceAreSame, StepsInPlaceAreSteps};
 ghost use Rattle.in_reusing.specs.Unmarked.{UnmarkedLeadNoneBack, UnmarkedPairsOfSoundNetsAreApart};

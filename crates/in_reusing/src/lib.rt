@@ -2,7 +2,7 @@
 //! in cells without another copy of it.
 //!
 //! Such an interaction (`StepsInPlace` of `specs/`) speaks of the net before and the net after it alone. It is an interaction of the net in
-//! which the pair has other numbers (`Aside`), and so one up to numbers (`in_names`). It asks that no wire leads back to the pair, which
+//! which the pair has other numbers (`Aside`), and so one up to numbers. It asks that no wire leads back to the pair, which
 //! holds where neither symbol of the pair is marked (`Unmarked`).
 #![tactic(auto)]
 

@@ -2,7 +2,7 @@
 use Rattle.std.proofs.Common.{◌≡◌, ◌⊎◌, inl, inr, ◌<◌, ◌≤◌, ◌+◌, ◌-◌, ℕ, arith}
 use Rattle.in_machine.specs.Machines.{IsMachine}
 use Rattle.in_machine.specs.Together.{HasRoomFor}
-use Rattle.in_names.proofs.Public.{joined}
+use Rattle.in_reducer.proofs.Public.{joined}
 use Rattle.in_machine.proofs.Public.{room_lasts}
 use Rattle.in_reducer.specs.Machines.{MachineParts}
 use Rattle.in_reducer.specs.Runs.{Runs}

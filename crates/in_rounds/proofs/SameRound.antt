@@ -5,8 +5,8 @@ use Rattle.in_interaction.specs.Queues.{both}
 use Rattle.in_reducer.specs.Machines.{MachineParts}
 use Rattle.in_reducer.specs.Runs.{Runs}
 use Rattle.in_machine.specs.Machines.{IsMachine}
-use Rattle.in_names.specs.Same.{AreSame}
-use Rattle.in_names.proofs.Public.{an_equivalence}
+use Rattle.in_reducer.specs.Same.{AreSame}
+use Rattle.in_reducer.proofs.Public.{an_equivalence}
 use Rattle.in_machine.proofs.Public.{as_reducer, machine_runs, passes, room_moved, same_run}
 use Rattle.in_rounds.specs.Laws.{RoundsAreSame}
 use Rattle.in_rounds.specs.Rounds.{IsFront, jobs_of}

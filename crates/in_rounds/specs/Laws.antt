@@ -2,7 +2,7 @@
 use Rattle.std.specs.Prelude.{◌≡◌, ◌<◌, ◌≤◌, ◌+◌, ◌-◌, ℕ, List, [], ◌∷◌, Option, Result, Ok, Some}
 use Rattle.in_arena.specs.Arenas.{ArenaView}
 use Rattle.in_machine.specs.Machines.{IsMachine}
-use Rattle.in_names.specs.Same.{AreSame}
+use Rattle.in_reducer.specs.Same.{AreSame}
 use Rattle.in_reducer.specs.Machines.{MachineParts}
 use Rattle.in_reducer.specs.Runs.{Runs}
 use Rattle.in_rounds.specs.Dones.{DoneParts}

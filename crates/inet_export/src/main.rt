@@ -1,5 +1,5 @@
-//! The program `inet_export`: writes the program of interaction nets (Lafont 1990) that comes on standard input as data, one JSON object
-//! on one line, for programs that go on with it. Where it is refused, it prints the line that `inet check` prints.
+//! The program `inet_export`: writes the program of interaction nets (Lafont 1990) that comes on standard input, or in a file, as data, one JSON
+//! object on one line, for programs that go on with it. Where it is refused, it prints the line that `inet check` prints.
 //!
 //! Where the text is refused, it lets `in_program::report` write what `inet check` writes.
 #![tactic(auto)]
@@ -7,14 +7,15 @@
 ghost use Rattle.std.specs.Prelude.{◌-◌, ◌<◌, ◌^◌};
 
 use in_export::export;
-use in_program::{Status, StreamOut, report_text, tell};
+use in_program::{Device, Status, StreamOut, report_text, tell, tell_failure};
 use in_syntax::{Fault, MAX_TEXT_BYTES, TextOut};
 use in_version::version_line;
 use std::alloc::Global;
 use std::env::Args;
-use std::io::{Error, ErrorKind, Read, Write};
+use std::io::{ErrorKind, Read, Write};
 use std::process::ExitCode;
-use std::{env, io};
+use std::rt::Files;
+use std::{env, fs, io};
 
 const WRITTEN: Status = Status(0);
 
@@ -29,7 +30,10 @@ const MEMORY_LINE: &[u8] = b"memory\n";
 const USAGE: &[u8] = b"\
 Writes an accepted program as one line of JSON
 
-Usage: inet_export < PROGRAM.inet
+Usage: inet_export [FILE]
+
+Arguments:
+  [FILE]  The program's file; without it, or with -, the program comes on standard input
 
 Options:
   -h, --help     Print help
@@ -37,9 +41,10 @@ Options:
 ";
 
 /// What the program is asked to do.
+#[derive(Drop)]
 enum Request {
-    /// Writes the line of the program on standard input.
-    Line,
+    /// Writes the line of the program in this file, or on standard input.
+    Line(Option<String>),
     /// Says how it is called.
     Help,
     /// Says which version it is.
@@ -54,6 +59,17 @@ enum Usage {
     Memory,
 }
 
+/// What one word asks for.
+fn asked_by(word: String) -> Result<Request, Usage> {
+    match word.as_str() {
+        "-h" | "--help" => Ok(Request::Help),
+        "-V" | "--version" => Ok(Request::Version),
+        "-" => Ok(Request::Line(None)),
+        option if option.starts_with('-') => Err(Usage::Wrong),
+        _ => Ok(Request::Line(Some(word))),
+    }
+}
+
 /// What these words ask for, of which the first is the program's name.
 fn asked(words: io::Result<Args>) -> Result<Request, Usage> {
     let mut words = match words {
@@ -63,12 +79,8 @@ fn asked(words: io::Result<Args>) -> Result<Request, Usage> {
     };
     let _name = words.next();
     match (words.next(), words.next()) {
-        (None, _) => Ok(Request::Line),
-        (Some(word), None) => match word.as_str() {
-            "-h" | "--help" => Ok(Request::Help),
-            "-V" | "--version" => Ok(Request::Version),
-            _ => Err(Usage::Wrong),
-        },
+        (None, _) => Ok(Request::Line(None)),
+        (Some(word), None) => asked_by(word),
         _ => Err(Usage::Wrong),
     }
 }
@@ -88,13 +100,6 @@ fn read_text<R: Read>(alloc: Global, reader: &mut R) -> io::Result<Vec<u8>> {
     Ok(text)
 }
 
-/// Tells what failed, and why. Where memory runs out, or it can't be told, nothing is added.
-fn tell_failure<E: Write>(alloc: Global, what: &str, why: Error, errors: &mut E) {
-    if let Ok(words) = format!(in alloc; "error: {what}: {why}\n") {
-        let _ = errors.write_all(words.as_bytes());
-    }
-}
-
 /// Writes the line of a text's program; where the text is refused, what `inet check` writes on it; or that memory ran out.
 fn tell_program<W: TextOut>(alloc: Global, writer: &mut W, text: &[u8]) -> Status
     requires { (W.device writer.old).failures < 2 ^ 64 - 1 }
@@ -106,9 +111,10 @@ fn tell_program<W: TextOut>(alloc: Global, writer: &mut W, text: &[u8]) -> Statu
     }
 }
 
-/// Reads a text and writes the line of its program; tells why it can't be read.
+/// Reads a text and writes the line of its program; tells why it can't be read from this device.
 fn answer<R: Read, W: TextOut, E: Write>(
     alloc: Global,
+    device: Device,
     reader: &mut R,
     output: &mut W,
     errors: &mut E,
@@ -120,7 +126,29 @@ fn answer<R: Read, W: TextOut, E: Write>(
         Err(error) => match error.kind() {
             ErrorKind::OutOfMemory => tell(output, MEMORY_LINE, MEMORY),
             _ => {
-                tell_failure(alloc, "standard input can't be read", error, errors);
+                tell_failure(alloc, device, "read", error, errors);
+                FAULT
+            }
+        },
+    }
+}
+
+/// The same with the text of a file.
+fn answer_file<T: Files, W: TextOut, E: Write>(
+    rt: &T,
+    alloc: Global,
+    file: &str,
+    output: &mut W,
+    errors: &mut E,
+) -> Status
+    requires { (W.device output.old).failures < 2 ^ 64 - 1 }
+{
+    match fs::open(rt, file) {
+        Ok(mut opened) => answer(alloc, Device::File(file), &mut opened, output, errors),
+        Err(error) => match error.kind() {
+            ErrorKind::OutOfMemory => tell(output, MEMORY_LINE, MEMORY),
+            _ => {
+                tell_failure(alloc, Device::File(file), "opened", error, errors);
                 FAULT
             }
         },
@@ -137,8 +165,10 @@ fn tell_version<W: TextOut>(alloc: Global, output: &mut W) -> Status
     }
 }
 
-/// Does what the program's words ask for, or tells how it is called; and tells why its output can't be written.
-fn serve<R: Read, W: Write + Drop, E: Write>(
+/// Does what the program's words ask for, or tells how it is called; and tells why its output can't be written, where it isn't that its reader
+/// went away.
+fn serve<T: Files, R: Read, W: Write + Drop, E: Write>(
+    rt: &T,
     alloc: Global,
     words: io::Result<Args>,
     reader: &mut R,
@@ -147,7 +177,10 @@ fn serve<R: Read, W: Write + Drop, E: Write>(
 ) -> Status {
     let mut output = StreamOut::new(writer);
     let status = match asked(words) {
-        Ok(Request::Line) => answer(alloc, reader, &mut output, errors),
+        Ok(Request::Line(None)) => answer(alloc, Device::Input, reader, &mut output, errors),
+        Ok(Request::Line(Some(file))) => {
+            answer_file(rt, alloc, file.as_str(), &mut output, errors)
+        }
         Ok(Request::Help) => tell(&mut output, USAGE, WRITTEN),
         Ok(Request::Version) => tell_version(alloc, &mut output),
         Err(Usage::Memory) => tell(&mut output, MEMORY_LINE, MEMORY),
@@ -157,13 +190,16 @@ fn serve<R: Read, W: Write + Drop, E: Write>(
         }
     };
     if let Some(why) = output.failure() {
-        tell_failure(alloc, "standard output can't be written", why, errors);
+        if why.kind() != ErrorKind::BrokenPipe {
+            tell_failure(alloc, Device::Output, "written", why, errors);
+        }
     }
     status
 }
 
 fn main(rt: HostRuntime) -> ExitCode {
     let status = serve(
+        &rt,
         rt.alloc(),
         env::args(&rt),
         &mut rt.reader(),

@@ -1,6 +1,7 @@
 -- Numbers of cells by class: two needs that are alike are one, and one class is the first that is short.
 use Rattle.std.proofs.Common.{◌≡◌, ◌⊎◌, inl, inr, ◌<◌, ℕ, refl, arith}
 use Rattle.in_arena.specs.Classes.{class_no}
+use Rattle.in_arena.proofs.Public.{same_class}
 use Rattle.in_arena.specs.declared.content.CellClass.{CellClass}
 use Rattle.in_arena.specs.declared.content.CellClass.TheVariants.{Small, Large, Wide}
 use Rattle.in_compile.specs.declared.cells.Need.{Need}
@@ -8,18 +9,6 @@ use Rattle.in_compile.specs.Cells.{count_of, IsFirstShort}
 
 pub same_need : (x y : Need) → ((c : CellClass) → count_of x c ≡ count_of y c) → x ≡ y
 same_need x y h = λ i. record { small = h Small i; large = h Large i; wide = h Wide i }
-
--- a class is its number
-same_class : (c d : CellClass) → class_no c ≡ class_no d → c ≡ d
-same_class Small Small e = refl
-same_class Small Large e = cc
-same_class Small Wide e = cc
-same_class Large Small e = cc
-same_class Large Large e = refl
-same_class Large Wide e = cc
-same_class Wide Small e = cc
-same_class Wide Large e = cc
-same_class Wide Wide e = refl
 
 pub one_short : (need free : CellClass → ℕ) (c d : CellClass) → IsFirstShort need free c → IsFirstShort need free d → c ≡ d
 one_short need free c d h g = go (let o : (class_no c ≡ class_no d) ⊎ (class_no c < class_no d) ⊎ (class_no d < class_no c) = grind arith in o)

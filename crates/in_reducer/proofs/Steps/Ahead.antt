@@ -6,15 +6,19 @@ use Rattle.std.proofs.lemmas.Option.{same_Some, slice_get_within}
 use Rattle.in_base.proofs.Places.{kept_at, set_here, set_there}
 use Rattle.in_symbols.specs.declared.symbols.SymbolNo.{SymbolNo}
 use Rattle.in_net.specs.Parts.{symbol_in}
-use Rattle.in_interaction.specs.Queues.{agents_at, numbers_of}
+use Rattle.in_interaction.specs.Queues.{agents_at, both, numbers_of}
 use Rattle.in_interaction.proofs.Public.{has_symbol}
 use Rattle.in_reducer.specs.Machines.{MachineParts, parts_of}
 use Rattle.in_reducer.specs.Reducers.{IsReducer}
+use Rattle.in_reducer.specs.Same.{StepsUpToNumbers}
 use Rattle.in_reducer.specs.Steps.{StepsAt}
 use Rattle.in_reducer.specs.Taking.{AreAhead, together}
 use Rattle.in_reducer.specs.Templates.{HasHeadsAt}
 use Rattle.in_reducer.specs.declared.taking.Ahead.{Ahead}
 use Rattle.in_reducer.proofs.Pairs.Requeued.{other_pair}
+use Rattle.in_reducer.proofs.Numbers.OfSame.{reducer_same}
+use Rattle.in_reducer.proofs.Numbers.SameStep.{pair_moved}
+use Rattle.in_reducer.proofs.Starts.Started.{symbol_moved}
 use Rattle.in_reducer.proofs.Steps.StepsOn.{can_at, inside_at, net_at}
 
 -- what stood behind the first one stands one place before
@@ -47,6 +51,15 @@ module _ (m n : MachineParts) (h : IsReducer m) (s : StepsAt m 0 n) where
         two = symbols.1;
       }
 
+-- .. also where the interaction is one up to numbers
+pub heads_stay_same : (m n : MachineParts) → IsReducer m → StepsUpToNumbers m 0 n → (i : ℕ) (x : SymbolNo × SymbolNo) → HasHeadsAt m (suc i) x → HasHeadsAt n i x
+heads_stay_same m n h (s, (f, same), step) i x at = heads_stay s n (reducer_same m s h f same) step i x (record {
+  pair = both f at.pair;
+  stands = pair_moved f m s same (suc i) at.pair at.stands;
+  one = symbol_moved f (parts_of m) (parts_of s) same.net at.pair.0 x.0 at.one;
+  two = symbol_moved f (parts_of m) (parts_of s) same.net at.pair.1 x.1 at.two;
+})
+
 -- ---- read ahead
 
 -- none is read
@@ -54,10 +67,10 @@ pub none_ahead : (m : MachineParts) (a : Ahead) → a.next ≡ together → leng
 none_ahead m a all many = record { next = omega (arith, all); heads = λ k h at. absurd (let l = slice_get_within a.heads (a.next + k) h at in omega (arith, l, many, all)) }
 
 -- one is taken
-pub one_taken : (m n : MachineParts) → IsReducer m → StepsAt m 0 n → (a b : Ahead) → AreAhead m a → (a.next ≡ together → ⊥) → b.next ≡ a.next + 1 → b.heads ≡ a.heads → AreAhead n b
+pub one_taken : (m n : MachineParts) → IsReducer m → StepsUpToNumbers m 0 n → (a b : Ahead) → AreAhead m a → (a.next ≡ together → ⊥) → b.next ≡ a.next + 1 → b.heads ≡ a.heads → AreAhead n b
 one_taken m n h s a b ahead some next same = record {
   next = (let l = ahead.next in omega (arith, l, next, some));
-  heads = λ k x at. heads_stay m n h s k x (ahead.heads (suc k) x
+  heads = λ k x at. heads_stay_same m n h s k x (ahead.heads (suc k) x
       (ap (slice_get a.heads) (let z : a.next + suc k ≡ b.next + k = omega (arith, next) in z) ∙ ap (λ (xs : List (SymbolNo × SymbolNo)). slice_get xs (b.next + k)) (sym same) ∙ at));
 }
 

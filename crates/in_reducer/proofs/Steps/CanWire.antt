@@ -1,5 +1,6 @@
--- Where new agents are begun beside a pair to which no wire leads back, the wires can be written; and when they are, the pair is retired.
+-- Where new agents are begun beside a pair to which no wire leads back, and the pair is retired, the wires can be written.
 use Rattle.std.proofs.Common.{◌≡◌, ◌≢◌, ◌⊎◌, ◌↔◌, inl, inr, ◌<◌, ◌≤◌, ◌+◌, ◌-◌, ℕ, suc, Bool, cond, nat_lt, Option, Some, None, List, length, map, take, slice_get, refl, sym, ap, subst, ◌∙◌, get_or-set_same, get_or-set_other, arith}
+use native.Mathlib.Decide.{ℕ_discrete}
 use Rattle.std.specs.Prelude.{option_map, IsSomeAnd, IsTrue}
 use Rattle.in_arena.specs.Arenas.{ArenaView, changed, state_at}
 use Rattle.in_arena.specs.States.{State, Vacant, Leased, Live, IsLive, word_of, end_at, places}
@@ -7,7 +8,7 @@ use Rattle.in_arena.specs.declared.content.CellNo.{CellNo}
 use Rattle.in_arena.specs.declared.content.End.{End}
 use Rattle.in_arena.proofs.Public.{live_inside, word_live}
 use Rattle.in_symbols.specs.Tables.{Tables, arity_of}
-use Rattle.in_net.specs.Interactions.{end_agent, end_place}
+use Rattle.in_net.specs.Interactions.{IsOfPair, end_agent, end_place}
 use Rattle.in_net.specs.Nets.{Point, Port, Free, Net, net_of, signature_of}
 use Rattle.in_interaction.proofs.Public.{has_value}
 use Rattle.in_base.proofs.Each.{at_index}
@@ -24,11 +25,12 @@ use Rattle.in_reducer.specs.declared.sides.Pair.{Pair}
 use Rattle.in_reducer.specs.Inside.{most_ends, most_points}
 use Rattle.in_reducer.specs.Interacting.{PairSetting, IsAbout, interaction_of, named}
 use Rattle.in_reducer.specs.Sides.{end_there, port_at}
-use Rattle.in_reducer.specs.Wiring.{AreAtAgents, CanRead, HasBegun, IsSideOf, IsWiring, wires_of}
+use Rattle.in_reducer.specs.Wiring.{AreAtAgents, AreLive, CanRead, HasBegun, IsSideOf, IsWiring, retired, wires_of}
 use Rattle.in_reducer.proofs.Steps.Laid as laid
 use Rattle.in_reducer.proofs.Steps.Laid.{in_or_out}
+use Rattle.in_reducer.proofs.Steps.Reading as read
 use Rattle.in_reducer.proofs.Steps.SetUp as ready
-use Rattle.in_reducer.proofs.Steps.SetUp.{AgentsStay, port_is}
+use Rattle.in_reducer.proofs.Steps.SetUp.{AgentsStay}
 use Rattle.in_reducer.proofs.Steps.Wired as wires
 
 module _ (t : Tables) (s : PairSetting) (p : TemplateParts) (pair : Pair) (own : ℕ) (old : ArenaView) (ends : List End) (about : IsAbout t s p pair own old ends) (ns : List CellNo) (now : ArenaView) (begun : HasBegun p.member ns old now) (unmarked : IsTrue p.unmarked) where
@@ -72,50 +74,16 @@ module _ (t : Tables) (s : PairSetting) (p : TemplateParts) (pair : Pair) (own :
       back (inr (k, name, f)) =
           ap (λ (y : ℕ). word_of (state_at now y)) (sym name) ∙ laid.begun_word t s.rule.member about.member_over p.member about.template.member ns old now begun k z f
 
-  -- what stands at a point of the net
-  stood : (u v : Point ℕ) → (net_of s.net).partner u ≡ Some v → stands_at old (take own ends) u ≡ Some (end_of v)
-  stood u v w = go (stands_at old (take own ends) u) (sym (about.shown.wires u) ∙ w)
-    where
-      go : (o : Option End) → option_map point_of o ≡ Some v → o ≡ Some (end_of v)
-      go None f = absurd (let g : None ≡ Some v = f in cc)
-      go (Some e) f = let same : point_of e ≡ v = (let g : Some (point_of e) ≡ Some v = f in cc) in ap (λ (e : End). Some e) (sym (point_end e) ∙ ap end_of same)
-
-  -- an agent of the net has a place for each port, and no other
-  old_places : (y z : ℕ) → (net_of s.net).symbol y ≡ Some z → places (state_at old y) ≡ suc (arity_of t z)
-  old_places y z f = between (places (state_at old y)) (arity_of t z) least most
-    where
-      least : (i : ℕ) → i ≤ arity_of t z → i < places (state_at old y)
-      least i low =
-          let v = has_value ((net_of s.net).partner (Port y i)) (about.net.joined (Port y i) (subst (λ (o : Option ℕ). IsSomeAnd o (λ s. i ≤ arity_of t s)) (sym f) low)) in
-          place_within (state_at old y) i (end_of v.0) (stood (Port y i) v.0 v.1)
-
-      most : (i : ℕ) → i < places (state_at old y) → i ≤ arity_of t z
-      most i low =
-          let e = there (state_at old y) low in
-          let v : (net_of s.net).partner (Port y i) ≡ Some (point_of e.0) = about.shown.wires (Port y i) ∙ ap (option_map point_of) e.1 in
-          subst (λ (o : Option ℕ). IsSomeAnd o (λ s. i ≤ arity_of t s)) f (about.net.points (Port y i) (point_of e.0) v)
-        where
-          there : (c : State) → i < places c → (e : End) × (end_at c i ≡ Some e)
-          there Vacant l = absurd (omega (arith, l))
-          there Leased l = absurd (omega (arith, l))
-          there (Live word es) l = at_index es i l
-
-      between : (n a : ℕ) → ((i : ℕ) → i ≤ a → i < n) → ((i : ℕ) → i < n → i ≤ a) → n ≡ suc a
-      between n a least most =
-          let l = least a (let z : a ≤ a = omega arith in z) in
-          let m = most (n - 1) (let z : n - 1 < n = omega (arith, l) in z) in
-          omega (arith, l, m)
-
   all_places : (y z : ℕ) → word_of (state_at now y) ≡ Some z → places (state_at now y) ≡ suc (arity_of t z)
   all_places y z w = go ((symbols y z).0 w)
     where
       go : IsAgent y z → places (state_at now y) ≡ suc (arity_of t z)
-      go (inl f) = ap places (stays y z f) ∙ old_places y z f
+      go (inl f) = ap places (stays y z f) ∙ read.old_places t s p pair own old ends about y z f
       go (inr (k, name, f)) =
           ap (λ (y : ℕ). places (state_at now y)) (sym name) ∙ laid.begun_places t s.rule.member about.member_over p.member about.template.member ns old now begun k z f
 
   still : (u v : Point ℕ) → (net_of s.net).partner u ≡ Some v → stands_at now ends u ≡ Some (end_of v)
-  still (Port y i) v w = ap (λ (c : State). end_at c i) (stays y symbol.0 symbol.1) ∙ stood (Port y i) v w
+  still (Port y i) v w = ap (λ (c : State). end_at c i) (stays y symbol.0 symbol.1) ∙ read.stood t s p pair own old ends about (Port y i) v w
     where
       symbol : (z : ℕ) × ((net_of s.net).symbol y ≡ Some z)
       symbol = go ((net_of s.net).symbol y) refl (about.net.points (Port y i) v w)
@@ -124,101 +92,131 @@ module _ (t : Tables) (s : PairSetting) (p : TemplateParts) (pair : Pair) (own :
           go None is h = absurd h
           go (Some z) is h = (z, is)
   still (Free k) v w =
-      sym (take_at own k ends (let l : k < length (net_of s.net).free = about.net.points (Free k) v w in let o = own_is in omega (arith, l, o))) ∙ stood (Free k) v w
+      sym (take_at own k ends (let l : k < length (net_of s.net).free = about.net.points (Free k) v w in let o = own_is in omega (arith, l, o))) ∙ read.stood t s p pair own old ends about (Free k) v w
 
   -- a side of a boundary end is what the pair's port there leads to
   port_stands : (e : ℕ) (u : Point ℕ) → IsSideOf t x (Free e) u → end_there now (port_at pair e) ≡ Some (end_of u)
-  port_stands e u side = at_port (nat_lt e (arity_of t s.rule.heads.0.0)) (port_is pair (arity_of t s.rule.heads.0.0) s.one.0 s.two.0 about.one about.two (about.first_ends ∙ about.template.first_ends) e)
-      (still (Port (end_agent (signature_of t) (redex_of x) e) (end_place (signature_of t) (redex_of x) e)) u side)
-    where
-      at_port : (b : Bool) → ((port_at pair e).0.0 ≡ cond b s.one.0 s.two.0) × ((port_at pair e).1 ≡ cond b (suc e) (suc (e - arity_of t s.rule.heads.0.0)))
-          → end_at (state_at now (cond b s.one.0 s.two.0)) (cond b (suc e) (suc (e - arity_of t s.rule.heads.0.0))) ≡ Some (end_of u) → end_there now (port_at pair e) ≡ Some (end_of u)
-      at_port b is stands = ap (λ (z : ℕ). end_at (state_at now z) (port_at pair e).1) is.0 ∙ ap (end_at (state_at now (cond b s.one.0 s.two.0))) is.1 ∙ stands
+  port_stands e u side =
+      read.port_stands t s p pair own old ends about now e u (still (Port (end_agent (signature_of t) (redex_of x) e) (end_place (signature_of t) (redex_of x) e)) u side)
 
-  one_word : word_of (state_at now pair.one.0) ≡ Some s.rule.heads.0.0
-  one_word = (symbols pair.one.0 s.rule.heads.0.0).1 (inl (ap (net_of s.net).symbol about.one ∙ about.redex.one))
+  one_stays : state_at now pair.one.0 ≡ state_at old pair.one.0
+  one_stays = stays pair.one.0 s.rule.heads.0.0 (ap (net_of s.net).symbol about.one ∙ about.redex.one)
 
-  other_word : word_of (state_at now pair.other.0) ≡ Some s.rule.heads.1.0
-  other_word = (symbols pair.other.0 s.rule.heads.1.0).1 (inl (ap (net_of s.net).symbol about.two ∙ about.redex.two))
+  two_stays : state_at now pair.other.0 ≡ state_at old pair.other.0
+  two_stays = stays pair.other.0 s.rule.heads.1.0 (ap (net_of s.net).symbol about.two ∙ about.redex.two)
 
   -- the pair's ports can be read
   pub can_read : (points : List End) (many : ℕ) → many ≡ length p.member.joints → many ≤ most_ends → most_points ≤ length points → CanRead now pair many points
-  can_read points many is few long =
-      let one = all_places pair.one.0 s.rule.heads.0.0 one_word in
-      let two = all_places pair.other.0 s.rule.heads.1.0 other_word in
-      let ends : length m.free ≡ arity_of t s.rule.heads.0.0 + arity_of t s.rule.heads.1.0 = about.redex.ends in
-      let first : pair.first_ends ≡ arity_of t s.rule.heads.0.0 = about.first_ends ∙ about.template.first_ends in
-      let joints = many_is in
-      record {
-        one = word_live (state_at now pair.one.0) s.rule.heads.0.0 one_word;
-        other = word_live (state_at now pair.other.0) s.rule.heads.1.0 other_word;
-        order = omega (arith, is, joints, ends, first);
-        first = omega (arith, one, first);
-        second = omega (arith, two, is, joints, ends, first);
-        few = few;
-        long = long;
-      }
+  can_read = read.can_read t s p pair own old ends about now one_stays two_stays
 
   all_wires : AreAllWiresOf m (wires_of p.member)
   all_wires =
       wires_in_two_parts (signature_of t) m (map over_point (over_of p.member)) (map both_points (within_of p.member)) about.inside (over_ends t s.rule.member p.member about.template.member)
       (wires_within t s.rule.member p.member about.template.member (signature_of t) about.inside)
 
-  -- none of its wires is written yet
-  pub can_wire : (points : List End) → ((e : ℕ) → e < length p.member.joints → slice_get points e ≡ end_there now (port_at pair e)) → AreAtAgents ns points
-      → IsWiring t s p own ns points 0 now ends
-  can_wire points at_ends at_agents = record {
-    member_over = about.member_over;
-    template = about.template;
-    typed = about.typed;
-    typed_inside = about.typed_inside;
-    many = begun.count;
-    sides = record { ends = λ e u low side. at_ends e (subst (λ (n : ℕ). e < n) (sym many_is) low) ∙ port_stands e u side; agents = at_agents };
-    from = record {
-      can = can;
-      all = all_wires;
-      own_ends = own_is;
-      room = (let r = about.room in omega (arith, r));
-      symbols = symbols;
-      places = all_places;
-      written = λ j p q u v low. absurd (omega (arith, low));
-      still = λ u v w out. still u v w;
-    };
-  }
+  -- ---- the pair is retired
+
+  pub live : AreLive pair now
+  live = read.live t s p pair own old ends about now one_stays two_stays
+
+  module _ (b : ArenaView) (gone : b ≡ retired pair now) where
+    differ : pair.one.0 ≢ pair.other.0
+    differ = read.pair_differs t s p pair own old ends about
+
+    one_gone : state_at b s.one.0 ≡ Vacant
+    one_gone = ap (state_at b) (sym about.one) ∙ read.one_gone pair now live differ b gone
+
+    two_gone : state_at b s.two.0 ≡ Vacant
+    two_gone = ap (state_at b) (sym about.two) ∙ read.two_gone pair now live differ b gone
+
+    others : (y : ℕ) → y ≢ s.one.0 → y ≢ s.two.0 → state_at b y ≡ state_at now y
+    others y f g = read.others_stay pair now live differ b gone y (λ e. f (e ∙ about.one)) (λ e. g (e ∙ about.two))
+
+    -- a number is one of the pair's, or the cell is as it was
+    data Where (y : ℕ) : Type 0 where
+      at_one : y ≡ s.one.0 → Where y
+      at_two : y ≡ s.two.0 → Where y
+      other : y ≢ s.one.0 → y ≢ s.two.0 → Where y
+
+    where_is : (y : ℕ) → Where y
+    where_is y = go (ℕ_discrete y s.one.0) (ℕ_discrete y s.two.0)
+      where
+        go : Dec (y ≡ s.one.0) → Dec (y ≡ s.two.0) → Where y
+        go (yes f) e = at_one f
+        go (no f) (yes g) = at_two g
+        go (no f) (no g) = other f g
+
+    no_word_one : (y z : ℕ) → y ≡ s.one.0 → word_of (state_at b y) ≡ Some z → ⊥
+    no_word_one y z f w = let n : None ≡ Some z = sym (ap word_of (ap (state_at b) f ∙ one_gone)) ∙ w in cc
+
+    no_word_two : (y z : ℕ) → y ≡ s.two.0 → word_of (state_at b y) ≡ Some z → ⊥
+    no_word_two y z f w = let n : None ≡ Some z = sym (ap word_of (ap (state_at b) f ∙ two_gone)) ∙ w in cc
+
+    -- a new agent is none of the pair
+    new_other : (k z : ℕ) → m.symbol k ≡ Some z → (x.name k ≢ s.one.0) × (x.name k ≢ s.two.0)
+    new_other k z f = (
+      (λ same. (let g : None ≡ Some s.rule.heads.0.0 = sym (can.naming.fresh k z f) ∙ ap (before x).symbol same ∙ about.redex.one in cc)),
+      (λ same. (let g : None ≡ Some s.rule.heads.1.0 = sym (can.naming.fresh k z f) ∙ ap (before x).symbol same ∙ about.redex.two in cc)),
+    )
+
+    abbrev IsAgentAfter : ℕ → ℕ → Type 0
+    IsAgentAfter y z = ((y ≢ s.one.0) × (y ≢ s.two.0) × ((before x).symbol y ≡ Some z)) ⊎ ((k : ℕ) × (x.name k ≡ y) × (m.symbol k ≡ Some z))
+
+    symbols_after : (y z : ℕ) → (word_of (state_at b y) ≡ Some z) ↔ IsAgentAfter y z
+    symbols_after y z = (forth (where_is y), back)
+      where
+        forth : Where y → word_of (state_at b y) ≡ Some z → IsAgentAfter y z
+        forth (at_one f) w = absurd (no_word_one y z f w)
+        forth (at_two f) w = absurd (no_word_two y z f w)
+        forth (other f g) w = go ((symbols y z).0 (sym (ap word_of (others y f g)) ∙ w))
+          where
+            go : IsAgent y z → IsAgentAfter y z
+            go (inl old) = inl (f, g, old)
+            go (inr new) = inr new
+
+        back : IsAgentAfter y z → word_of (state_at b y) ≡ Some z
+        back (inl (f, g, old)) = ap word_of (others y f g) ∙ (symbols y z).1 (inl old)
+        back (inr (k, name, new)) =
+            let apart = new_other k z new in
+            ap word_of (others y (λ same. apart.0 (name ∙ same)) (λ same. apart.1 (name ∙ same))) ∙ (symbols y z).1 (inr (k, name, new))
+
+    places_after : (y z : ℕ) → word_of (state_at b y) ≡ Some z → places (state_at b y) ≡ suc (arity_of t z)
+    places_after y z w = go (where_is y)
+      where
+        go : Where y → places (state_at b y) ≡ suc (arity_of t z)
+        go (at_one f) = absurd (no_word_one y z f w)
+        go (at_two f) = absurd (no_word_two y z f w)
+        go (other f g) = ap places (others y f g) ∙ all_places y z (sym (ap word_of (others y f g)) ∙ w)
+
+    still_after : (u v : Point ℕ) → (net_of s.net).partner u ≡ Some v → (IsOfPair (redex_of x) u → ⊥) → stands_at b ends u ≡ Some (end_of v)
+    still_after (Port y i) v w away = ap (λ (c : State). end_at c i) (others y (λ f. away (inl f)) (λ f. away (inr f))) ∙ still (Port y i) v w
+    still_after (Free k) v w away = still (Free k) v w
+
+    -- none of its wires is written yet
+    pub can_wire : (points : List End) → ((e : ℕ) → e < length p.member.joints → slice_get points e ≡ end_there now (port_at pair e)) → AreAtAgents ns points
+        → IsWiring t s p own ns points 0 b ends
+    can_wire points at_ends at_agents = record {
+      member_over = about.member_over;
+      template = about.template;
+      typed = about.typed;
+      typed_inside = about.typed_inside;
+      many = begun.count;
+      sides = record { ends = λ e u low side. at_ends e (subst (λ (n : ℕ). e < n) (sym many_is) low) ∙ port_stands e u side; agents = at_agents };
+      from = record {
+        can = can;
+        all = all_wires;
+        own_ends = own_is;
+        room = (let r = about.room in omega (arith, r));
+        symbols = symbols_after;
+        places = places_after;
+        written = λ j p q u v low. absurd (omega (arith, low));
+        still = λ u v w away out. still_after u v w away;
+      };
+    }
 
 -- ---- all are written
 
-module _ (t : Tables) (s : PairSetting) (p : TemplateParts) (pair : Pair) (own : ℕ) (ns : List CellNo) (points : List End) (a : ArenaView) (es : List End) (one_is : pair.one.0 ≡ s.one.0) (two_is : pair.other.0 ≡ s.two.0)
+module _ (t : Tables) (s : PairSetting) (p : TemplateParts) (own : ℕ) (ns : List CellNo) (points : List End) (a : ArenaView) (es : List End)
     (h : IsWiring t s p own ns points (length (wires_of p.member)) a es) where
-  pub one_live : IsLive (state_at a pair.one.0)
-  one_live = word_live (state_at a pair.one.0) s.rule.heads.0.0 ((h.from.symbols pair.one.0 s.rule.heads.0.0).1 (inl (ap (net_of s.net).symbol one_is ∙ h.from.can.redex.one)))
-
-  two_live : IsLive (state_at a pair.other.0)
-  two_live = word_live (state_at a pair.other.0) s.rule.heads.1.0 ((h.from.symbols pair.other.0 s.rule.heads.1.0).1 (inl (ap (net_of s.net).symbol two_is ∙ h.from.can.redex.two)))
-
-  differ : pair.one.0 ≢ pair.other.0
-  differ e = h.from.can.redex.differ (sym one_is ∙ e ∙ two_is)
-
-  pub other_live : IsLive (state_at (changed a pair.one.0 Vacant) pair.other.0)
-  other_live = subst IsLive (sym (get_or-set_other a.states pair.one.0 pair.other.0 Vacant Leased (λ e. differ (sym e)))) two_live
-
-  module _ (b : ArenaView) (retired : b ≡ changed (changed a pair.one.0 Vacant) pair.other.0 Vacant) where
-    one_gone : state_at b s.one.0 ≡ Vacant
-    one_gone =
-        ap (λ (b : ArenaView). state_at b s.one.0) retired ∙ ap (state_at (changed (changed a pair.one.0 Vacant) pair.other.0 Vacant)) (sym one_is)
-        ∙ get_or-set_other (changed a pair.one.0 Vacant).states pair.other.0 pair.one.0 Vacant Leased differ
-        ∙ get_or-set_same a.states pair.one.0 Vacant Leased (live_inside a pair.one.0 one_live)
-
-    two_gone : state_at b s.two.0 ≡ Vacant
-    two_gone =
-        ap (λ (b : ArenaView). state_at b s.two.0) retired ∙ ap (state_at (changed (changed a pair.one.0 Vacant) pair.other.0 Vacant)) (sym two_is)
-        ∙ get_or-set_same (changed a pair.one.0 Vacant).states pair.other.0 Vacant Leased (live_inside (changed a pair.one.0 Vacant) pair.other.0 other_live)
-
-    others : (y : ℕ) → y ≢ s.one.0 → y ≢ s.two.0 → state_at b y ≡ state_at a y
-    others y f g =
-        ap (λ (b : ArenaView). state_at b y) retired
-        ∙ get_or-set_other (changed a pair.one.0 Vacant).states pair.other.0 y Vacant Leased (λ e. g (e ∙ two_is))
-        ∙ get_or-set_other a.states pair.one.0 y Vacant Leased (λ e. f (e ∙ one_is))
-
-    pub is_done : IsDone t (interaction_of s ns) own b es
-    is_done = wires.is_done t (interaction_of s ns) (wires_of p.member) h.from.can h.from.all own a es h.from b one_gone two_gone others
+  pub is_done : IsDone t (interaction_of s ns) own a es
+  is_done = wires.is_done t (interaction_of s ns) (wires_of p.member) h.from.can h.from.all own a es h.from

@@ -5,9 +5,9 @@ use Rattle.std.proofs.lemmas.List.{length-map, length-reverse, length-set, take_
 use Rattle.std.proofs.lemmas.List.Edits.{length-remove}
 use Rattle.std.specs.Prelude.{IsTrue}
 use Rattle.std.proofs.lemmas.Option.{same_Some, slice_get_within, slice_get_read}
-use Rattle.in_arena.specs.Arenas.{ArenaView, NoneLeased, changed, state_at}
+use Rattle.in_arena.specs.Arenas.{ArenaView, NoneLeased, changed}
 use Rattle.in_arena.specs.Changes.{HasAllCells}
-use Rattle.in_arena.specs.States.{Vacant, IsLive}
+use Rattle.in_arena.specs.States.{Vacant}
 use Rattle.in_arena.specs.declared.content.CellClass.TheVariants.{Small}
 use Rattle.in_arena.specs.declared.content.CellNo.{CellNo}
 use Rattle.in_arena.specs.declared.content.End.{End}
@@ -30,7 +30,7 @@ use Rattle.in_reducer.specs.Reducers.{IsReducer}
 use Rattle.in_reducer.specs.Standing.{IsNetIn, AreLeasedAlike, agents_in, at_rest, leading_to, vacant_in}
 use Rattle.in_reducer.specs.Steps.{HasRoomAt, StepsAt}
 use Rattle.in_reducer.specs.Templates.{IsTemplateAt}
-use Rattle.in_reducer.specs.Wiring.{CanWireUp, IsWiredUp, IsWiring, wires_of}
+use Rattle.in_reducer.specs.Wiring.{CanWireUp, IsWiredUp, IsWiring, retired, wires_of}
 use Rattle.in_reducer.proofs.Cells.Counted.{cells_at_rest}
 use Rattle.in_reducer.proofs.Pairs.Queues.{short_queue}
 use Rattle.in_reducer.proofs.Steps.CanWire as can
@@ -88,12 +88,6 @@ module _ (r : Body) (k : KeepsNet r) (i : ℕ) (p : TemplateParts) (at : IsTempl
     wiring : IsWiring t setting p own ns points (length (wires_of p.member)) a es
     wiring = up.written setting own about
 
-    pub one_live : IsLive (state_at a pair.one.0)
-    one_live = can.one_live t setting p pair own ns points a es about.one about.two wiring
-
-    pub other_live : IsLive (state_at (changed a pair.one.0 Vacant) pair.other.0)
-    other_live = can.other_live t setting p pair own ns points a es about.one about.two wiring
-
     -- the pairs of the right member are of agents that have cells
     pub pairs_there : (j : ℕ) (q : ℕ × ℕ) → slice_get p.member.pairs j ≡ Some q → (q.0 < length ns) × (q.1 < length ns)
     pairs_there j q e =
@@ -121,39 +115,42 @@ module _ (r : Body) (k : KeepsNet r) (i : ℕ) (p : TemplateParts) (at : IsTempl
         (wires_make_pairs_in_turn t setting.net setting.rule setting.one setting.two (named ns) (map over_point (over_of p.member)) qs wiring.from.can
         (over_ends t at.rule.member p.member at.template.member)).0 in_turn
 
-    module _ (b : ArenaView) (retired : b ≡ changed (changed a pair.one.0 Vacant) pair.other.0 Vacant) (long : length es ≡ length r.ends.items) where
-      did : IsInteracted t setting own ns b es [] made
-      did = (can.is_done t setting p pair own ns points a es about.one about.two wiring b retired, (qs, refl, over))
+    module _ (long : length es ≡ length r.ends.items) where
+      did : IsInteracted t setting own ns a es [] made
+      did = (can.is_done t setting p own ns points a es wiring, (qs, refl, over))
 
       -- ---- the cells
 
-      as_many : length b.states ≡ length r.arena.states
+      abbrev gone : ArenaView
+      gone = retired pair up.middle
+
+      as_many : length a.states ≡ length r.arena.states
       as_many =
-          ap (λ (b : ArenaView). length b.states) retired ∙ length-set (changed a pair.one.0 Vacant).states pair.other.0 Vacant ∙ length-set a.states pair.one.0 Vacant
-          ∙ still.as_many up.middle a up.kept ∙ up.begun.many
+          still.as_many gone a up.kept ∙ length-set (changed up.middle pair.one.0 Vacant).states pair.other.0 Vacant ∙ length-set up.middle.states pair.one.0 Vacant
+          ∙ up.begun.many
 
-      pub cells : b.cells ≡ r.arena.cells
-      cells = ap (λ (b : ArenaView). b.cells) retired ∙ up.kept.cells ∙ up.begun.cells
+      pub cells : a.cells ≡ r.arena.cells
+      cells = up.kept.cells ∙ up.begun.cells
 
-      pub memory : b.memory ≡ r.arena.memory
-      memory = ap (λ (b : ArenaView). b.memory) retired ∙ up.kept.memory ∙ up.begun.memory
+      pub memory : a.memory ≡ r.arena.memory
+      memory = up.kept.memory ∙ up.begun.memory
 
-      pub net : IsNetIn t (at_rest b)
+      pub net : IsNetIn t (at_rest a)
       net =
-          let good = still.kept_good up.middle a up.kept t r.arena (still.begun_good t at.rule.member at.is_rule.over.member p.member at.template.member ns r.arena up.middle up.begun k.net) in
-          let many = still.as_many up.middle a up.kept ∙ up.begun.many in
-          let first = still.retired_good t r.arena a pair.one.0 many one_live good in
-          let second = still.retired_good t r.arena (changed a pair.one.0 Vacant) pair.other.0 (length-set a.states pair.one.0 Vacant ∙ many) other_live first in
-          still.net_in t r.arena b k.net.all cells as_many (λ n. subst (λ (b : ArenaView). still.IsGood t r.arena n (state_at b n)) (sym retired) (second n))
+          let good = still.begun_good t at.rule.member at.is_rule.over.member p.member at.template.member ns r.arena up.middle up.begun k.net in
+          let first = still.retired_good t r.arena up.middle pair.one.0 up.begun.many up.live.0 good in
+          let second = still.retired_good t r.arena (changed up.middle pair.one.0 Vacant) pair.other.0 (length-set up.middle.states pair.one.0 Vacant ∙ up.begun.many) up.live.1 first in
+          still.net_in t r.arena a k.net.all cells as_many (still.kept_good gone a up.kept t r.arena second)
 
-      alike : AreLeasedAlike up.middle b
+      alike : AreLeasedAlike up.middle a
       alike =
-          still.alike_through up.middle a b (still.kept_alike up.middle a up.kept)
-          (still.alike_through a (changed a pair.one.0 Vacant) b (still.retired_alike a (changed a pair.one.0 Vacant) pair.one.0 one_live refl)
-          (still.retired_alike (changed a pair.one.0 Vacant) b pair.other.0 other_live retired))
+          still.alike_through up.middle gone a
+          (still.alike_through up.middle (changed up.middle pair.one.0 Vacant) gone (still.retired_alike up.middle (changed up.middle pair.one.0 Vacant) pair.one.0 up.live.0 refl)
+          (still.retired_alike (changed up.middle pair.one.0 Vacant) gone pair.other.0 up.live.1 refl))
+          (still.kept_alike gone a up.kept)
 
-      pub none_leased : NoneLeased b
-      none_leased = still.still_unleased up.middle b alike (still.begun_unleased t at.rule.member at.is_rule.over.member p.member at.template.member ns r.arena up.middle up.begun none)
+      pub none_leased : NoneLeased a
+      none_leased = still.still_unleased up.middle a alike (still.begun_unleased t at.rule.member at.is_rule.over.member p.member at.template.member ns r.arena up.middle up.begun none)
 
       -- ---- the queue
 
@@ -164,25 +161,25 @@ module _ (r : Body) (k : KeepsNet r) (i : ℕ) (p : TemplateParts) (at : IsTempl
         -- there is room for the pairs of the right member
         pub own_room : length middle + length p.member.pairs ≤ deque_capacity r.queue
         own_room =
-            let few = stepped.lengths r k i p at room own is_own ns b es made did net cells long in
+            let few = stepped.lengths r k i p at room own is_own ns a es made did net cells long in
             let m = ap length is_middle ∙ length-append old (reverse made) in
             let o = ap length removed in
             let l = length-reverse made in
             omega (arith, few, m, o, l)
 
         module _ (queue : List (ℕ × ℕ)) (is_queue : queue ≡ middle ++ map (both (named ns)) p.member.pairs) where
-          final : queue ≡ stepped.final r k i p at room own is_own ns b es made did net cells long
-          final = stepped.in_turn r k i p at room own is_own ns b es made did net cells long old middle queue removed is_middle is_queue
+          final : queue ≡ stepped.final r k i p at room own is_own ns a es made did net cells long
+          final = stepped.in_turn r k i p at room own is_own ns a es made did net cells long old middle queue removed is_middle is_queue
 
           abbrev pub seen : List End → MachineParts
-          seen zs = record { program = r.checked.now; agents = agents_in b; free = leading_to (own_free r) zs; queue = queue; vacant = vacant_in (at_rest b) }
+          seen zs = record { program = r.checked.now; agents = agents_in a; free = leading_to (own_free r) zs; queue = queue; vacant = vacant_in (at_rest a) }
 
           pub steps : (zs : List End) → zs ≡ es → StepsAt (reducer_view r) i (seen zs)
           steps zs is = subst (λ (z : List End). StepsAt (reducer_view r) i (seen z)) (sym is)
-              (subst (λ (z : List (ℕ × ℕ)). StepsAt (reducer_view r) i (stepped.after r k i p at room own is_own ns b es made did net cells long z)) (sym final)
-              (stepped.is_step r k i p at room own is_own ns b es made did net cells long))
+              (subst (λ (z : List (ℕ × ℕ)). StepsAt (reducer_view r) i (stepped.after r k i p at room own is_own ns a es made did net cells long z)) (sym final)
+              (stepped.is_step r k i p at room own is_own ns a es made did net cells long))
 
           pub is_reducer : (zs : List End) → zs ≡ es → IsReducer (seen zs)
           is_reducer zs is = subst (λ (z : List End). IsReducer (seen z)) (sym is)
-              (subst (λ (z : List (ℕ × ℕ)). IsReducer (stepped.after r k i p at room own is_own ns b es made did net cells long z)) (sym final)
-              (stepped.reducer_after r k i p at room own is_own ns b es made did net cells long))
+              (subst (λ (z : List (ℕ × ℕ)). IsReducer (stepped.after r k i p at room own is_own ns a es made did net cells long z)) (sym final)
+              (stepped.reducer_after r k i p at room own is_own ns a es made did net cells long))

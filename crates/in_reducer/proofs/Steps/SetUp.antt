@@ -61,10 +61,10 @@ module _ (t : Tables) (s : PairSetting) (p : TemplateParts) (pair : Pair) (own :
   abbrev many : ℕ
   many = length p.member.joints
 
-  boundary_many : length p.member.joints ≡ length (net_of s.rule.member).free
+  pub boundary_many : length p.member.joints ≡ length (net_of s.rule.member).free
   boundary_many = joints_many t s.rule.member p.member about.template.member ∙ sym (length-map s.rule.member.free (λ f. f.kind))
 
-  own_many : own ≡ length (net_of s.net).free
+  pub own_many : own ≡ length (net_of s.net).free
   own_many = about.own_ends ∙ sym (length-map s.net.free (λ f. f.kind))
 
   abbrev first : ℕ

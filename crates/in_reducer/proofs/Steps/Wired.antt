@@ -30,7 +30,7 @@ use Rattle.in_overwriting.specs.Overwriting.{AreSides, IsOverwritten, IsSide}
 use Rattle.in_overwriting.proofs.Public.{free_type, side_once, sides_are_apart, sides_tell_the_pair, steps_are_overwritten}
 use Rattle.in_typing.specs.Typed.{opposite}
 use Rattle.in_typing.specs.TypedNets.{IsTypedNet, type_in}
-use Rattle.in_reducer.specs.Wiring.{AddsInOrder, AreFirstWired, HasQueued, IsSideOf, IsSideOfFirst}
+use Rattle.in_reducer.specs.Wiring.{AddsInOrder, AreFirstWired, HasQueued, IsSideAfter, IsSideOf}
 
 -- ---- lists
 
@@ -84,15 +84,15 @@ module _ (t : Tables) (x : Interaction) (wires : List (Point ℕ × Point ℕ)) 
   -- ---- one wire more
 
   module _ (own k : ℕ) (a : ArenaView) (es : List End) (h : AreFirstWired t x own wires k a es) where
-    -- a point of the net can be written
-    net_place : (u v : Point ℕ) → (before x).partner u ≡ Some v → IsPlaceAt a es (end_of u)
-    net_place (Port y i) v w =
+    -- a point of the net that isn't the pair's can be written
+    net_place : (u v : Point ℕ) → (before x).partner u ≡ Some v → (IsOfPair (redex_of x) u → ⊥) → IsPlaceAt a es (end_of u)
+    net_place (Port y i) v w away =
         let point = can.net.points (Port y i) v w in
         let s = symbol_of sig ((before x).symbol y) i point in
         let low : i ≤ sig.arity s.0 = subst (λ (o : Option ℕ). IsSomeAnd o (λ s. i ≤ sig.arity s)) s.1 point in
-        let many = h.places y s.0 ((h.symbols y s.0).1 (inl s.1)) in
+        let many = h.places y s.0 ((h.symbols y s.0).1 (inl ((λ e. away (inl e)), (λ e. away (inr e)), s.1))) in
         omega (arith, low, many)
-    net_place (Free k) v w = let l : k < length (before x).free = can.net.points (Free k) v w in let o = h.own_ends in let r = h.room in omega (arith, l, o, r)
+    net_place (Free k) v w away = let l : k < length (before x).free = can.net.points (Free k) v w in let o = h.own_ends in let r = h.room in omega (arith, l, o, r)
 
     -- .. and so can a side
     side_place : (p u : Point ℕ) → IsPoint sig m p → IsSideOf t x p u → IsPlaceAt a es (end_of u)
@@ -102,7 +102,7 @@ module _ (t : Tables) (x : Interaction) (wires : List (Point ℕ × Point ℕ)) 
         let many = h.places (x.name l) s.0 ((h.symbols (x.name l) s.0).1 (inr (l, refl, s.1))) in
         let here : i < places (state_at a (x.name l)) = omega (arith, low, many) in
         subst (λ (u : Point ℕ). IsPlaceAt a es (end_of u)) (sym side) here
-    side_place (Free f) u point side = net_place u (port f) (can.net.back (port f) u side)
+    side_place (Free f) u point side = net_place u (port f) (can.net.back (port f) u side) ((sides_are_apart sig (before x) (redex_of x) x.name can).stays (Free f) u point side)
 
     module _ (p q u v : Point ℕ) (at : slice_get wires k ≡ Some (p, q)) (at_u : IsSideOf t x p u) (at_v : IsSideOf t x q v) where
       wire : m.partner p ≡ Some q
@@ -200,12 +200,11 @@ module _ (t : Tables) (x : Interaction) (wires : List (Point ℕ × Point ℕ)) 
                     let both : (r, s) ≡ (p, q) = same_Some (r, s) (p, q) (sym f ∙ ap (slice_get wires) same ∙ at) in
                     absurd (first (once p w u (subst (λ (e : Point ℕ × Point ℕ). IsSideOf t x e.0 w) both at_w) at_u))
 
-            still : (w z : Point ℕ) → (before x).partner w ≡ Some z → (IsSideOfFirst t x wires (k + 1) w → ⊥) → stands_at b fs w ≡ Some (end_of z)
-            still w z f out =
-                let here : k < k + 1 = omega arith in
-                others_stand w (λ same. out (k, p, q, here, at, inl (subst (λ (u : Point ℕ). IsSideOf t x p u) (sym same) at_u)))
-                (λ same. out (k, p, q, here, at, inr (subst (λ (v : Point ℕ). IsSideOf t x q v) (sym same) at_v)))
-                ∙ h.still w z f (λ side. out (side.0, side.1, side.2, (let l = side.3 in omega (arith, l)), side.4, side.5))
+            still : (w z : Point ℕ) → (before x).partner w ≡ Some z → (IsOfPair (redex_of x) w → ⊥) → (IsSideAfter t x w → ⊥) → stands_at b fs w ≡ Some (end_of z)
+            still w z f away out =
+                others_stand w (λ same. out (v, (p, q, wire, subst (λ (u : Point ℕ). IsSideOf t x p u) (sym same) at_u, at_v)))
+                (λ same. out (u, (q, p, can.inside.back p q wire, subst (λ (v : Point ℕ). IsSideOf t x q v) (sym same) at_v, at_u)))
+                ∙ h.still w z f away out
 
         -- ---- the pair that it makes, where it has a boundary end
 
@@ -256,32 +255,10 @@ module _ (t : Tables) (x : Interaction) (wires : List (Point ℕ × Point ℕ)) 
 
   -- ---- all
 
-  -- the pair is gone, and all other cells are as they were
-  module _ (own : ℕ) (a : ArenaView) (es : List End) (h : AreFirstWired t x own wires (length wires) a es) (b : ArenaView) (one : state_at b x.one.0 ≡ Vacant) (two : state_at b x.two.0 ≡ Vacant)
-      (others : (y : ℕ) → y ≢ x.one.0 → y ≢ x.two.0 → state_at b y ≡ state_at a y) where
+  module _ (own : ℕ) (a : ArenaView) (es : List End) (h : AreFirstWired t x own wires (length wires) a es) where
     -- the net that the cells show
     abbrev shown_net : Net ℕ
-    shown_net = record { symbol = λ y. word_of (state_at b y); partner = λ u. option_map point_of (stands_at b (take own es) u); free = (before x).free }
-
-    -- a number is one of the pair's, or the cell is as it was
-    data Where (y : ℕ) : Type 0 where
-      at_one : y ≡ x.one.0 → Where y
-      at_two : y ≡ x.two.0 → Where y
-      other : y ≢ x.one.0 → y ≢ x.two.0 → Where y
-
-    where_is : (y : ℕ) → Where y
-    where_is y = go (ℕ_discrete y x.one.0) (ℕ_discrete y x.two.0)
-      where
-        go : Dec (y ≡ x.one.0) → Dec (y ≡ x.two.0) → Where y
-        go (yes f) e = at_one f
-        go (no f) (yes g) = at_two g
-        go (no f) (no g) = other f g
-
-    gone_one : (y : ℕ) → y ≡ x.one.0 → state_at b y ≡ Vacant
-    gone_one y f = ap (state_at b) f ∙ one
-
-    gone_two : (y : ℕ) → y ≡ x.two.0 → state_at b y ≡ Vacant
-    gone_two y f = ap (state_at b) f ∙ two
+    shown_net = record { symbol = λ y. word_of (state_at a y); partner = λ u. option_map point_of (stands_at a (take own es) u); free = (before x).free }
 
     -- a new agent is none of the pair
     new_other : (k s : ℕ) → m.symbol k ≡ Some s → (x.name k ≢ x.one.0) × (x.name k ≢ x.two.0)
@@ -290,60 +267,48 @@ module _ (t : Tables) (x : Interaction) (wires : List (Point ℕ × Point ℕ)) 
       (λ same. (let g : None ≡ Some (redex_of x).second = sym (can.naming.fresh k s f) ∙ ap (before x).symbol same ∙ can.redex.two in cc)),
     )
 
-    agents : (y s : ℕ) → (word_of (state_at b y) ≡ Some s) ↔ (((y ≢ x.one.0) × (y ≢ x.two.0) × ((before x).symbol y ≡ Some s)) ⊎ ((k : ℕ) × (x.name k ≡ y) × (m.symbol k ≡ Some s)))
-    agents y s = (forth (where_is y), back)
+    -- so nothing has the pair's numbers
+    none_of_pair : (y s : ℕ) → (y ≡ x.one.0) ⊎ (y ≡ x.two.0) → word_of (state_at a y) ≡ Some s → ⊥
+    none_of_pair y s of w = go of ((h.symbols y s).0 w)
       where
-        forth : Where y → word_of (state_at b y) ≡ Some s → ((y ≢ x.one.0) × (y ≢ x.two.0) × ((before x).symbol y ≡ Some s)) ⊎ ((k : ℕ) × (x.name k ≡ y) × (m.symbol k ≡ Some s))
-        forth (at_one f) g = absurd (let n : None ≡ Some s = sym (ap word_of (gone_one y f)) ∙ g in cc)
-        forth (at_two f) g = absurd (let n : None ≡ Some s = sym (ap word_of (gone_two y f)) ∙ g in cc)
-        forth (other f g) w = go ((h.symbols y s).0 (sym (ap word_of (others y f g)) ∙ w))
-          where
-            go : ((before x).symbol y ≡ Some s) ⊎ ((k : ℕ) × (x.name k ≡ y) × (m.symbol k ≡ Some s)) → ((y ≢ x.one.0) × (y ≢ x.two.0) × ((before x).symbol y ≡ Some s)) ⊎ ((k : ℕ) × (x.name k ≡ y) × (m.symbol k ≡ Some s))
-            go (inl old) = inl (f, g, old)
-            go (inr new) = inr new
+        go : (y ≡ x.one.0) ⊎ (y ≡ x.two.0) → ((y ≢ x.one.0) × (y ≢ x.two.0) × ((before x).symbol y ≡ Some s)) ⊎ ((k : ℕ) × (x.name k ≡ y) × (m.symbol k ≡ Some s)) → ⊥
+        go (inl e) (inl old) = old.0 e
+        go (inr e) (inl old) = old.1 e
+        go (inl e) (inr (k, name, new)) = (new_other k s new).0 (name ∙ e)
+        go (inr e) (inr (k, name, new)) = (new_other k s new).1 (name ∙ e)
 
-        back : ((y ≢ x.one.0) × (y ≢ x.two.0) × ((before x).symbol y ≡ Some s)) ⊎ ((k : ℕ) × (x.name k ≡ y) × (m.symbol k ≡ Some s)) → word_of (state_at b y) ≡ Some s
-        back (inl (f, g, old)) = ap word_of (others y f g) ∙ (h.symbols y s).1 (inl old)
-        back (inr (k, name, new)) =
-            let apart = new_other k s new in
-            ap word_of (others y (λ same. apart.0 (name ∙ same)) (λ same. apart.1 (name ∙ same))) ∙ (h.symbols y s).1 (inr (k, name, new))
-
-    -- what stands at a point that is none of the pair's is as it was
-    still_stands : (u : Point ℕ) → (IsOfPair (redex_of x) u → ⊥) → stands_at b es u ≡ stands_at a es u
-    still_stands (Port y i) stays = ap (λ (s : State). end_at s i) (others y (λ f. stays (inl f)) (λ f. stays (inr f)))
-    still_stands (Free k) stays = refl
+    nothing_stands : (c : State) (i : ℕ) → ((s : ℕ) → word_of c ≡ Some s → ⊥) → option_map point_of (end_at c i) ≡ None
+    nothing_stands Vacant i none = refl
+    nothing_stands Leased i none = refl
+    nothing_stands (Live word ends) i none = absurd (none word refl)
 
     -- a free end of the net is among the first ends
-    own_stands : (u v : Point ℕ) → (before x).partner u ≡ Some v → stands_at b (take own es) u ≡ stands_at b es u
+    own_stands : (u v : Point ℕ) → (before x).partner u ≡ Some v → stands_at a (take own es) u ≡ stands_at a es u
     own_stands (Port y i) v w = refl
     own_stands (Free k) v w = take_at own k es (let l : k < length (before x).free = can.net.points (Free k) v w in let o = h.own_ends in omega (arith, l, o))
 
     abbrev Side : Point ℕ → Point ℕ → Type 0
     Side = IsSideOf t x
 
-    -- a side is no port of the pair, and among the first ends if it is a free one
-    side_stands : (p u : Point ℕ) → IsPoint sig m p → Side p u → stands_at b (take own es) u ≡ stands_at a es u
-    side_stands p u point side = first p u side ∙ still_stands u ((sides_are_apart sig (before x) (redex_of x) x.name can).stays p u point side)
-      where
-        first : (p u : Point ℕ) → Side p u → stands_at b (take own es) u ≡ stands_at b es u
-        first (Port k i) u side = ap (stands_at b (take own es)) side ∙ sym (ap (stands_at b es) side)
-        first (Free f) u side = own_stands u (port f) (can.net.back (port f) u side)
+    -- a side is among the first ends if it is a free one
+    side_stands : (p u : Point ℕ) → Side p u → stands_at a (take own es) u ≡ stands_at a es u
+    side_stands (Port k i) u side = ap (stands_at a (take own es)) side ∙ sym (ap (stands_at a es) side)
+    side_stands (Free f) u side = own_stands u (port f) (can.net.back (port f) u side)
 
-    written : (u v : Point ℕ) → AreSides sig (before x) (redex_of x) x.name u v → option_map point_of (stands_at b (take own es) u) ≡ Some v
+    written : (u v : Point ℕ) → AreSides sig (before x) (redex_of x) x.name u v → option_map point_of (stands_at a (take own es) u) ≡ Some v
     written u v (p, q, w, at_p, at_q) =
-        ap (option_map point_of) (side_stands p u (near p q w) at_p ∙ go (are.all p q w)) ∙ ap (λ (v : Point ℕ). Some v) (end_point v)
+        ap (option_map point_of) (side_stands p u at_p ∙ go (are.all p q w)) ∙ ap (λ (v : Point ℕ). Some v) (end_point v)
       where
         go : IsAmong (p, q) wires ⊎ IsAmong (q, p) wires → stands_at a es u ≡ Some (end_of v)
         go (inl among) = let at = at_among wires (p, q) among in (h.written at.0 p q u v (slice_get_within wires at.0 (p, q) at.1) at.1 at_p at_q).0
         go (inr among) = let at = at_among wires (q, p) among in (h.written at.0 q p v u (slice_get_within wires at.0 (q, p) at.1) at.1 at_q at_p).1
 
-    gone : (u : Point ℕ) → IsOfPair (redex_of x) u → option_map point_of (stands_at b (take own es) u) ≡ None
-    gone (Port y i) (inl f) = ap (λ (s : State). option_map point_of (end_at s i)) (gone_one y f)
-    gone (Port y i) (inr f) = ap (λ (s : State). option_map point_of (end_at s i)) (gone_two y f)
+    gone : (u : Point ℕ) → IsOfPair (redex_of x) u → option_map point_of (stands_at a (take own es) u) ≡ None
+    gone (Port y i) of = nothing_stands (state_at a y) i (λ s. none_of_pair y s of)
     gone (Free k) of = absurd of
 
     -- no wire at a point that has none, where it is no side
-    none_stands : (u : Point ℕ) → (IsOfPair (redex_of x) u → ⊥) → (IsSide sig (before x) (redex_of x) x.name u → ⊥) → (before x).partner u ≡ None → option_map point_of (stands_at b (take own es) u) ≡ None
+    none_stands : (u : Point ℕ) → (IsOfPair (redex_of x) u → ⊥) → (IsSide sig (before x) (redex_of x) x.name u → ⊥) → (before x).partner u ≡ None → option_map point_of (stands_at a (take own es) u) ≡ None
     none_stands (Free k) stays no_side none = go (slice_get (take own es) k) refl
       where
         go : (o : Option End) → slice_get (take own es) k ≡ o → option_map point_of (slice_get (take own es) k) ≡ None
@@ -354,18 +319,12 @@ module _ (t : Tables) (x : Interaction) (wires : List (Point ℕ × Point ℕ)) 
             let o = h.own_ends in
             let v = has_value ((before x).partner (Free k)) (can.net.joined (Free k) (let low : k < length (before x).free = omega (arith, l, n, o) in low)) in
             absurd (let z : None ≡ Some v.0 = sym none ∙ v.1 in cc)
-    none_stands (Port y i) stays no_side none = go (end_at (state_at b y) i) refl
+    none_stands (Port y i) stays no_side none = go (end_at (state_at a y) i) refl
       where
-        go : (o : Option End) → end_at (state_at b y) i ≡ o → option_map point_of (end_at (state_at b y) i) ≡ None
+        go : (o : Option End) → end_at (state_at a y) i ≡ o → option_map point_of (end_at (state_at a y) i) ≡ None
         go None f = ap (option_map point_of) f
-        go (Some w) f = absurd (there (live_word (state_at a y) (place_within (state_at a y) i w here)))
+        go (Some w) f = absurd (there (live_word (state_at a y) (place_within (state_at a y) i w f)))
           where
-            as_before : state_at b y ≡ state_at a y
-            as_before = others y (λ same. stays (inl same)) (λ same. stays (inr same))
-
-            here : end_at (state_at a y) i ≡ Some w
-            here = sym (ap (λ (s : State). end_at s i) as_before) ∙ f
-
             live_word : (s : State) → i < places s → (word : ℕ) × (word_of s ≡ Some word)
             live_word Vacant l = absurd (omega (arith, l))
             live_word Leased l = absurd (omega (arith, l))
@@ -375,10 +334,10 @@ module _ (t : Tables) (x : Interaction) (wires : List (Point ℕ × Point ℕ)) 
             there (s, is) = point ((h.symbols y s).0 is)
               where
                 low : i ≤ sig.arity s
-                low = let l = place_within (state_at a y) i w here in let many = h.places y s is in omega (arith, l, many)
+                low = let l = place_within (state_at a y) i w f in let many = h.places y s is in omega (arith, l, many)
 
-                point : ((before x).symbol y ≡ Some s) ⊎ ((k : ℕ) × (x.name k ≡ y) × (m.symbol k ≡ Some s)) → ⊥
-                point (inl old) =
+                point : ((y ≢ x.one.0) × (y ≢ x.two.0) × ((before x).symbol y ≡ Some s)) ⊎ ((k : ℕ) × (x.name k ≡ y) × (m.symbol k ≡ Some s)) → ⊥
+                point (inl (first, second, old)) =
                     let v = has_value ((before x).partner (Port y i)) (can.net.joined (Port y i) (subst (λ (o : Option ℕ). IsSomeAnd o (λ s. i ≤ sig.arity s)) (sym old) low)) in
                     let z : None ≡ Some v.0 = sym none ∙ v.1 in
                     cc
@@ -387,29 +346,18 @@ module _ (t : Tables) (x : Interaction) (wires : List (Point ℕ × Point ℕ)) 
                     let v = (sides_are_apart sig (before x) (redex_of x) x.name can).side q.0 (far (Port k i) q.0 q.1) in
                     no_side (v.0, (Port k i, q.0, q.1, ap (λ (y : ℕ). Port y i) (sym name), v.1))
 
-    kept_stands : (u : Point ℕ) → (IsOfPair (redex_of x) u → ⊥) → (IsSide sig (before x) (redex_of x) x.name u → ⊥) → option_map point_of (stands_at b (take own es) u) ≡ (before x).partner u
+    kept_stands : (u : Point ℕ) → (IsOfPair (redex_of x) u → ⊥) → (IsSide sig (before x) (redex_of x) x.name u → ⊥) → option_map point_of (stands_at a (take own es) u) ≡ (before x).partner u
     kept_stands u stays no_side = go ((before x).partner u) refl
       where
-        go : (o : Option (Point ℕ)) → (before x).partner u ≡ o → option_map point_of (stands_at b (take own es) u) ≡ (before x).partner u
+        go : (o : Option (Point ℕ)) → (before x).partner u ≡ o → option_map point_of (stands_at a (take own es) u) ≡ (before x).partner u
         go None f = none_stands u stays no_side f ∙ sym f
         go (Some v) f =
-            ap (option_map point_of) (own_stands u v f ∙ still_stands u stays ∙ h.still u v f no_side_of)
-            ∙ ap (λ (v : Point ℕ). Some v) (end_point v) ∙ sym f
-          where
-            no_side_of : IsSideOfFirst t x wires (length wires) u → ⊥
-            no_side_of (j, p, q, low, at, inl at_u) =
-                let w = is_wire j p q at in
-                let v = (sides_are_apart sig (before x) (redex_of x) x.name can).side q (far p q w) in
-                no_side (v.0, (p, q, w, at_u, v.1))
-            no_side_of (j, p, q, low, at, inr at_u) =
-                let w = is_wire j p q at in
-                let v = (sides_are_apart sig (before x) (redex_of x) x.name can).side p (near p q w) in
-                no_side (v.0, (q, p, can.inside.back p q w, at_u, v.1))
+            ap (option_map point_of) (own_stands u v f ∙ h.still u v f stays no_side) ∙ ap (λ (v : Point ℕ). Some v) (end_point v) ∙ sym f
 
     overwritten : IsOverwritten sig (before x) (redex_of x) x.name shown_net
-    overwritten = record { agents = agents; partners = record { written = written; gone = gone; kept = kept_stands }; free = refl }
+    overwritten = record { agents = h.symbols; partners = record { written = written; gone = gone; kept = kept_stands }; free = refl }
 
-    pub is_done : IsDone t x own b es
+    pub is_done : IsDone t x own a es
     is_done = record {
       after = shown_net;
       step = (steps_are_overwritten sig (before x) (redex_of x) x.name shown_net can).1 overwritten;

@@ -1,9 +1,12 @@
-use Rattle.std.proofs.Common.{◌≡◌, ◌<◌, ◌≤◌, ◌+◌, ℕ, List, length, subst, ◌∙◌, arith}
-use Rattle.in_arena.specs.Arenas.{ArenaView}
+use Rattle.std.proofs.Common.{◌≡◌, ◌<◌, ◌≤◌, ◌+◌, ℕ, List, length, sym, ap, subst, ◌∙◌, arith}
+use Rattle.in_arena.specs.Arenas.{ArenaView, changed, state_at}
+use Rattle.in_arena.specs.States.{Vacant, IsLive}
 use Rattle.in_arena.specs.declared.content.CellNo.{CellNo}
+use Rattle.in_cells.specs.Cells.{KeepsCells}
 use Rattle.in_cells.proofs.Public.{keep_on}
 use Rattle.in_compile.specs.Members.{MemberParts}
-use Rattle.in_reducer.specs.Wiring.{AreAtAgents, HasBegun}
+use Rattle.in_reducer.specs.declared.sides.Pair.{Pair}
+use Rattle.in_reducer.specs.Wiring.{AreAtAgents, HasBegun, retired}
 use Rattle.in_reducer.proofs.Steps.CanWire as can
 use Rattle.in_reducer.proofs.Steps.Points.{over_few}
 use Rattle.in_reducer.proofs.wiring.wire_up.Goals as goal
@@ -24,6 +27,30 @@ read_ports-requires c =
     can.can_read t q.0 p c.args.pair q.1 c.args.arena.now c.args.ends.now q.2 b.0 c.begin_agents.new.arena begun ready.unmarked c.begin_agents.new.points c.boundary_ends.result many
     (let f = ready.few in omega (arith, f, many)) (let l = ready.begin.long in let m = c.begin_agents.ensures.long in omega (arith, l, m))
 
+pub retire-requires : goal.retire-requires
+retire-requires c =
+    let t = c.requires.ready.0 in
+    let ready = c.requires.ready.1 in
+    let q = ready.about in
+    let b = c.begin_agents.ensures.begun in
+    let p = c.args.template.now in
+    let begun = begun_there c.member.result.now p.member b.0 c.args.arena.now c.begin_agents.new.arena c.member.ensures b.1 in
+    (can.live t q.0 p c.args.pair q.1 c.args.arena.now c.args.ends.now q.2 b.0 c.begin_agents.new.arena begun ready.unmarked).0
+
+pub retire-requires-2 : goal.retire-requires-2
+retire-requires-2 c =
+    let t = c.requires.ready.0 in
+    let ready = c.requires.ready.1 in
+    let q = ready.about in
+    let b = c.begin_agents.ensures.begun in
+    let p = c.args.template.now in
+    let begun = begun_there c.member.result.now p.member b.0 c.args.arena.now c.begin_agents.new.arena c.member.ensures b.1 in
+    subst (λ (a : ArenaView). IsLive (state_at a c.args.pair.other.0)) (sym c.retire.ensures) (can.live t q.0 p c.args.pair q.1 c.args.arena.now c.args.ends.now q.2 b.0 c.begin_agents.new.arena begun ready.unmarked).1
+
+-- the two changes are one
+both_retired : (p : Pair) (a b d : ArenaView) → b ≡ changed a p.one.0 Vacant → d ≡ changed b p.other.0 Vacant → d ≡ retired p a
+both_retired p a b d one two = two ∙ ap (λ (a : ArenaView). changed a p.other.0 Vacant) one
+
 pub write_over-requires-clause-ready : goal.write_over-requires-clause-ready
 write_over-requires-clause-ready c =
     let t = c.requires.ready.0 in
@@ -38,7 +65,7 @@ write_over-requires-clause-ready c =
       q.0,
       q.1,
       b.0,
-      can.can_wire t q.0 p c.args.pair q.1 c.args.arena.now c.args.ends.now q.2 b.0 c.begin_agents.new.arena begun ready.unmarked c.read_ports.new.points
+      can.can_wire t q.0 p c.args.pair q.1 c.args.arena.now c.args.ends.now q.2 b.0 c.begin_agents.new.arena begun ready.unmarked c.retire-2.new.self (both_retired c.args.pair c.begin_agents.new.arena c.retire.new.self c.retire-2.new.self c.retire.ensures c.retire-2.ensures) c.read_ports.new.points
           (λ e low. c.read_ports.ensures.read e (let l : e < c.boundary_ends.result = omega (arith, low, many) in l))
           (λ k low. c.read_ports.ensures.others (32 + k) (let l : c.boundary_ends.result ≤ 32 + k = omega (arith, many, few) in l) ∙ b.2 k low),
     )
@@ -60,7 +87,7 @@ write_within-requires c =
     let many = c.boundary_ends.ensures in
     let few = ready.few in
     let begun = begun_there c.member.result.now p.member b.0 c.args.arena.now c.begin_agents.new.arena c.member.ensures b.1 in
-    let start = can.can_wire t q.0 p c.args.pair q.1 c.args.arena.now c.args.ends.now q.2 b.0 c.begin_agents.new.arena begun ready.unmarked c.read_ports.new.points
+    let start = can.can_wire t q.0 p c.args.pair q.1 c.args.arena.now c.args.ends.now q.2 b.0 c.begin_agents.new.arena begun ready.unmarked c.retire-2.new.self (both_retired c.args.pair c.begin_agents.new.arena c.retire.new.self c.retire-2.new.self c.retire.ensures c.retire-2.ensures) c.read_ports.new.points
     (λ e low. c.read_ports.ensures.read e (let l : e < c.boundary_ends.result = omega (arith, low, many) in l))
     (λ k low. c.read_ports.ensures.others (32 + k) (let l : c.boundary_ends.result ≤ 32 + k = omega (arith, many, few) in l) ∙ b.2 k low) in
     record { ready = (t, q.0, q.1, b.0, c.write_over.ensures.written t q.0 q.1 b.0 start) }
@@ -80,10 +107,12 @@ returns-clause-wired c = λ t ready. (
       cells = b.0;
       middle = middle;
       begun = begun;
-      kept = keep_on middle c.write_over.new.arena c.write_within.new.arena c.write_over.ensures.kept c.write_within.ensures.kept;
+      live = can.live t ready.about.0 p c.args.pair ready.about.1 c.args.arena.now c.args.ends.now ready.about.2 b.0 middle begun ready.unmarked;
+      kept = subst (λ (a : ArenaView). KeepsCells a c.write_within.new.arena) (both_retired c.args.pair middle c.retire.new.self c.retire-2.new.self c.retire.ensures c.retire-2.ensures)
+          (keep_on c.retire-2.new.self c.write_over.new.arena c.write_within.new.arena c.write_over.ensures.kept c.write_within.ensures.kept);
       at = at;
       written = λ s own about. c.write_within.ensures.written t s own b.0
-          (c.write_over.ensures.written t s own b.0 (can.can_wire t s p c.args.pair own c.args.arena.now c.args.ends.now about b.0 middle begun ready.unmarked points read at));
-      queued = λ s own about. c.write_over.ensures.queued t s own b.0 (can.can_wire t s p c.args.pair own c.args.arena.now c.args.ends.now about b.0 middle begun ready.unmarked points read at);
+          (c.write_over.ensures.written t s own b.0 (can.can_wire t s p c.args.pair own c.args.arena.now c.args.ends.now about b.0 middle begun ready.unmarked c.retire-2.new.self (both_retired c.args.pair middle c.retire.new.self c.retire-2.new.self c.retire.ensures c.retire-2.ensures) points read at));
+      queued = λ s own about. c.write_over.ensures.queued t s own b.0 (can.can_wire t s p c.args.pair own c.args.arena.now c.args.ends.now about b.0 middle begun ready.unmarked c.retire-2.new.self (both_retired c.args.pair middle c.retire.new.self c.retire-2.new.self c.retire.ensures c.retire-2.ensures) points read at);
     }
     )

@@ -1,8 +1,6 @@
 use Rattle.std.proofs.Common.{◌≡◌, ◌<◌, ◌++◌, ℕ, Some, length, map, slice_get, refl, sym, ap, subst, ◌∙◌, arith}
 use Rattle.std.specs.Vec.{with_items}
 use Rattle.std.proofs.lemmas.List.{with_items_is}
-use Rattle.in_arena.specs.Arenas.{ArenaView, changed, state_at}
-use Rattle.in_arena.specs.States.{Vacant, IsLive}
 use Rattle.in_interaction.specs.Queues.{both}
 use Rattle.in_compile.specs.Members.{MemberParts}
 use Rattle.in_reducer.specs.Interacting.{named}
@@ -32,52 +30,6 @@ wire_up-requires-clause-room c =
     let few = place.over_room c.self.inside.body c.self.invariant.all.net c.args.number c.args.template.now at c.take_out.new.queue.items c.take_out.ensures.items in
     let e = c.take_out.ensures.room in
     omega (arith, few, e)
-
-pub retire-requires : goal.retire-requires
-retire-requires c =
-    let r = c.self.inside.body in
-    let k = c.self.invariant.all.net in
-    let p = c.args.template.now in
-    let i = c.args.number in
-    let at = subst (λ (m : MachineParts). IsTemplateAt m i p) (sym c.self.view_is) c.requires.at in
-    let room = subst (λ (m : MachineParts). HasRoomAt m i) (sym c.self.view_is) c.requires.room in
-    let none = c.self.invariant.none in
-    let ends = c.as_mut_slice.result.now in
-    let old = c.take_out.new.queue.items in
-    let a = c.wire_up.new.arena in
-    let es = c.wire_up.new.ends in
-    let points = c.wire_up.new.points in
-    let middle = c.wire_up.new.queue.items in
-    let own = place.own_ends r k i p at in
-    let pair = place.pair_read r k i p at c.index.result.now c.index.ensures c.first_ends.result c.first_ends.ensures ends c.as_mut_slice.ensures.value in
-    let about = place.about_in r k i p at c.index.result.now c.index.ensures c.first_ends.result c.first_ends.ensures ends c.as_mut_slice.ensures.value r.checked.now.tables refl in
-    let up = c.wire_up.ensures.wired r.checked.now.tables
-    (place.can_wire_up r k i p at c.index.result.now c.index.ensures c.first_ends.result c.first_ends.ensures ends c.as_mut_slice.ensures.value r.checked.now.tables refl room none c.cells.ensures.1 c.requires.unmarked
-    c.as_mut_slice-2.result.now (let l = c.self.invariant.all.tools.points in let v = ap length c.as_mut_slice-2.ensures.value in omega (arith, l, v))) in
-    place.one_live r k i p at room none pair own refl ends about old a es points middle up
-
-pub retire-requires-2 : goal.retire-requires-2
-retire-requires-2 c =
-    let r = c.self.inside.body in
-    let k = c.self.invariant.all.net in
-    let p = c.args.template.now in
-    let i = c.args.number in
-    let at = subst (λ (m : MachineParts). IsTemplateAt m i p) (sym c.self.view_is) c.requires.at in
-    let room = subst (λ (m : MachineParts). HasRoomAt m i) (sym c.self.view_is) c.requires.room in
-    let none = c.self.invariant.none in
-    let ends = c.as_mut_slice.result.now in
-    let old = c.take_out.new.queue.items in
-    let a = c.wire_up.new.arena in
-    let es = c.wire_up.new.ends in
-    let points = c.wire_up.new.points in
-    let middle = c.wire_up.new.queue.items in
-    let own = place.own_ends r k i p at in
-    let pair = place.pair_read r k i p at c.index.result.now c.index.ensures c.first_ends.result c.first_ends.ensures ends c.as_mut_slice.ensures.value in
-    let about = place.about_in r k i p at c.index.result.now c.index.ensures c.first_ends.result c.first_ends.ensures ends c.as_mut_slice.ensures.value r.checked.now.tables refl in
-    let up = c.wire_up.ensures.wired r.checked.now.tables
-    (place.can_wire_up r k i p at c.index.result.now c.index.ensures c.first_ends.result c.first_ends.ensures ends c.as_mut_slice.ensures.value r.checked.now.tables refl room none c.cells.ensures.1 c.requires.unmarked
-    c.as_mut_slice-2.result.now (let l = c.self.invariant.all.tools.points in let v = ap length c.as_mut_slice-2.ensures.value in omega (arith, l, v))) in
-    subst (λ (a : ArenaView). IsLive (state_at a c.index.result.now.1)) (sym c.retire.ensures) (place.other_live r k i p at room none pair own refl ends about old a es points middle up)
 
 pub queue_begun-requires-clause-there : goal.queue_begun-requires-clause-there
 queue_begun-requires-clause-there c =
@@ -129,10 +81,8 @@ queue_begun-requires-clause-room c =
     let up = c.wire_up.ensures.wired r.checked.now.tables
     (place.can_wire_up r k i p at c.index.result.now c.index.ensures c.first_ends.result c.first_ends.ensures ends c.as_mut_slice.ensures.value r.checked.now.tables refl room none c.cells.ensures.1 c.requires.unmarked
     c.as_mut_slice-2.result.now (let l = c.self.invariant.all.tools.points in let v = ap length c.as_mut_slice-2.ensures.value in omega (arith, l, v))) in
-    let b = c.retire-2.new.self in
-    let retired : b ≡ changed (changed a pair.one.0 Vacant) pair.other.0 Vacant = c.retire-2.ensures ∙ ap (λ (a : ArenaView). changed a pair.other.0 Vacant) c.retire.ensures in
     let long = c.wire_up.ensures.long ∙ ap length c.as_mut_slice.ensures.value in
-    let few = place.own_room r k i p at room none pair own refl ends about old a es points middle up b retired long c.take_out.ensures.items in
+    let few = place.own_room r k i p at room none pair own refl ends about old a es points middle up long c.take_out.ensures.items in
     let pairs = ap (λ (m : MemberParts). length m.pairs) c.member.ensures in
     let e = c.take_out.ensures.room in
     let f = c.wire_up.ensures.capacity in
@@ -159,8 +109,6 @@ invariant_of-self c =
     let up = c.wire_up.ensures.wired r.checked.now.tables
     (place.can_wire_up r k i p at c.index.result.now c.index.ensures c.first_ends.result c.first_ends.ensures ends c.as_mut_slice.ensures.value r.checked.now.tables refl room none c.cells.ensures.1 c.requires.unmarked
     c.as_mut_slice-2.result.now (let l = c.self.invariant.all.tools.points in let v = ap length c.as_mut_slice-2.ensures.value in omega (arith, l, v))) in
-    let b = c.retire-2.new.self in
-    let retired : b ≡ changed (changed a pair.one.0 Vacant) pair.other.0 Vacant = c.retire-2.ensures ∙ ap (λ (a : ArenaView). changed a pair.other.0 Vacant) c.retire.ensures in
     let long = c.wire_up.ensures.long ∙ ap length c.as_mut_slice.ensures.value in
     let point_long = c.wire_up.ensures.points ∙ ap length c.as_mut_slice-2.ensures.value in
     let is_points = with_items_is r.tools.points points (let ok = r.tools.points.ok.0 in omega (arith, ok, point_long)) in
@@ -172,13 +120,13 @@ invariant_of-self c =
     let queue : c.queue_begun.new.queue.items ≡ middle ++ map (both (named up.cells)) p.member.pairs =
     c.queue_begun.ensures.items up.cells (subst (AreAtAgents up.cells) (sym slice) up.at) pairs ∙ ap (λ (m : MemberParts). middle ++ map (both (named up.cells)) m.pairs) c.member.ensures in
     let tools = c.self.invariant.all.tools in
-    let cells = place.cells r k i p at room none pair own refl ends about old a es points middle up b retired long in
-    let memory = place.memory r k i p at room none pair own refl ends about old a es points middle up b retired long in
+    let cells = place.cells r k i p at room none pair own refl ends about old a es points middle up long in
+    let memory = place.memory r k i p at room none pair own refl ends about old a es points middle up long in
     record {
       all = record {
         net = record {
-          reducer = place.is_reducer r k i p at room none pair own refl ends about old a es points middle up b retired long c.take_out.ensures.items c.queue_begun.new.queue.items queue zs.items is_ends;
-          net = place.net r k i p at room none pair own refl ends about old a es points middle up b retired long;
+          reducer = place.is_reducer r k i p at room none pair own refl ends about old a es points middle up long c.take_out.ensures.items c.queue_begun.new.queue.items queue zs.items is_ends;
+          net = place.net r k i p at room none pair own refl ends about old a es points middle up long;
           few = (let f = k.few in omega (arith, f, cells));
           few_free = k.few_free;
           free = k.free;
@@ -186,14 +134,14 @@ invariant_of-self c =
           queue = (let f = k.queue in let g = c.take_out.ensures.room in let h = c.wire_up.ensures.capacity in let l = c.queue_begun.ensures.room in omega (arith, f, g, h, l, cells));
         };
         tools = record {
-          placed = still.none_there r.tools.placed.bag r.arena b memory cells tools.placed;
+          placed = still.none_there r.tools.placed.bag r.arena a memory cells tools.placed;
           room = tools.room;
           made = tools.made;
           made_room = tools.made_room;
           points = (let f = tools.points in let g = ap length is_points in omega (arith, f, g, point_long));
         };
       };
-      none = place.none_leased r k i p at room none pair own refl ends about old a es points middle up b retired long;
+      none = place.none_leased r k i p at room none pair own refl ends about old a es points middle up long;
     }
 
 steps_there : (m n o : MachineParts) (i : ℕ) → m ≡ n → StepsAt m i o → StepsAt n i o
@@ -220,8 +168,6 @@ returns c =
     let up = c.wire_up.ensures.wired r.checked.now.tables
     (place.can_wire_up r k i p at c.index.result.now c.index.ensures c.first_ends.result c.first_ends.ensures ends c.as_mut_slice.ensures.value r.checked.now.tables refl room none c.cells.ensures.1 c.requires.unmarked
     c.as_mut_slice-2.result.now (let l = c.self.invariant.all.tools.points in let v = ap length c.as_mut_slice-2.ensures.value in omega (arith, l, v))) in
-    let b = c.retire-2.new.self in
-    let retired : b ≡ changed (changed a pair.one.0 Vacant) pair.other.0 Vacant = c.retire-2.ensures ∙ ap (λ (a : ArenaView). changed a pair.other.0 Vacant) c.retire.ensures in
     let long = c.wire_up.ensures.long ∙ ap length c.as_mut_slice.ensures.value in
     let point_long = c.wire_up.ensures.points ∙ ap length c.as_mut_slice-2.ensures.value in
     let is_points = with_items_is r.tools.points points (let ok = r.tools.points.ok.0 in omega (arith, ok, point_long)) in
@@ -232,4 +178,4 @@ returns c =
     (λ j q e. place.pairs_there r k i p at room none pair own refl ends about old a es points middle up j q (ap (λ (m : MemberParts). slice_get m.pairs j) (sym c.member.ensures) ∙ e)) in
     let queue : c.queue_begun.new.queue.items ≡ middle ++ map (both (named up.cells)) p.member.pairs =
     c.queue_begun.ensures.items up.cells (subst (AreAtAgents up.cells) (sym slice) up.at) pairs ∙ ap (λ (m : MemberParts). middle ++ map (both (named up.cells)) m.pairs) c.member.ensures in
-    steps_there _ _ _ i c.self.view_is (place.steps r k i p at room none pair own refl ends about old a es points middle up b retired long c.take_out.ensures.items c.queue_begun.new.queue.items queue zs.items is_ends)
+    steps_there _ _ _ i c.self.view_is (place.steps r k i p at room none pair own refl ends about old a es points middle up long c.take_out.ensures.items c.queue_begun.new.queue.items queue zs.items is_ends)

@@ -1,12 +1,15 @@
 use Rattle.std.proofs.Common.{◌≡◌, ◌+◌, ℕ, suc, refl, sym, subst, ◌∙◌, arith}
 use Rattle.in_check.specs.Programs.{Program}
 use Rattle.in_compile.specs.Templates.{AreTemplatesOf}
-use Rattle.in_reducer.specs.Runs.{Runs, at_start, then_step}
+use Rattle.in_reducer.specs.Runs.{at_start}
+use Rattle.in_reducer.specs.Same.{RunsUpToNumbers}
+use Rattle.in_reducer.proofs.Numbers.Before.{takes_step}
+use Rattle.in_reducer.proofs.Numbers.SameKind.{same_self}
 use Rattle.in_reducer.proofs.Steps.Ahead.{none_ahead}
 use Rattle.in_reducer.proofs.reducer.Reducer.take_first.Goals as goal
 
 pub loop-count-init : goal.loop-count-init
-loop-count-init c = record { few = omega arith; runs = at_start c.args.self.now; ahead = none_ahead c.args.self.now c.none-ahead.result c.none-ahead.ensures.0 c.none-ahead.ensures.1; program = refl }
+loop-count-init c = record { few = omega arith; runs = (c.args.self.now, same_self c.args.self.now, at_start c.args.self.now); ahead = none_ahead c.args.self.now c.none-ahead.result c.none-ahead.ensures.0 c.none-ahead.ensures.1; program = refl }
 
 pub look_ahead-requires : goal.look_ahead-requires
 look_ahead-requires c = c.loop-count.invariant.ahead
@@ -21,7 +24,7 @@ loop-count-preserved c =
     let step = c.step_next.ensures.done c.if-not-step_next.false in
     record {
       few = omega arith;
-      runs = subst (λ (n : ℕ). Runs c.args.self.now n c.step_next.new.self) (let z : suc k ≡ k + 1 = omega arith in z) (then_step c.args.self.now c.loop-count.self c.step_next.new.self k i.runs step.0);
+      runs = subst (λ (n : ℕ). RunsUpToNumbers c.args.self.now n c.step_next.new.self) (let z : suc k ≡ k + 1 = omega arith in z) (takes_step c.args.self.now c.loop-count.self c.step_next.new.self k c.pairs.ensures.reducer i.runs step.0);
       ahead = step.1;
-      program = step.0.step.program ∙ i.program;
+      program = step.0.2.step.program ∙ step.0.1.1.program ∙ i.program;
     }

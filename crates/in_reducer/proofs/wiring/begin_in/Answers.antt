@@ -1,0 +1,109 @@
+use Rattle.std.proofs.Common.{◌≡◌, ◌<◌, ◌≤◌, ◌+◌, ℕ, List, [], ◌∷◌, length, slice_get, set, refl, sym, ap, subst, ◌∙◌, arith}
+use Rattle.std.proofs.lemmas.List.{length-set}
+use Rattle.in_base.proofs.Each.{at_index}
+use Rattle.in_base.proofs.Places.{set_there}
+use Rattle.in_arena.specs.Arenas.{ArenaView, changed}
+use Rattle.in_arena.specs.States.{Vacant}
+use Rattle.in_arena.specs.declared.content.CellNo.{CellNo}
+use Rattle.in_arena.specs.declared.content.End.{End}
+use Rattle.in_arena.specs.declared.content.End.TheVariants.{Cell}
+use Rattle.in_compile.specs.Members.{MemberParts}
+use Rattle.in_compile.specs.Putting.{AreBegunBelow}
+use Rattle.in_compile.proofs.Public.{none_begun}
+use Rattle.in_reducer.specs.declared.sides.Pair.{Pair}
+use Rattle.in_reducer.specs.Inside.{most_ends}
+use Rattle.in_reducer.specs.Wiring.{AreAtAgents, CanBegin, HasBegunBelow, retired}
+use Rattle.in_reducer.proofs.Steps.Points.{none_at, one_more_at}
+use Rattle.in_reducer.proofs.Steps.Taken as taken
+use Rattle.in_reducer.proofs.wiring.begin_in.Goals as goal
+
+-- the two changes are one
+both_retired : (p : Pair) (a b d : ArenaView) → b ≡ changed a p.one.0 Vacant → d ≡ changed b p.other.0 Vacant → d ≡ retired p a
+both_retired p a b d one two = two ∙ ap (λ (a : ArenaView). changed a p.other.0 Vacant) one
+
+-- none is begun yet
+none_below : (m : MemberParts) (a b : ArenaView) (points : List End) → a ≡ b → HasBegunBelow m b 0 a points
+none_below m a b points same = ([], subst (λ (v : ArenaView). AreBegunBelow m b 0 v []) (sym same) (none_begun m b), none_at points)
+
+pub begin_rest-requires-clause-begun : goal.begin_rest-requires-clause-begun
+begin_rest-requires-clause-begun c =
+    let m = c.args.member.now in
+    let gone = both_retired c.args.pair c.args.arena.now c.retire.new.self c.retire-then-many-lt2.new.self c.retire.ensures c.retire-then-many-lt2.ensures in (
+      retired c.args.pair c.args.arena.now,
+      taken.can_retired m c.is_sound.ensures c.args.pair c.args.arena.now c.requires.0 c.args.points.now c.requires.1,
+      none_below m c.retire-then-many-lt2.new.self (retired c.args.pair c.args.arena.now) c.args.points.now gone,
+    )
+
+pub returns-then-many-lt2-clause-begun : goal.returns-then-many-lt2-clause-begun
+returns-then-many-lt2-clause-begun c =
+    let m = c.args.member.now in
+    let gone = both_retired c.args.pair c.args.arena.now c.retire.new.self c.retire-then-many-lt2.new.self c.retire.ensures c.retire-then-many-lt2.ensures in
+    c.begin_rest.ensures.begun (retired c.args.pair c.args.arena.now) (taken.can_retired m c.is_sound.ensures c.args.pair c.args.arena.now c.requires.0 c.args.points.now c.requires.1)
+    (none_below m c.retire-then-many-lt2.new.self (retired c.args.pair c.args.arena.now) c.args.points.now gone)
+
+pub begin_in-first-requires-clause-free : goal.begin_in-first-requires-clause-free
+begin_in-first-requires-clause-free c = taken.first_free c.args.member.now c.is_sound.ensures c.args.pair c.args.arena.now c.requires.0 c.args.points.now c.requires.1
+
+pub begin_in-second-requires-clause-live : goal.begin_in-second-requires-clause-live
+begin_in-second-requires-clause-live c =
+    let m = c.args.member.now in
+    let x = at_index m.agents 0 (let many = c.agents-many.ensures in let f = c.if-many-lt2.false in omega (arith, many, f)) in
+    taken.other_live m c.is_sound.ensures c.args.pair c.args.arena.now c.requires.0 c.args.points.now c.requires.1 x.0 x.1 c.begin_in-first.result c.begin_in-first.new.arena (c.begin_in-first.ensures x.0 x.1)
+
+pub begin_in-second-requires-clause-all : goal.begin_in-second-requires-clause-all
+begin_in-second-requires-clause-all c =
+    let m = c.args.member.now in
+    let x = at_index m.agents 0 (let many = c.agents-many.ensures in let f = c.if-many-lt2.false in omega (arith, many, f)) in
+    taken.all_next m c.is_sound.ensures c.args.pair c.args.arena.now c.requires.0 c.args.points.now c.requires.1 x.0 x.1 c.begin_in-first.result c.begin_in-first.new.arena (c.begin_in-first.ensures x.0 x.1)
+
+pub begin_in-second-requires-clause-free : goal.begin_in-second-requires-clause-free
+begin_in-second-requires-clause-free c =
+    let m = c.args.member.now in
+    let x = at_index m.agents 0 (let many = c.agents-many.ensures in let f = c.if-many-lt2.false in omega (arith, many, f)) in
+    taken.second_free m c.is_sound.ensures c.args.pair c.args.arena.now c.requires.0 c.args.points.now c.requires.1 x.0 x.1 c.begin_in-first.result c.begin_in-first.new.arena (c.begin_in-first.ensures x.0 x.1)
+
+-- two are begun, and stand at their points
+two_below : (m : MemberParts) (b new : ArenaView) (one two : CellNo) (points : List End) (v w : End) → AreBegunBelow m b 2 new (one ∷ two ∷ []) → 34 ≤ length points → v ≡ Cell one 0 → w ≡ Cell two 0 → HasBegunBelow m b 2 new (set (set points 32 v) 33 w)
+two_below m b new one two points v w below long is_v is_w = (
+  one ∷ two ∷ [],
+  below,
+  one_more_at (one ∷ []) two (set points 32 v) 1 refl (let l = length-set points 32 v in omega (arith, l, long)) w is_w (one_more_at [] one points 0 refl (omega (arith, long)) v is_v (none_at points)),
+)
+
+still_begin : (m : MemberParts) (a : ArenaView) (points after : List End) → length after ≡ length points → CanBegin m a points → CanBegin m a after
+still_begin m a points after same h = record { all = h.all; free = h.free; few = h.few; long = (let l = h.long in omega (arith, l, same)) }
+
+pub begin_rest-requires-2-clause-begun : goal.begin_rest-requires-2-clause-begun
+begin_rest-requires-2-clause-begun c =
+    let m = c.args.member.now in
+    let x = at_index m.agents 0 (let many = c.agents-many.ensures in let f = c.if-many-lt2.false in omega (arith, many, f)) in
+    let y = at_index m.agents 1 (let many = c.agents-many.ensures in let f = c.if-many-lt2.false in omega (arith, many, f)) in
+    let points = c.args.points.now in
+    let long = c.requires.1.long in (
+      retired c.args.pair c.args.arena.now,
+      still_begin m (retired c.args.pair c.args.arena.now) points (set (set points 32 c.port.result) 33 c.port-2.result) (length-set (set points 32 c.port.result) 33 c.port-2.result ∙ length-set points 32 c.port.result)
+          (taken.can_retired m c.is_sound.ensures c.args.pair c.args.arena.now c.requires.0 points c.requires.1),
+      two_below m (retired c.args.pair c.args.arena.now) c.begin_in-second.new.arena c.begin_in-first.result c.begin_in-second.result points c.port.result c.port-2.result
+          (taken.both_below m c.is_sound.ensures c.args.pair c.args.arena.now c.requires.0 points c.requires.1 x.0 x.1 c.begin_in-first.result c.begin_in-first.new.arena (c.begin_in-first.ensures x.0 x.1) y.0 y.1 c.begin_in-second.result
+          c.begin_in-second.new.arena (c.begin_in-second.ensures y.0 y.1))
+          (omega (arith, long)) c.port.ensures c.port-2.ensures,
+    )
+
+pub returns-clause-begun : goal.returns-clause-begun
+returns-clause-begun c =
+    let m = c.args.member.now in
+    let x = at_index m.agents 0 (let many = c.agents-many.ensures in let f = c.if-many-lt2.false in omega (arith, many, f)) in
+    let y = at_index m.agents 1 (let many = c.agents-many.ensures in let f = c.if-many-lt2.false in omega (arith, many, f)) in
+    let points = c.args.points.now in
+    let long = c.requires.1.long in
+    c.begin_rest-2.ensures.begun (retired c.args.pair c.args.arena.now)
+    (still_begin m (retired c.args.pair c.args.arena.now) points (set (set points 32 c.port.result) 33 c.port-2.result) (length-set (set points 32 c.port.result) 33 c.port-2.result ∙ length-set points 32 c.port.result)
+    (taken.can_retired m c.is_sound.ensures c.args.pair c.args.arena.now c.requires.0 points c.requires.1))
+    (two_below m (retired c.args.pair c.args.arena.now) c.begin_in-second.new.arena c.begin_in-first.result c.begin_in-second.result points c.port.result c.port-2.result
+    (taken.both_below m c.is_sound.ensures c.args.pair c.args.arena.now c.requires.0 points c.requires.1 x.0 x.1 c.begin_in-first.result c.begin_in-first.new.arena (c.begin_in-first.ensures x.0 x.1) y.0 y.1 c.begin_in-second.result
+    c.begin_in-second.new.arena (c.begin_in-second.ensures y.0 y.1))
+    (omega (arith, long)) c.port.ensures c.port-2.ensures)
+
+pub returns-clause-ends : goal.returns-clause-ends
+returns-clause-ends c = λ e low.
+    c.begin_rest-2.ensures.ends e low ∙ set_there (set c.args.points.now 32 c.port.result) 33 e c.port-2.result (λ same. omega (arith, low, same)) ∙ set_there c.args.points.now 32 e c.port.result (λ same. omega (arith, low, same))

@@ -1,0 +1,68 @@
+//! Laws over reducers that differ in the numbers of their agents alone, for whoever reasons above them. No function here does anything.
+
+ghost use Rattle.in_reducer.specs.NameLaws.{AreSameIsAnEquivalence, PairsCanStandAside, ReducersCanBeRenamed, RunsCanBeRenamed, RunsKeepSame, RunsUpToNumbersAreSame, RunsUpToNumbersGoOn, RunsUpToNumbersTakeSteps, SameAreReducers, StartsCanBeRenamed, StepsCanBeRenamed, StepsKeepSame, StepsUpToNumbersAreSame};
+
+/// Being the same up to the numbers of agents is an equivalence of reducers.
+pub fn are_same_is_an_equivalence()
+    ensures { AreSameIsAnEquivalence }
+{}
+
+/// What is the same as a reducer up to the numbers of its agents is one.
+pub fn same_are_reducers()
+    ensures { SameAreReducers }
+{}
+
+/// A start under any other numbers is one.
+pub fn starts_can_be_renamed()
+    ensures { StartsCanBeRenamed }
+{}
+
+/// There is a reducer under any numbers that keep its agents apart.
+pub fn reducers_can_be_renamed()
+    ensures { ReducersCanBeRenamed }
+{}
+
+/// The same interaction of two reducers that are the same up to the numbers of their agents leads to two that are.
+pub fn steps_keep_same()
+    ensures { StepsKeepSame }
+{}
+
+/// So do runs of as many interactions.
+pub fn runs_keep_same()
+    ensures { RunsKeepSame }
+{}
+
+/// An interaction up to the numbers of agents leads to one reducer, up to the numbers of its agents.
+pub fn steps_up_to_numbers_are_same()
+    ensures { StepsUpToNumbersAreSame }
+{}
+
+/// And so does a run up to the numbers of agents.
+pub fn runs_up_to_numbers_are_same()
+    ensures { RunsUpToNumbersAreSame }
+{}
+
+/// An interaction leads to what it leads to under any other numbers too, from its reducer under some.
+pub fn steps_can_be_renamed()
+    ensures { StepsCanBeRenamed }
+{}
+
+/// .. and so does a run: whoever has done k interactions up to the numbers of agents has done them from a start under other numbers.
+pub fn runs_can_be_renamed()
+    ensures { RunsCanBeRenamed }
+{}
+
+/// Runs up to numbers, one after the other, are one.
+pub fn runs_up_to_numbers_go_on()
+    ensures { RunsUpToNumbersGoOn }
+{}
+
+/// A run up to numbers, and then an interaction up to numbers, is one: so whoever takes the first pairs one after another keeps it.
+pub fn runs_up_to_numbers_take_steps()
+    ensures { RunsUpToNumbersTakeSteps }
+{}
+
+/// Two agents of a reducer can get any two numbers that it doesn't have, and all others stay: so the cells of a pair can be used again.
+pub fn pairs_can_stand_aside()
+    ensures { PairsCanStandAside }
+{}
