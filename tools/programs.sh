@@ -56,13 +56,48 @@ kept_from() {
   sed -n "s/^$1 //p" "$top/dist/inet.from"
 }
 
+# Where it is noted which program of this name answers, as long as nothing changes on which that rests: so a call needs no sum of the sources.
+# The file has the time at which they were looked at.
+noted="$top/out/answers"
+
+# Sets `program` to the one that is noted, if there is one and nothing has changed since: no source, no kept and no built program.
+choose_noted() {
+  local name=$1 note="$noted-$1" part changed
+  program=
+  if [ ! -s "$note" ]; then return; fi
+  for part in crates "crates/$name" "crates/$name/out" "crates/$name/out/$name"; do
+    if [ "$top/$part" -nt "$note" ]; then return; fi
+  done
+  changed="$(find "$top/crates"/*/src "$top/dist" "$top/crates.txt" "$top/tools/programs.sh" -newercm "$note" -print -quit 2>&1)" || return 0
+  if [ -z "$changed" ]; then
+    program="$(<"$note")"
+    if [ ! -x "$program" ]; then program=; fi
+  fi
+}
+
+# Notes that a program of this name answers, by a look that began at this time. Where that can't be noted, the next call looks again.
+note() {
+  local name=$1 since=$2 room
+  {
+    mkdir -p "$top/out" &&
+      room="$(mktemp "$noted.XXXXXX")" &&
+      echo "$program" >"$room" &&
+      touch -d "@$since" "$room" &&
+      mv "$room" "$noted-$name"
+  } 2>/dev/null || true
+}
+
 # Sets `program` to the program of this name that answers: the one that was built here from this code; else the kept one, where it is whole
 # and runs on this system, with one line where it is of other sources; else to nothing.
 choose() {
   local name=$1 built="$top/crates/$1/out/$1" kept="dist/$1-x86_64-linux"
-  program=
+  # A file may have the time of a clock that is some thousandths of a second late, so that what changes now is newer.
+  local since=$((EPOCHSECONDS - 1))
+  choose_noted "$name"
+  if [ -n "$program" ]; then return; fi
   if [ -x "$built" ] && [ "$("$built" --version 2>/dev/null)" = "$name $(version) ($(code))" ]; then
     program=$built
+    note "$name" "$since"
   elif [ ! -e "$top/$kept" ]; then
     :
   elif [ "$(sum_of "$top/$kept")" != "$(kept_from "$name")" ]; then
@@ -70,10 +105,12 @@ choose() {
   elif ! "$top/$kept" --version >/dev/null 2>&1; then
     say "$kept doesn't run on this system: see README.md, \"What you need\""
   else
+    program="$top/$kept"
     if [ "$(sources)" != "$(kept_from sources)" ]; then
       say "$kept, which answers, was made from other sources than these; ./build proves and builds these"
+    else
+      note "$name" "$since"
     fi
-    program="$top/$kept"
   fi
 }
 

@@ -8,6 +8,7 @@ import os
 import re
 import shutil
 import subprocess
+import time
 from functools import partial
 
 from harness.export import BUILT as EXPORTER
@@ -149,6 +150,13 @@ ANSWERED = {
     "built, with another comment": (both(build_too, change_comment), None),
     "built of another source": (both(build_alike, change_source), "was made from other sources than these"),
 }
+# The change after a call that noted which program answers, and what is said then.
+NOTED = {
+    "with nothing changed": (nothing, ""),
+    "with another comment": (change_comment, ""),
+    "with another source": (change_source, "is damaged or replaced"),
+    "without what was built": (lambda copy: remove_built(copy), "is damaged or replaced"),
+}
 UNANSWERED = {
     "with another byte": (change_byte, "is damaged or replaced"),
     "of another system": (replace_by_another, "doesn't run on this system"),
@@ -211,6 +219,30 @@ def wrong_check(program, change, said, statuses, name):
     return None
 
 
+def wrong_note(program, change, said, name):
+    """What is wrong with what `./inet` answers after a call that noted which program does: it needs no sum of the sources, until this is changed."""
+    copy = changed(program, build_too, f"noted {name}")
+    stamped = asked(copy, ["dist/keep", "sources"])
+    os.makedirs(os.path.join(copy, "blunt"))
+    for command in ("sha256sum", "awk"):
+        with open(os.path.join(copy, "blunt", command), "w", encoding="utf-8") as file:
+            print("#!/bin/sh\nexit 1", file=file)
+        os.chmod(os.path.join(copy, "blunt", command), 0o755)
+    # What was just written is looked at again a second later.
+    time.sleep(2)
+    first = asked(copy, ["./inet", "--version"])
+    again = asked(copy, ["./inet", "--version"], path=f"{copy}/blunt:{SYSTEM}")
+    if (first.status, stamped.status) != (ACCEPTED, ACCEPTED) or (again.output, again.errors) != (first.output, b""):
+        return f"{first}, {first.errors!r}, and then {again}, {again.errors!r}"
+    change(copy)
+    then = asked(copy, ["./inet", "--version"])
+    return None if said in then.errors.decode() and bool(said) == bool(then.errors) else f"after the change: {then}, {then.errors!r}"
+
+
+def remove_built(copy):
+    os.remove(built_at(copy, "inet"))
+
+
 def wrong_words(run, words, status, said):
     """What is wrong with what is answered to words for help or the version, or to wrong ones."""
     answer = run(words)
@@ -235,13 +267,15 @@ def kept(program):
         yield f"inet_export {word}", answering(partial(exporter.run, [word]), ACCEPTED, f"inet_export{version}".encode())
     for word in ("--help", "-h"):
         yield f"inet_export {word}", partial(wrong_words, exporter.run, [word], ACCEPTED, "Writes an accepted program")
-    for words in (["sum.inet"], ["--help", "--help"], ["--version", "now"]):
+    for words in (["--now"], ["sum.inet", "max.inet"], ["--help", "--help"], ["--version", "now"]):
         yield f"inet_export {' '.join(words)}", partial(wrong_words, exporter.run, words, WRONG_WORDS, "Writes an accepted program")
     build = lambda words: asked(TOP, ["./build", *words])
     yield "build --help", partial(wrong_words, build, ["--help"], ACCEPTED, "Proves `inet`")
     yield "build inet", partial(wrong_words, build, ["inet"], WRONG_WORDS, "build: takes no words")
     for name, (change, said) in ANSWERED.items():
         yield f"./inet {name}", partial(wrong_answer, program, exporter, change, said, name)
+    for name, (change, said) in NOTED.items():
+        yield f"./inet noted, {name}", partial(wrong_note, program, change, said, name)
     for name, (change, said) in UNANSWERED.items():
         yield f"./inet {name}", partial(wrong_refusal, program, change, said, name)
     for name, (change, said, *statuses) in CHECKED.items():

@@ -1,12 +1,15 @@
 /* Calls the library on the texts of the named files.
  *
+ *   library blocks FILE..    each call on each text, and then with each of its requests for memory refused, alone and with all that follow: a line
+ *                            on each answer that is neither the usual one nor that memory ran out, and on each call after which a block isn't
+ *                            given back. Linked with -Wl,--wrap=malloc,--wrap=realloc,--wrap=free
  *   library threads FILE..   first by one thread, then by eight at once, each of which makes all the calls on each text: a line on each
  *                            answer that differs, or that isn't given as include/inet.h says in rooms of several sizes; nothing else.
  *                            Exit status 1 where there is a line.
  *   library time CALL FILE.. what a call of check, derive, run or diagnose takes on each text: its bytes, and microseconds
  *   library stack CALL KIB FILE..   the call by a thread with a stack of KIB KiB
  */
-#include "inet.h"
+#include <inet.h>
 
 #include <pthread.h>
 #include <stdatomic.h>
@@ -15,7 +18,7 @@
 #include <string.h>
 #include <time.h>
 
-enum { THREADS = 8, CALLS = 4, MOST_FILES = 512, CANARY = 0xA5, LIMIT = 20000, CELLS = 4096 };
+enum { THREADS = 8, CALLS = 7, MOST_FILES = 512, CANARY = 0xA5, LIMIT = 20000, CELLS = 4096 };
 
 struct answer {
     uint8_t status;
@@ -30,7 +33,7 @@ struct text {
     struct answer answers[CALLS];
 };
 
-static const char *const names[CALLS] = {"check", "derive", "run", "diagnose"};
+static const char *const names[CALLS] = {"check", "derive", "run", "diagnose", "diagnose_data", "export", "run_by"};
 static struct text texts[MOST_FILES];
 static int text_count;
 static atomic_int wrong;
@@ -45,11 +48,16 @@ static void *taken(size_t size)
 
 static uint8_t call(int which, const struct text *text, uint8_t *room, size_t room_size, size_t *length)
 {
+    static const uint32_t choices[3] = {0, 0, 0};
+    struct inet_state state;
     switch (which) {
     case 0: return inet_check(text->bytes, text->length, room, room_size, length);
     case 1: return inet_derive(text->bytes, text->length, room, room_size, length);
     case 2: return inet_run(text->bytes, text->length, LIMIT, CELLS, room, room_size, length);
-    default: return inet_diagnose(text->bytes, text->length, room, room_size, length);
+    case 3: return inet_diagnose(text->bytes, text->length, room, room_size, length);
+    case 4: return inet_diagnose_data(text->bytes, text->length, room, room_size, length);
+    case 5: return inet_export(text->bytes, text->length, room, room_size, length);
+    default: return inet_run_by(text->bytes, text->length, choices, 3, LIMIT, CELLS, &state, room, room_size, length);
     }
 }
 
@@ -81,6 +89,20 @@ static void try_room(int which, const struct text *text, size_t size)
     free(room);
 }
 
+/* The calls that answer by numbers agree with the others: the status of a text, and a step that builds nothing. */
+static void try_numbers(const struct text *text)
+{
+    struct inet_fault fault;
+    struct inet_step step = {INET_EMPTY, 0, 0, 0};
+    uint32_t part = 0;
+    uint8_t wanted = text->answers[0].status, status = inet_refusal(text->bytes, text->length, &fault);
+    uint8_t verified = inet_verify(text->bytes, text->length, UINT32_MAX, &step, 1, &part, 0);
+    if (status != wanted || (status == INET_REFUSED) != (fault.code > 0) || fault.to > text->length || verified != (wanted == INET_OK ? INET_WRONG_NUMBERS : wanted)) {
+        wrong = 1;
+        printf("%s: refusal %d, code %u; verify %d; wanted: %d\n", text->name, status, fault.code, verified, wanted);
+    }
+}
+
 static void *calls_on_all(void *number)
 {
     for (int turn = 0; turn < text_count; turn++) {
@@ -95,6 +117,7 @@ static void *calls_on_all(void *number)
             if (length)
                 try_room(which, text, length - 1);
         }
+        try_numbers(text);
     }
     return 0;
 }
@@ -110,6 +133,89 @@ static int by_threads(void)
             return 70;
     for (int number = 0; number < THREADS; number++)
         pthread_join(threads[number], 0);
+    return wrong;
+}
+
+/* Requests for memory while a call is counted: how many there were, how many blocks are not given back, and which request is refused, alone
+ * or with all that follow; 0 is none. */
+static int counts, all_that_follow;
+static long requests, blocks, refused;
+
+static int is_refused(void)
+{
+    return counts && (++requests == refused || (all_that_follow && refused && requests > refused));
+}
+
+void *__real_malloc(size_t size);
+void *__real_realloc(void *block, size_t size);
+void __real_free(void *block);
+
+void *__wrap_malloc(size_t size)
+{
+    void *block = is_refused() ? 0 : __real_malloc(size);
+    if (counts && block)
+        blocks++;
+    return block;
+}
+
+void *__wrap_realloc(void *block, size_t size)
+{
+    void *moved = is_refused() ? 0 : __real_realloc(block, size);
+    if (counts && moved && !block)
+        blocks++;
+    return moved;
+}
+
+void __wrap_free(void *block)
+{
+    if (counts && block)
+        blocks--;
+    __real_free(block);
+}
+
+/* The calls that give an answer, and then the two that give numbers. */
+static uint8_t counted_call(int which, const struct text *text, uint8_t *room, size_t size, size_t *length)
+{
+    struct inet_fault fault;
+    struct inet_step steps[2] = {{INET_GRAFT, 0, 0, 1}, {INET_EMPTY, 0, 0, 0}};
+    uint32_t parts[1] = {0};
+    if (which < CALLS)
+        return call(which, text, room, size, length);
+    return which == CALLS ? inet_refusal(text->bytes, text->length, &fault) : inet_verify(text->bytes, text->length, 0, steps, 2, parts, 1);
+}
+
+/* One call with that request refused: whether all blocks were given back, and the answer is the usual one or that memory ran out. */
+static void try_refused(int which, const struct text *text, uint8_t usual, long number, int follow)
+{
+    static uint8_t room[1 << 16];
+    size_t length = 0;
+    requests = blocks = 0, refused = number, all_that_follow = follow, counts = 1;
+    uint8_t status = counted_call(which, text, room, sizeof room, &length);
+    counts = 0;
+    if (blocks || (number && status != usual && status != INET_MEMORY)) {
+        wrong = 1;
+        printf("call %d of %s, request %ld refused%s: status %d, %ld blocks are not given back\n", which, text->name, number, follow ? " and all that follow" : "", status, blocks);
+    }
+}
+
+static int by_blocks(void)
+{
+    long tried = 0;
+    for (int at = 0; at < text_count; at++)
+        for (int which = 0; which < CALLS + 2; which++) {
+            static uint8_t room[1 << 16];
+            size_t length;
+            uint8_t usual = counted_call(which, &texts[at], room, sizeof room, &length);
+            try_refused(which, &texts[at], usual, 0, 0);
+            long all = requests;
+            for (long number = 1; number <= all; number++, tried += 2)
+                for (int follow = 0; follow < 2; follow++)
+                    try_refused(which, &texts[at], usual, number, follow);
+        }
+    if (!wrong && !tried) {
+        wrong = 1;
+        puts("no request was refused");
+    }
     return wrong;
 }
 
@@ -181,13 +287,14 @@ static void read_file(const char *name)
 int main(int count, char **words)
 {
     const char *what = count > 1 ? words[1] : "";
-    int first = !strcmp(what, "threads") ? 2 : !strcmp(what, "time") ? 3 : !strcmp(what, "stack") ? 4 : 70;
+    int is_blocks = !strcmp(what, "blocks");
+    int first = is_blocks || !strcmp(what, "threads") ? 2 : !strcmp(what, "time") ? 3 : !strcmp(what, "stack") ? 4 : 70;
     if (count <= first)
         return 70;
     for (int at = first; at < count; at++)
         read_file(words[at]);
     if (first == 2)
-        return by_threads();
+        return is_blocks ? by_blocks() : by_threads();
     int which = stack_call = call_named(words[2]);
     for (int at = 0; at < text_count; at++)
         if (first == 3)

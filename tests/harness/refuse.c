@@ -130,11 +130,12 @@ int pthread_create(pthread_t *thread, const pthread_attr_t *attributes, void *(*
 
 ssize_t read(int file, void *to, size_t size)
 {
-    if (file == 0 && is_refused(READ, REQUEST)) {
+    int is_text = file == 0 || file > 2;
+    if (is_text && is_refused(READ, REQUEST)) {
         errno = EIO;
         return -1;
     }
-    return syscall(SYS_read, file, to, file == 0 ? least(size, at_once) : size);
+    return syscall(SYS_read, file, to, is_text ? least(size, at_once) : size);
 }
 
 ssize_t write(int file, const void *from, size_t size)

@@ -1,13 +1,14 @@
 """The rows of tests/rows: a text, the commands that are given, and what each has to print.
 
 A row is a file NAME.inet with the text and a file NAME.session, which is read so: a line `$ inet WORDS` is a command; the lines up to the
-line `status N` are what it prints. Commands that follow one another without such lines between have the same answer.
+line `status N` are what it prints, where the words are wrong on standard error. Commands that follow one another without such lines between have
+the same answer.
 """
 import os
 from dataclasses import dataclass
 from functools import partial
 
-from harness.programs import ACCEPTED, ROWS, answering, text_of
+from harness.programs import ACCEPTED, ROWS, WRONG_WORDS, differing, shortened, text_of
 
 PROMPT = "$ inet"
 STATUS = "status "
@@ -48,6 +49,15 @@ def commands(session):
                 yield from [[*words, "--workers", str(workers)]] * TIMES
 
 
+def wrong_answer(run, session):
+    """What is wrong with an answer to a command of the session."""
+    answer = run()
+    if session.status != WRONG_WORDS:
+        return differing(answer, session.status, session.output)
+    told = None if answer.errors == session.output else f"told: {shortened(answer.errors)}; wanted: {shortened(session.output)}"
+    return differing(answer, WRONG_WORDS, b"") or told
+
+
 def rows(program):
     for file in sorted(os.listdir(ROWS)):
         name, ending = os.path.splitext(file)
@@ -58,4 +68,4 @@ def rows(program):
             for session in sessions(lines):
                 for words in commands(session):
                     run = partial(program.run, words, text)
-                    yield f"{name}: {' '.join(['inet', *words])}", answering(run, session.status, session.output)
+                    yield f"{name}: {' '.join(['inet', *words])}", partial(wrong_answer, run, session)

@@ -6,7 +6,7 @@ import subprocess
 import threading
 from functools import partial
 
-from harness.programs import COMMANDS, MOST_BYTES, REFUSED, ROWS, STREAM, WRONG_WORDS, answering, failing, text_of, wrong_stream
+from harness.programs import COMMANDS, MOST_BYTES, REFUSED, ROWS, STREAM, WRONG_WORDS, answering, differing, failing, text_of
 
 # A file descriptor command of Linux: how many bytes a pipe holds.
 SET_PIPE_SIZE = 1031
@@ -69,14 +69,23 @@ def with_read_only_output(program, words, text):
 OUTPUTS = {
     "closed": with_closed_output,
     "a device that is full": with_device,
-    "a pipe without a reader": with_closed_pipe,
     "a full pipe that doesn't wait": with_full_pipe,
     "a file that is only read": with_read_only_output,
 }
 
 
+def wrong_without_reader(run):
+    """What is wrong with an answer whose reader went away: status 6, and nothing on standard error, where a refused text has its diagnosis."""
+    answer = run()
+    told = b"standard output" in answer.errors or b"Broken pipe" in answer.errors
+    return differing(answer, STREAM, b"") or (f"told: {answer.errors!r}" if told else None)
+
+
 def outputs(program):
-    """Standard output that takes nothing: status 6, and why on standard error; wrong words need no output."""
+    """Standard output that takes nothing: status 6, and why on standard error, but where its reader went away; wrong words need no output."""
+    for name, words in [*itertools.product(EXAMPLES, COMMANDS), ("sum", ["--help"])]:
+        run = partial(with_closed_pipe, program, words, text_of(name))
+        yield f"output a pipe without a reader: {name}: {' '.join(words)}", partial(wrong_without_reader, run)
     for kind, run in OUTPUTS.items():
         for name, words in itertools.product(EXAMPLES, COMMANDS):
             yield f"output {kind}: {name}: {' '.join(words)}", failing(partial(run, program, words, text_of(name)), "output")
@@ -108,7 +117,7 @@ def wrong_early_end(program, words, text, size, usual):
     answer, got = read_a_beginning(program, words, text, size)
     if len(usual.output) < 3 * SMALL_PIPE or not got[0] or not usual.output.startswith(got[0]):
         return f"read {got[0]!r} of {len(usual.output)} bytes"
-    return wrong_stream(answer, "output", b"")
+    return differing(answer, STREAM, b"") or (f"told: {answer.errors!r}" if answer.errors else None)
 
 
 def early_ends(program):
