@@ -26,7 +26,7 @@ ENVIRONMENT = {
     "OMPI_MCA_btl_vader_single_copy_mechanism": "none", "OMPI_MCA_btl": "vader,self",
 }
 # No run may take longer, in seconds.
-LONGEST = 60
+LONGEST = 300
 
 
 def has_mpi():
@@ -117,6 +117,9 @@ def wrong_when_killed(made):
     text = generated.program(generated.fibonacci(45, name=None)).encode()
     path = made.compiled("killed", text, words=["-O1"])
     with made.start(3, [path, "--limit", "1000000000000"]) as running:
+        until = time.monotonic() + LONGEST
+        while len(children_of(running.pid)) < 3 and time.monotonic() < until:
+            time.sleep(0.1)
         time.sleep(2)
         children = children_of(running.pid)
         if len(children) != 3:

@@ -5,7 +5,6 @@ ghost use Rattle.in_arena.specs.Arenas.{Leases, BeginsCell, IsOf, IsUsedOf, None
 ghost use Rattle.in_arena.specs.Bags.{IsBagOf, IsFor, IsInBag, LeasesTo, empty_bag};
 ghost use Rattle.in_arena.specs.Classes.{Holds, IsNumberOf, classes};
 ghost use Rattle.in_arena.specs.declared.content.CellClass.{CellClass as Class};
-ghost use Rattle.in_arena.specs.declared.content.CellClass.TheVariants.{Small};
 ghost use Rattle.in_arena.specs.declared.content.CellNo.{CellNo as Number};
 ghost use Rattle.in_arena.specs.declared.content.End.TheVariants.{Cell};
 ghost use Rattle.in_arena.specs.Changes.{HasAllCells};
@@ -208,20 +207,19 @@ impl Arena {
         ensures { self.new ≡ changed self.old cell.0 (with_end (state_at self.old cell.0) place end) }
     {
         let (class, index) = place_of(self.regions.cells, cell);
-        self.regions.set_word(class, index, place, end);
+        self.regions.set_word(class, index as usize, place, end);
     }
 
-    /// Writes it at a place of a live cell where that cell is a small one. Returns whether it is: an end that is a place of another cell, or a
-    /// free end, is left to the caller. Most agents have small cells, and there a place is found without a test for each class.
+    /// Writes it where `at` leads to, if that is a place of a live cell. Returns whether it is: a free end is left to the caller.
     #[inline(always)]
-    pub fn set_small(&mut self, at: EndWord, end: EndWord) -> bool
+    pub fn set_at(&mut self, at: EndWord, end: EndWord) -> bool
         requires { (c : Number) (p : ℕ) → at ≡ Cell c p → p < places (state_at self.old c.0) }
-        ensures small { result ≡ true → (c : Number) × (p : ℕ) × (at ≡ Cell c p) × (self.new ≡ changed self.old c.0 (with_end (state_at self.old c.0) p end)) }
-        ensures other { result ≡ false → (self.new ≡ self.old) × ((c : Number) (p : ℕ) → at ≡ Cell c p → IsNumberOf self.old.cells Small c.0 → ⊥) }
+        ensures cell { result ≡ true → (c : Number) × (p : ℕ) × (at ≡ Cell c p) × (self.new ≡ changed self.old c.0 (with_end (state_at self.old c.0) p end)) }
+        ensures free { result ≡ false → (self.new ≡ self.old) × ((c : Number) (p : ℕ) → at ≡ Cell c p → ⊥) }
     {
-        match at.place_below(self.regions.cells) {
-            Some((index, place)) => {
-                self.regions.set_small(index, place, end);
+        match at.place_among(self.regions.cells) {
+            Some((class, index, place)) => {
+                self.regions.set_word(class, index, place, end);
                 true
             }
             None => false,
@@ -239,48 +237,26 @@ impl Arena {
         Some(CellNo(number))
     }
 
-    /// A live cell is free, and a free cell of this class is live with this symbol word and so many places, as `begin` says, nothing more where
-    /// none of the class is free then. It is the same cell where that is one of this class, but which free cell it is is open.
+    /// A live cell that is one of this class is free, and then begun as `begin` does it. Returns whether it is one: else nothing changes.
     #[inline(always)]
-    pub fn begin_in(
+    pub fn begin_again(
         &mut self,
         cell: CellNo,
         class: CellClass,
         symbol: SymbolWord,
         places: u8,
-    ) -> Option<CellNo>
+    ) -> bool
         requires live { IsLive (state_at self.old cell.0) }
         requires many { Holds class places }
-        ensures { MatchOption result ((free_of (changed self.old cell.0 Vacant) class ≡ 0) × (self.new ≡ changed self.old cell.0 Vacant)) (λ c. BeginsCell class symbol places (changed self.old cell.0 Vacant) c.0 self.new) }
-    {
-        // Most cells are small, and most agents have small ones.
-        if class.number() == 0 && cell.0 < self.regions.cells {
-            self.regions
-                .renew(CellClass::Small, cell.0, symbol, u32::from(places));
-            return Some(cell);
-        }
-        self.begin_once_free(cell, class, symbol, places)
-    }
-
-    // The same for cells of all classes.
-    fn begin_once_free(
-        &mut self,
-        cell: CellNo,
-        class: CellClass,
-        symbol: SymbolWord,
-        places: u8,
-    ) -> Option<CellNo>
-        requires live { IsLive (state_at self.old cell.0) }
-        requires many { Holds class places }
-        ensures { MatchOption result ((free_of (changed self.old cell.0 Vacant) class ≡ 0) × (self.new ≡ changed self.old cell.0 Vacant)) (λ c. BeginsCell class symbol places (changed self.old cell.0 Vacant) c.0 self.new) }
+        ensures begun { result ≡ true → BeginsCell class symbol places (changed self.old cell.0 Vacant) cell.0 self.new }
+        ensures other { result ≡ false → (self.new ≡ self.old) × (IsNumberOf self.old.cells class cell.0 → ⊥) }
     {
         let (own, index) = place_of(self.regions.cells, cell);
         if own.number() == class.number() {
             self.regions.renew(own, index, symbol, u32::from(places));
-            return Some(cell);
+            return true;
         }
-        self.regions.retire(own, index);
-        self.begin(class, symbol, places)
+        false
     }
 
     /// A live cell has this symbol word and so many places from now on, the principal port's among them: as many as its class is for. What

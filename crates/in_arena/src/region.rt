@@ -257,12 +257,12 @@ impl<const WIDTH: usize> Region<WIDTH> {
 
     // Writes the end at a place of a live cell.
     #[inline(always)]
-    pub fn set_word(&mut self, index: u32, place: u8, end: EndWord)
+    pub fn set_word(&mut self, index: usize, place: u8, end: EndWord)
         requires { IsRegion self.old × (place < places (state_at self.old index)) }
         ensures { Becomes self.old self.new index (with_end (state_at self.old index) place end) }
     {
         let base = self.base;
-        self.cells.get_mut(base, index as usize).ends[place as usize] = end;
+        self.cells.get_mut(base, index).ends[place as usize] = end;
     }
 
     // A free cell is live with this symbol word and so many ends, which are open; nothing where none is free.

@@ -3,7 +3,7 @@ ghost use Rattle.std.specs.Prelude.{◌≡◌, ◌*◌, ◌<◌, ◌≤◌, ◌�
 ghost use Rattle.in_arena.specs.States.{State, Live, Vacant, IsLive, IsLeased, IsBegun, is_vacant, word_of, end_at, places, with_end, HasEnds};
 ghost use Rattle.in_arena.specs.Arenas.{written};
 ghost use Rattle.in_arena.specs.Classes.{Holds, classes, width};
-ghost use Rattle.in_arena.specs.declared.content.CellClass.TheVariants.{Small as Smallest, Wide as Widest};
+ghost use Rattle.in_arena.specs.declared.content.CellClass.TheVariants.{Wide as Widest};
 ghost use Rattle.in_arena.specs.Limiting.{most_cells};
 ghost use Rattle.in_arena.specs.Regions.{IsFreshRegion};
 ghost use Rattle.in_arena.specs.ByClass.{IsRegions, AreWhole, AreFresh, Become, BeginNumber, Lend, IsCellOf, IsHeldCell, IsPlace, IsSacks, IsOut, SacksBecome, HandOut, AreEmpty, row_of, cell_at, cell_view, index_of, sack_cell};
@@ -255,7 +255,7 @@ impl Regions {
 
     // Writes the end at a place of a live cell.
     #[inline(always)]
-    pub fn set_word(&mut self, class: CellClass, index: u32, place: u8, end: EndWord)
+    pub fn set_word(&mut self, class: CellClass, index: usize, place: u8, end: EndWord)
         requires { IsRegions self.old × (place < places (cell_at self.old class index)) }
         ensures { Become self.old self.new class index (with_end (cell_at self.old class index) place end) }
     {
@@ -264,15 +264,6 @@ impl Regions {
             CellClass::Large => self.large.set_word(index, place, end),
             CellClass::Wide => self.wide.set_word(index, place, end),
         }
-    }
-
-    // Writes the end at a place of a small live cell.
-    #[inline(always)]
-    pub fn set_small(&mut self, index: u32, place: u8, end: EndWord)
-        requires { IsRegions self.old × (place < places (cell_at self.old Smallest index)) }
-        ensures { Become self.old self.new Smallest index (with_end (cell_at self.old Smallest index) place end) }
-    {
-        self.small.set_word(index, place, end);
     }
 
     // A free cell of this class is live with this symbol word and so many ends, which are open; nothing where none is free. Returns its number

@@ -1,9 +1,12 @@
 // An end in one word.
-ghost use Rattle.std.specs.Prelude.{◌≡◌, ◌≢◌, ◌⊎◌, ◌<◌, ◌≤◌, ℕ, MatchOption};
+ghost use Rattle.std.specs.Prelude.{◌≡◌, ◌≢◌, ◌⊎◌, ◌*◌, ◌≤◌, ℕ, MatchOption, length};
+ghost use Rattle.in_arena.specs.ByClass.{IsPlace};
+ghost use Rattle.in_arena.specs.Classes.{classes};
+ghost use Rattle.in_arena.specs.Limiting.{most_cells};
 ghost use Rattle.in_arena.specs.declared.content.CellNo.{CellNo as Number};
 ghost use Rattle.in_arena.specs.declared.content.End.TheVariants.{Cell, Free};
 
-use crate::content::{CellNo, End};
+use crate::content::{CellClass, CellNo, End};
 use std::marker::Model;
 
 // From here on a word has a number.
@@ -106,14 +109,24 @@ impl EndWord {
         }
     }
 
-    // The number of its cell and its place, where it is a place of one of the first `cells` cells.
+    // The class of its cell, where that cell is in the region of the class, and the place, where there are `cells` cells of each class and it is a
+    // place of one of them.
     #[inline(always)]
-    pub fn place_below(self, cells: u32) -> Option<(u32, u8)>
-        ensures { MatchOption result ((c : Number) (p : ℕ) → self ≡ Cell c p → cells ≤ c.0) (λ x. (self ≡ Cell (record { 0 = x.0 }) x.1) × (x.0 < cells)) }
+    pub fn place_among(self, cells: u32) -> Option<(CellClass, usize, u8)>
+        requires { cells ≤ most_cells }
+        ensures { MatchOption result ((c : Number) (p : ℕ) → self ≡ Cell c p → length classes * cells ≤ c.0) (λ x. (c : Number) × (self ≡ Cell c x.2) × IsPlace cells c.0 x.0 x.1) }
     {
         let number = self.bits / ABOVE;
-        if number < u64::from(cells) {
-            Some((number as u32, (self.bits % ABOVE) as u8))
+        let place = self.bits % ABOVE;
+        let cells = u64::from(cells);
+        if number < cells {
+            Some((CellClass::Small, number as usize, place as u8))
+        } else if number < cells + cells {
+            let index = number - cells;
+            Some((CellClass::Large, index as usize, place as u8))
+        } else if number < cells + cells + cells {
+            let index = number - (cells + cells);
+            Some((CellClass::Wide, index as usize, place as u8))
         } else {
             None
         }

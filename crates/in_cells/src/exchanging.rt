@@ -9,10 +9,9 @@ fn write(arena: &mut Arena, ends: &mut [EndWord], at: EndWord, end: EndWord)
     requires { IsPlaceAt arena.old ends.old at }
     ensures { IsWritten at end arena.old ends.old arena.new ends.new }
 {
-    if !arena.set_small(at, end) {
-        match at.end() {
-            End::Cell(cell, place) => arena.set_word(cell, place, end),
-            End::Free(number) => ends[number as usize] = end,
+    if !arena.set_at(at, end) {
+        if let End::Free(number) = at.end() {
+            ends[number as usize] = end;
         }
     }
 }

@@ -1,2 +1,3 @@
 mod Built
+mod OneAnswer
 mod Read

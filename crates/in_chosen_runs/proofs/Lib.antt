@@ -1,1 +1,2 @@
 mod Choices
+mod OneEnd

@@ -43,17 +43,12 @@ impl Member {
         ensures { (a : AgentParts) → slice_get self.now.agents agent ≡ Some a → BeginsAgent a (changed arena.old cell.0 Vacant) result.0 arena.new }
     {
         self.is_sound();
-        let begun = arena.begin_in(
-            cell,
-            self.class(agent),
-            self.symbol(agent).0,
-            self.places(agent),
-        );
-        let Some(cell) = begun else {
-            // A cell of that class is free.
-            unreachable!()
-        };
-        cell
+        let class = self.class(agent);
+        if arena.begin_again(cell, class, self.symbol(agent).0, self.places(agent)) {
+            return cell;
+        }
+        arena.retire(cell);
+        self.begin(agent, arena)
     }
 }
 

@@ -13,10 +13,10 @@ pub use Rattle.in_reducer.proofs.Steps.Stepped.{free_is}
 pub use Rattle.in_reducer.proofs.Steps.StepsOn
 pub use Rattle.in_reducer.proofs.Steps.TakesNeed.{takes_its_need}
 pub use Rattle.in_reducer.proofs.Steps.Wired.{at_among}
-pub use Rattle.in_reducer.proofs.Numbers.Before.{apart_aside, f_aside, is_x, is_y, is_z, joined, number_below, one_run, one_step, reducer_runs, run_before, runs_on, same_run, stand_aside, step_before, takes_step}
+pub use Rattle.in_reducer.proofs.Numbers.Before.{IsAsideBy, joined, number_below, one_run, one_step, put_aside, reducer_runs, run_before, runs_on, same_run, stand_aside, step_before, takes_step}
 pub use Rattle.in_reducer.proofs.Numbers.Between.{between, from_to, renamed_between}
 pub use Rattle.in_reducer.proofs.Numbers.OfSame.{counted_same, over_under, reducer_same, start_same_as}
 pub use Rattle.in_reducer.proofs.Numbers.Renamed.{is_under, machine_under}
 pub use Rattle.in_reducer.proofs.Numbers.SameKind.{an_equivalence, same_self, same_through}
-pub use Rattle.in_reducer.proofs.Numbers.SameStep.{map_removed, map_same, map_twice, need_moved, pair_moved, rule_moved, same_step}
+pub use Rattle.in_reducer.proofs.Numbers.SameStep.{map_fixed, map_removed, map_same, map_twice, need_moved, pair_moved, rule_moved, same_step}
 pub use Rattle.in_reducer.proofs.Numbers.Aside.{pairs_aside_are_alike, point_stays}

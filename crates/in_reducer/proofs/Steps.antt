@@ -1,4 +1,5 @@
 -- One interaction.
+pub mod Agents
 pub mod Ahead
 pub mod Anew
 pub mod Besides

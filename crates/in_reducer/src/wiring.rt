@@ -27,7 +27,7 @@ use std::collections::VecDeque;
 pub(crate) const POINTS: usize = MOST_ENDS + MAX_MEMBER_AGENTS;
 
 /// Begins a cell for each agent from this one on, whose principal port is its point.
-fn begin_rest(member: &Member, from: u32, arena: &mut Arena, points: &mut [EndWord])
+fn begin_from(member: &Member, from: u32, arena: &mut Arena, points: &mut [EndWord])
     requires begun { (a : ArenaView) × CanBegin member.now a points.old × HasBegunBelow member.now a from arena.old points.old }
     requires few { from ≤ length member.now.agents }
     ensures begun { (a : ArenaView) → CanBegin member.now a points.old → HasBegunBelow member.now a from arena.old points.old → (ns : List Number) × HasBegun member.now ns a arena.new × AreAtAgents ns points.new }
@@ -39,6 +39,21 @@ fn begin_rest(member: &Member, from: u32, arena: &mut Arena, points: &mut [EndWo
         let cell = member.begin(agent, arena);
         points[MOST_ENDS + agent as usize] = EndWord::port(cell, 0);
     }
+}
+
+/// The same. Most right members have at most two agents, so that often none is left.
+#[inline(always)]
+fn begin_rest(member: &Member, from: u32, arena: &mut Arena, points: &mut [EndWord])
+    requires begun { (a : ArenaView) × CanBegin member.now a points.old × HasBegunBelow member.now a from arena.old points.old }
+    requires few { from ≤ length member.now.agents }
+    ensures begun { (a : ArenaView) → CanBegin member.now a points.old → HasBegunBelow member.now a from arena.old points.old → (ns : List Number) × HasBegun member.now ns a arena.new × AreAtAgents ns points.new }
+    ensures ends { (e : ℕ) → e < most_ends → slice_get points.new e ≡ slice_get points.old e }
+    ensures long { length points.new ≡ length points.old }
+{
+    if from == member.agents() {
+        return;
+    }
+    begin_from(member, from, arena, points);
 }
 
 /// Begins a cell for each agent, whose principal port is its point.
@@ -201,7 +216,7 @@ fn begin_in(member: &Member, pair: Pair, arena: &mut Arena, points: &mut [EndWor
 {
     member.is_sound();
     let many = member.agents();
-    if many < 2 {
+    if many == 0 {
         arena.retire(pair.one);
         arena.retire(pair.other);
         begin_rest(member, 0, arena, points);
@@ -209,6 +224,11 @@ fn begin_in(member: &Member, pair: Pair, arena: &mut Arena, points: &mut [EndWor
     }
     let first = member.begin_in(0, pair.one, arena);
     points[MOST_ENDS] = EndWord::port(first, 0);
+    if many == 1 {
+        arena.retire(pair.other);
+        begin_rest(member, 1, arena, points);
+        return;
+    }
     let second = member.begin_in(1, pair.other, arena);
     points[MOST_ENDS + 1] = EndWord::port(second, 0);
     begin_rest(member, 2, arena, points);

@@ -19,17 +19,13 @@ use Rattle.in_overwriting.specs.Overwriting.{IsSideAt}
 use Rattle.in_overwriting.proofs.Public.{wires_make_all_pairs}
 use Rattle.in_reducer.specs.Machines.{MachineParts, parts_of}
 use Rattle.in_reducer.specs.Reducers.{IsReducer}
-use Rattle.in_reducer.proofs.Public.{apart_aside, as_many_of, f_aside, is_under, is_x, is_y, is_z, machine_under, map_removed, need_moved, number_below, one_step, other_pair, pair_moved, reducer_same, rule_moved, symbol_moved, was_there}
+use Rattle.in_reducer.proofs.Public.{IsAsideBy, as_many_of, is_under, machine_under, map_fixed, map_removed, need_moved, number_below, one_step, other_pair, pair_moved, put_aside, reducer_same, rule_moved, symbol_moved, was_there}
 use Rattle.in_reducer.proofs.Public.StepsOn as reducers
 use Rattle.in_reducer.specs.Aside.{IsAside, IsReusing}
 use Rattle.in_reducer.specs.Same.{IsSameMachine, StepsUpToNumbers}
 use Rattle.in_reusing.specs.InPlace.{CanReuse}
 use Rattle.in_reusing.specs.StepsInPlace.{StepsInPlace, StepsInPlaceAreSteps, StepsInPlaceAreSame}
 use Rattle.in_reusing.proofs.InPlace.{can_m, side_m, side_n, steps}
-
-map_fixed : {X : Type 0} (g : X → X) (xs : List X) → ((k : ℕ) (x : X) → slice_get xs k ≡ Some x → g x ≡ x) → map g xs ≡ xs
-map_fixed g [] h = refl
-map_fixed {X} g (x ∷ xs) h = ap (λ (z : X). z ∷ map g xs) (h 0 x refl) ∙ ap (λ (zs : List X). x ∷ zs) (map_fixed g xs (λ k. h (suc k)))
 
 module _ (name : ℕ → ℕ) where
   -- more than the names of these
@@ -98,48 +94,35 @@ module _ (m o : MachineParts) (i : ℕ) (reducer : IsReducer m) (h : StepsInPlac
   other : far ≢ suc far
   other e = omega (arith, e)
 
-  f : ℕ → ℕ
-  f = f_aside m a b far (suc far) redex.differ other no_far no_next
+  moved : (f : ℕ → ℕ) × IsAsideBy m a b far (suc far) f
+  moved = put_aside m a b far (suc far) redex.differ other no_far no_next
 
-  f_one : f a ≡ far
-  unfolding f
-  f_one = is_x m a b far (suc far) redex.differ other no_far no_next
-
-  f_two : f b ≡ suc far
-  unfolding f
-  f_two = is_y m a b far (suc far) redex.differ other no_far no_next
-
-  f_old : (z : ℕ) → z ≢ a → z ≢ b → f z ≡ z
-  unfolding f
-  f_old = is_z m a b far (suc far) redex.differ other no_far no_next
-
-  f_apart : (u v : ℕ) → IsSome (before.symbol u) → IsSome (before.symbol v) → f u ≡ f v → u ≡ v
-  unfolding f
-  f_apart = apart_aside m a b far (suc far) redex.differ other no_far no_next
+  abbrev f : ℕ → ℕ
+  f = moved.0
 
   abbrev s : MachineParts
   s = machine_under f m
 
   same : IsSameMachine f m s
-  same = is_under f m f_apart
+  same = is_under f m moved.1.apart
 
   s_reducer : IsReducer s
   s_reducer = reducer_same m s reducer f same
 
   aside : IsAside before (net_of (parts_of s)) x f
-  aside = record { renamed = same.net; stays = f_old }
+  aside = record { renamed = same.net; stays = moved.1.old }
 
   reusing : IsReusing before x f h.name
   reusing = record {
     in_place = h.naming;
     aside = λ k k' e. (
-      (λ d. (let l = name_near k k' e in let z = f_one in omega (arith, d, l, z))),
-      (λ d. (let l = name_near k k' e in let z = f_two in omega (arith, d, l, z))),
+      (λ d. (let l = name_near k k' e in let z = moved.1.one in omega (arith, d, l, z))),
+      (λ d. (let l = name_near k k' e in let z = moved.1.two in omega (arith, d, l, z))),
     );
   }
 
   can : CanReuse (signature_of t) before x f h.name
-  can = record { net = net; inside = inside; redex = redex; none_back = h.none_back; reusing = reusing; beside = (ap before.symbol f_one ∙ no_far, ap before.symbol f_two ∙ no_next) }
+  can = record { net = net; inside = inside; redex = redex; none_back = h.none_back; reusing = reusing; beside = (ap before.symbol moved.1.one ∙ no_far, ap before.symbol moved.1.two ∙ no_next) }
 
   step : IsStep (signature_of t) (net_of (parts_of s)) (redex_at r (f a) (f b)) h.name (net_of (parts_of o))
   step = steps (signature_of t) before (net_of (parts_of s)) x f h.name can aside (net_of (parts_of o)) h.over
@@ -160,9 +143,9 @@ module _ (m o : MachineParts) (i : ℕ) (reducer : IsReducer m) (h : StepsInPlac
       let live = symbol_number (symbol_in (parts_of m) y.0) k old.2 in
       let out : (z : ℕ) → before.symbol z ≡ None → y.0 ≢ z = λ z none e. (let w : ◌≡◌ {A = Option ℕ} None (Some k.0) = sym none ∙ ap before.symbol (sym e) ∙ live in cc) in
       inl (
-        (λ e. out far no_far (ap (λ (z : AgentNo). z.0) e ∙ f_one)),
-        (λ e. out (suc far) no_next (ap (λ (z : AgentNo). z.0) e ∙ f_two)),
-        ap (symbol_in (parts_of s)) (sym (f_old y.0 not_a not_b)) ∙ symbol_moved f (parts_of m) (parts_of s) same.net y.0 k old.2,
+        (λ e. out far no_far (ap (λ (z : AgentNo). z.0) e ∙ moved.1.one)),
+        (λ e. out (suc far) no_next (ap (λ (z : AgentNo). z.0) e ∙ moved.1.two)),
+        ap (symbol_in (parts_of s)) (sym (moved.1.old y.0 not_a not_b)) ∙ symbol_moved f (parts_of m) (parts_of s) same.net y.0 k old.2,
       )
 
   symbol_back : (y : AgentNo) (k : SymbolNo) → HasSymbolAfter (parts_of s) r fa fb h.name y k → HasSymbolAfter (parts_of m) r (agents_at h.pair).0 (agents_at h.pair).1 h.name y k
@@ -171,7 +154,7 @@ module _ (m o : MachineParts) (i : ℕ) (reducer : IsReducer m) (h : StepsInPlac
       let z = (same.net.agents y.0 k.0).0 (symbol_number (symbol_in (parts_of s) y.0) k old.2) in
       let not_a : z.0 ≢ a = λ e. old.0 (agent_same y fa (sym z.1 ∙ ap f e)) in
       let not_b : z.0 ≢ b = λ e. old.1 (agent_same y fb (sym z.1 ∙ ap f e)) in
-      let is_y : z.0 ≡ y.0 = sym (f_old z.0 not_a not_b) ∙ z.1 in
+      let is_y : z.0 ≡ y.0 = sym (moved.1.old z.0 not_a not_b) ∙ z.1 in
       inl (
         (λ e. not_a (is_y ∙ ap (λ (z : AgentNo). z.0) e)),
         (λ e. not_b (is_y ∙ ap (λ (z : AgentNo). z.0) e)),
@@ -232,8 +215,8 @@ module _ (m o : MachineParts) (i : ℕ) (reducer : IsReducer m) (h : StepsInPlac
       ∙ map_fixed (both f) (remove m.queue i) (λ k q e. (
       let w = was_there m.queue i k q e in
       let d = other_pair t (parts_of m) (agents_at h.pair).0 (agents_at h.pair).1 m.queue i net reducer.queue h.stands w.0 q w.2 w.1 in
-      let one : f q.0 ≡ q.0 = f_old q.0 (λ z. d.1 (agent_same (agents_at q).0 (agents_at h.pair).0 z)) (λ z. d.2 (agent_same (agents_at q).0 (agents_at h.pair).1 z)) in
-      let two : f q.1 ≡ q.1 = f_old q.1 (λ z. d.3 (agent_same (agents_at q).1 (agents_at h.pair).0 z)) (λ z. d.4 (agent_same (agents_at q).1 (agents_at h.pair).1 z)) in
+      let one : f q.0 ≡ q.0 = moved.1.old q.0 (λ z. d.1 (agent_same (agents_at q).0 (agents_at h.pair).0 z)) (λ z. d.2 (agent_same (agents_at q).0 (agents_at h.pair).1 z)) in
+      let two : f q.1 ≡ q.1 = moved.1.old q.1 (λ z. d.3 (agent_same (agents_at q).1 (agents_at h.pair).0 z)) (λ z. d.4 (agent_same (agents_at q).1 (agents_at h.pair).1 z)) in
       ap (λ (z : ℕ). let w : ℕ × ℕ = (z, f q.1) in w) one ∙ ap (λ (z : ℕ). let w : ℕ × ℕ = (q.0, z) in w) two
       ))
 

@@ -107,7 +107,7 @@ module _ (text : List ℕ) (p : Program) (l : Limits) (accepted : IsAccepted tex
 pub turns_are_allowed : TurnsAreAllowed
 turns_are_allowed text p l (Ok o) accepted h = ((reaches_in_turn text p l accepted h.0 h.1 o.interactions o.machine h.2.run, h.2.within, h.2.stop), λ _. h)
 turns_are_allowed text p l (Err (Start f)) accepted h = (h, λ _. h)
-turns_are_allowed text p l (Err (Memory m k)) accepted h = ((reaches_in_turn text p l accepted h.0 h.1 k m h.2, h.3), λ _. h)
+turns_are_allowed text p l (Err (Memory m k)) accepted h = absurd h
 
 -- ---- further on
 

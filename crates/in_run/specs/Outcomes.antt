@@ -11,8 +11,7 @@ use Rattle.in_reducer.specs.Starts.{IsStart}
 use Rattle.in_machine.specs.Machines.{IsMachine}
 use Rattle.in_machine.specs.Starts.{IsNoStart}
 use Rattle.in_machine.specs.declared.starting.StartFault.{StartFault}
-use Rattle.in_reducer.specs.Runs.{Runs}
-use Rattle.in_run.specs.Stops.{GoesOn, IsOutcome, IsStop}
+use Rattle.in_run.specs.Stops.{IsOutcome, IsStop}
 
 -- ---- in any order
 
@@ -25,11 +24,11 @@ pub record ReachesWith (p : Program) (cells k : ℕ) (m : MachineParts) : Type 0
   pub counted : HasCells cells m
   pub reached : IsReachedBy (plain_of m) k
 
--- what a run comes to within the limits. Or there is no start; or memory ran out after k interactions, where another one was next
+-- what a run comes to within the limits. Or there is no start; no run is refused once it has one
 abbrev pub RunsInAnyOrder : Program → Limits → Result Outcome RunFault → Type 0
 RunsInAnyOrder p l (Ok o) = ReachesWith p l.cells o.interactions o.machine × (o.interactions ≤ l.limit) × IsStop l.limit o.machine o.interactions o.stop
 RunsInAnyOrder p l (Err (Start f)) = IsNoStart p l.cells f
-RunsInAnyOrder p l (Err (Memory m k)) = ReachesWith p l.cells k m × GoesOn l.limit m k
+RunsInAnyOrder p l (Err (Memory m k)) = ⊥
 
 -- ---- in turn
 
@@ -37,7 +36,7 @@ RunsInAnyOrder p l (Err (Memory m k)) = ReachesWith p l.cells k m × GoesOn l.li
 abbrev pub RunsInTurn : Program → Limits → Result Outcome RunFault → Type 0
 RunsInTurn p l (Ok o) = (start : MachineParts) × IsStart p l.cells start × IsOutcome start l.limit o.machine o.interactions o.stop
 RunsInTurn p l (Err (Start f)) = IsNoStart p l.cells f
-RunsInTurn p l (Err (Memory m k)) = (start : MachineParts) × IsStart p l.cells start × Runs start k m × GoesOn l.limit m k
+RunsInTurn p l (Err (Memory m k)) = ⊥
 
 -- ---- as the limits say
 

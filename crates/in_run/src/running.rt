@@ -27,7 +27,7 @@ pub struct Outcome<'a> {
 }
 
 /// Why a run has no outcome: there is no machine, or memory ran out after some interactions, and then the machine stands there. No run answers
-/// the second: a phase for which memory runs out has fewer parts.
+/// the second, which its contract says: a phase for which memory runs out has fewer parts.
 #[derive(Drop)]
 pub enum RunFault<'a> {
     Start(StartFault),
@@ -71,6 +71,7 @@ pub fn run_watched<'a, R: Threads, W: Watch>(
     };
     let mut interactions = 0;
     let mut pace = Pace::begin(alloc);
+    watch.look(progress_of(&machine, limits.cells(), interactions, &pace));
     loop {
         if let Some(stop) = stop(&machine, limits.limit(), interactions) {
             watch.end(progress_of(&machine, limits.cells(), interactions, &pace));

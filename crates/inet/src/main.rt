@@ -6,7 +6,10 @@
 //! run is, and counts for figures. The streams keep why a read or a write failed, and `serve` tells it.
 #![tactic(auto)]
 
-ghost use Rattle.std.specs.Prelude.{◌-◌, ◌<◌, ◌^◌};
+ghost use Rattle.std.specs.Prelude.{◌≡◌, ◌⊎◌, ◌-◌, ◌<◌, ◌^◌, None};
+ghost use Rattle.in_program.specs.Acting.{Acts, Tells, fault_status, memory_status};
+ghost use Rattle.in_program.specs.Lines.{memory_line};
+ghost use Rattle.in_syntax.specs.Streams.{Reader};
 
 mod keeping;
 #[cfg(test)]
@@ -86,6 +89,7 @@ fn answer_text<T: Threads + Clock, R: Read + Drop, W: TextOut, E: Write>(
     console: Console,
 ) -> Status
     requires { (W.device output.old).failures < 2 ^ 64 - 1 }
+    ensures { (r r2 : Reader) × Acts request.now.action r r2 (W.device output.old) (W.device output.new) result }
 {
     let mut input = KeepingIn::new(alloc, StreamIn::new(reader));
     let mut watch = Watching::new(rt, alloc, &mut *errors, console.tells, request.stats);
@@ -110,11 +114,13 @@ fn answer_text<T: Threads + Clock, R: Read + Drop, W: TextOut, E: Write>(
 /// Tells that memory ran out.
 fn tell_memory<W: TextOut>(output: &mut W) -> Status
     requires { (W.device output.old).failures < 2 ^ 64 - 1 }
+    ensures { Tells (W.device output.old) (W.device output.new) memory_line memory_status result }
 {
     tell(output, b"memory\n", Status(5))
 }
 
-/// The same with the text of the file that is named, or of standard input.
+/// The same with the text of the file that is named, or of standard input. Where the file can't be opened, nothing is written, or that memory ran
+/// out.
 fn answer<T: Threads + Clock + Files, R: Read + Drop, W: TextOut, E: Write>(
     rt: &T,
     alloc: Global,
@@ -125,6 +131,9 @@ fn answer<T: Threads + Clock + Files, R: Read + Drop, W: TextOut, E: Write>(
     console: Console,
 ) -> Status
     requires { (W.device output.old).failures < 2 ^ 64 - 1 }
+    ensures input { request.now.file ≡ None → (r r2 : Reader) × Acts request.now.action r r2 (W.device output.old) (W.device output.new) result }
+    ensures file { ((r r2 : Reader) × Acts request.now.action r r2 (W.device output.old) (W.device output.new) result)
+        ⊎ (Tells (W.device output.old) (W.device output.new) memory_line memory_status result ⊎ ((W.device output.new ≡ W.device output.old) × (result ≡ fault_status))) }
 {
     let Some(file) = request.file else {
         if console.reads {

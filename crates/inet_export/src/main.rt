@@ -4,7 +4,11 @@
 //! Where the text is refused, it lets `in_program::report` write what `inet check` writes.
 #![tactic(auto)]
 
-ghost use Rattle.std.specs.Prelude.{◌-◌, ◌<◌, ◌^◌};
+ghost use Rattle.std.specs.Prelude.{◌≡◌, ◌⊎◌, ◌-◌, ◌<◌, ◌^◌};
+ghost use Rattle.in_check.specs.Checking.{IsAccepted};
+ghost use Rattle.in_check.specs.Programs.{Program};
+ghost use Rattle.in_export.specs.Programs.{program_line};
+ghost use Rattle.in_program.specs.Acting.{IsReply, TellsOne, report_action, status};
 
 use in_export::export;
 use in_program::{Device, Status, StreamOut, report_text, tell, tell_failure};
@@ -103,6 +107,7 @@ fn read_text<R: Read>(alloc: Global, reader: &mut R) -> io::Result<Vec<u8>> {
 /// Writes the line of a text's program; where the text is refused, what `inet check` writes on it; or that memory ran out.
 fn tell_program<W: TextOut>(alloc: Global, writer: &mut W, text: &[u8]) -> Status
     requires { (W.device writer.old).failures < 2 ^ 64 - 1 }
+    ensures { TellsOne (λ lines s. ((p : Program) × IsAccepted text.now p × (lines ≡ program_line p) × (s ≡ status 0)) ⊎ IsReply (report_action false) text.now lines s) (W.device writer.old) (W.device writer.new) result }
 {
     match export(alloc, text) {
         Ok(line) => tell(writer, line.as_slice(), WRITTEN),

@@ -2,7 +2,7 @@
 use Rattle.std.proofs.Common.{◌≡◌, ◌⊎◌, inl, inr, ◌-◌, ℕ, zero, suc, Bool, true, false, cond, Option, Some, None, IsSome, refl, sym, ap, subst, ◌∙◌, arith}
 use native.Mathlib.Decide.{ℕ_discrete}
 use Rattle.std.proofs.lemmas.Option.{same_Some}
-use Rattle.in_net.specs.Interactions.{Redex, IsRedex, IsOfPair, IsNaming, of_first, end_agent, end_place}
+use Rattle.in_net.specs.Interactions.{Redex, IsRedex, IsOfPair, of_first, end_agent, end_place}
 use Rattle.in_net.specs.Nets.{Point, Port, Free, Signature, Net, IsNet}
 use Rattle.in_net.proofs.Public.{port_agent, port_place}
 use Rattle.in_net.specs.Renaming.{renamed}

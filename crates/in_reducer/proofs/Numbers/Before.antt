@@ -455,19 +455,26 @@ one_step m n o i h (s, one, step) (z, two, other) =
 
 -- ---- two agents aside
 
+-- these numbers move two agents there and no other one, and keep all apart
+pub record IsAsideBy (m : MachineParts) (a b x y : ℕ) (f : ℕ → ℕ) : Type 0 where
+  pub one : f a ≡ x
+  pub two : f b ≡ y
+  pub old : (z : ℕ) → z ≢ a → z ≢ b → f z ≡ z
+  pub apart : (u v : ℕ) → IsSome ((net_of (parts_of m)).symbol u) → IsSome ((net_of (parts_of m)).symbol v) → f u ≡ f v → u ≡ v
+
 module _ (m : MachineParts) (a b x y : ℕ) (differ : a ≢ b) (other : x ≢ y) (no_x : (net_of (parts_of m)).symbol x ≡ None) (no_y : (net_of (parts_of m)).symbol y ≡ None) where
-  pub f_aside : ℕ → ℕ
+  f_aside : ℕ → ℕ
   f_aside = chosen (λ z. z) a b x y
 
-  pub is_x : f_aside a ≡ x
+  is_x : f_aside a ≡ x
   unfolding f_aside
   is_x = chosen_one (λ z. z) a b x y
 
-  pub is_y : f_aside b ≡ y
+  is_y : f_aside b ≡ y
   unfolding f_aside
   is_y = chosen_two (λ z. z) a b x y differ
 
-  pub is_z : (z : ℕ) → z ≢ a → z ≢ b → f_aside z ≡ z
+  is_z : (z : ℕ) → z ≢ a → z ≢ b → f_aside z ≡ z
   unfolding f_aside
   is_z = chosen_old (λ z. z) a b x y
 
@@ -485,7 +492,7 @@ module _ (m : MachineParts) (a b x y : ℕ) (differ : a ≢ b) (other : x ≢ y)
   not_there : (z u : ℕ) → IsSome ((net_of (parts_of m)).symbol z) → (net_of (parts_of m)).symbol u ≡ None → z ≢ u
   not_there z u live none e = let k = has_value ((net_of (parts_of m)).symbol z) live in let w : ◌≡◌ {A = Option ℕ} None (Some k.0) = sym none ∙ ap (net_of (parts_of m)).symbol (sym e) ∙ k.1 in cc
 
-  pub apart_aside : (u v : ℕ) → IsSome ((net_of (parts_of m)).symbol u) → IsSome ((net_of (parts_of m)).symbol v) → f_aside u ≡ f_aside v → u ≡ v
+  apart_aside : (u v : ℕ) → IsSome ((net_of (parts_of m)).symbol u) → IsSome ((net_of (parts_of m)).symbol v) → f_aside u ≡ f_aside v → u ≡ v
   apart_aside u v live_u live_v e = go (kind_aside u) (kind_aside v)
     where
       go : Kind_aside u → Kind_aside v → u ≡ v
@@ -498,6 +505,9 @@ module _ (m : MachineParts) (a b x y : ℕ) (differ : a ≢ b) (other : x ≢ y)
       go (inr (inr p)) (inl q) = absurd (not_there u x live_u no_x (sym p ∙ e ∙ q.1))
       go (inr (inr p)) (inr (inl q)) = absurd (not_there u y live_u no_y (sym p ∙ e ∙ q.1))
       go (inr (inr p)) (inr (inr q)) = sym p ∙ e ∙ q
+
+  pub put_aside : (f : ℕ → ℕ) × IsAsideBy m a b x y f
+  put_aside = (f_aside, record { one = is_x; two = is_y; old = is_z; apart = apart_aside })
 
   pub stand_aside : (s : MachineParts) × (f : ℕ → ℕ) × IsSameMachine f m s × (f a ≡ x) × (f b ≡ y) × ((z : ℕ) → z ≢ a → z ≢ b → f z ≡ z)
   stand_aside = (machine_under f_aside m, f_aside, is_under f_aside m apart_aside, is_x, is_y, is_z)

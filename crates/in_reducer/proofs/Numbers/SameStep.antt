@@ -52,6 +52,10 @@ map_removed f [] (suc i) = refl
 map_removed f (x ∷ xs) zero = refl
 map_removed f (x ∷ xs) (suc i) = ap (λ zs. f x ∷ zs) (map_removed f xs i)
 
+pub map_fixed : {X : Type 0} (g : X → X) (xs : List X) → ((k : ℕ) (x : X) → slice_get xs k ≡ Some x → g x ≡ x) → map g xs ≡ xs
+map_fixed g [] h = refl
+map_fixed {X} g (x ∷ xs) h = ap (λ (z : X). z ∷ map g xs) (h 0 x refl) ∙ ap (λ (zs : List X). x ∷ zs) (map_fixed g xs (λ k. h (suc k)))
+
 -- ---- an interaction apart from the record that it is in
 
 pub record Acts (p : Program) (m : MachineParts) (pair : ℕ × ℕ) (r : RuleParts) (o : MachineParts) : Type 0 where

@@ -1,12 +1,12 @@
 -- Where a pair to which no wire leads back is retired, and new agents are begun then, also in its cells, the wires can be written: as in the
 -- net in which the pair has numbers of no cell.
-use Rattle.std.proofs.Common.{◌≡◌, ◌≢◌, ◌⊎◌, ◌↔◌, inl, inr, ◌<◌, ◌≤◌, ℕ, suc, Option, Some, None, List, length, map, slice_get, refl, sym, ap, subst, ◌∙◌, arith}
+use Rattle.std.proofs.Common.{◌≡◌, ◌≢◌, ◌⊎◌, inl, inr, ◌<◌, ◌≤◌, ℕ, Option, Some, None, List, length, map, slice_get, refl, sym, ap, subst, ◌∙◌, arith}
 use native.Mathlib.Decide.{ℕ_discrete}
 use Rattle.std.proofs.lemmas.List.{length-set}
 use Rattle.std.specs.Prelude.{IsSomeAnd, IsTrue}
 use Rattle.in_base.proofs.Options.{none_of}
 use Rattle.in_arena.specs.Arenas.{ArenaView, changed, state_at}
-use Rattle.in_arena.specs.States.{State, Vacant, word_of, end_at, places}
+use Rattle.in_arena.specs.States.{State, Vacant, word_of, end_at}
 use Rattle.in_arena.specs.declared.content.CellNo.{CellNo}
 use Rattle.in_arena.specs.declared.content.End.{End}
 use Rattle.in_arena.proofs.Public.{live_inside, word_live}
@@ -14,7 +14,6 @@ use Rattle.in_symbols.specs.Tables.{Tables, arity_of}
 use Rattle.in_net.specs.Interactions.{Redex, IsOfPair, end_agent, end_place, redex_at}
 use Rattle.in_net.specs.Nets.{Point, Port, Free, Net, Signature, IsPoint, net_of, signature_of}
 use Rattle.in_net.specs.Parts.{Parts}
-use Rattle.in_net.specs.Renaming.{renamed}
 use Rattle.in_interaction.proofs.Public.{has_value, outer_next}
 use Rattle.in_cells.specs.Between.{Interaction, before, redex_of}
 use Rattle.in_cells.specs.Shown.{end_of, stands_at}
@@ -31,6 +30,8 @@ use Rattle.in_reducer.specs.Interacting.{PairSetting, IsAbout, interaction_of, n
 use Rattle.in_reducer.specs.Sides.{end_there, port_at}
 use Rattle.in_reducer.specs.Wiring.{AreAtAgents, AreLive, HasBegun, IsSetAside, IsSideAfter, IsSideOf, IsWiring, aside_of, retired, wires_of}
 use Rattle.in_reducer.proofs.Numbers.Aside.{pairs_aside_are_alike}
+use Rattle.in_reducer.proofs.Steps.Agents as agents
+use Rattle.in_reducer.proofs.Steps.Agents.{HoldsAgents}
 use Rattle.in_reducer.proofs.Steps.Laid as laid
 use Rattle.in_reducer.proofs.Steps.Laid.{in_or_out}
 use Rattle.in_reducer.proofs.Steps.Reading as read
@@ -120,33 +121,11 @@ module _ (t : Tables) (s : PairSetting) (p : TemplateParts) (pair : Pair) (own :
       let not_two : y ≢ s.two.0 = (λ e. (let v : None ≡ Some z = sym (ap word_of (ap (state_at (retired pair old)) e ∙ two_gone)) ∙ w in cc)) in
       (not_one, not_two, about.shown.agents y ∙ sym (ap word_of (others y not_one not_two)) ∙ w)
 
-  symbols : (y z : ℕ) → (word_of (state_at now y) ≡ Some z) ↔ IsAgent y z
-  symbols y z = (forth (in_or_out ns y), back)
-    where
-      forth : laid.InOrOut ns y → word_of (state_at now y) ≡ Some z → IsAgent y z
-      forth (inr out) w =
-          let b = stood_before y z (sym (ap word_of (begun.others y out)) ∙ w) in
-          let a = not_aside y z w in
-          inl (a.0, a.1, agent_forth y z b.0 b.1 b.2)
-      forth (inl at) w =
-          let a = laid.begun_whose t s.rule.member about.member_over p.member about.template.member ns (retired pair old) now begun at.0 y at.1 in
-          let symbol = laid.symbol_of t s.rule.member about.member_over p.member about.template.member at.0 a.0 a.1 in
-          let there = laid.begun_word t s.rule.member about.member_over p.member about.template.member ns (retired pair old) now begun at.0 a.0.symbol.0 symbol in
-          let same : a.0.symbol.0 ≡ z = (let g : Some a.0.symbol.0 ≡ Some z = sym there ∙ ap (λ (y : ℕ). word_of (state_at now y)) a.2 ∙ w in cc) in
-          inr (at.0, a.2, symbol ∙ ap (λ (z : ℕ). Some z) same)
-
-      back : IsAgent y z → word_of (state_at now y) ≡ Some z
-      back (inl (g, h, e)) = let b = agent_back y z g h e in ap word_of (stays y z b.0 b.1 b.2) ∙ sym (about.shown.agents y) ∙ b.2
-      back (inr (k, name, e)) =
-          ap (λ (y : ℕ). word_of (state_at now y)) (sym name) ∙ laid.begun_word t s.rule.member about.member_over p.member about.template.member ns (retired pair old) now begun k z e
-
-  all_places : (y z : ℕ) → word_of (state_at now y) ≡ Some z → places (state_at now y) ≡ suc (arity_of t z)
-  all_places y z w = go ((symbols y z).0 w)
-    where
-      go : IsAgent y z → places (state_at now y) ≡ suc (arity_of t z)
-      go (inl (g, h, e)) = let b = agent_back y z g h e in ap places (stays y z b.0 b.1 b.2) ∙ read.old_places t s p pair own old ends about y z b.2
-      go (inr (k, name, e)) =
-          ap (λ (y : ℕ). places (state_at now y)) (sym name) ∙ laid.begun_places t s.rule.member about.member_over p.member about.template.member ns (retired pair old) now begun k z e
+  held : HoldsAgents t now IsAgent
+  held =
+      agents.held t s p pair own old ends about ns (retired pair old) now begun (λ y z. (y ≢ f s.one.0) × (y ≢ f s.two.0) × ((net_of n).symbol y ≡ Some z))
+      (λ y z here w. (let b = stood_before y z w in let a = not_aside y z here in (a.0, a.1, agent_forth y z b.0 b.1 b.2)))
+      (λ y z h. (let b = agent_back y z h.0 h.1 h.2 in (stays y z b.0 b.1 b.2, b.2)))
 
   -- ---- names
 
@@ -235,8 +214,8 @@ module _ (t : Tables) (s : PairSetting) (p : TemplateParts) (pair : Pair) (own :
       all = all_wires;
       own_ends = own_is;
       room = (let r = about.room in omega (arith, r));
-      symbols = symbols;
-      places = all_places;
+      symbols = held.symbols;
+      places = held.places;
       written = λ j p q u v low. absurd (omega (arith, low));
       still = still;
     };

@@ -1,20 +1,17 @@
 -- Where new agents are begun beside a pair to which no wire leads back, and the pair is retired, the wires can be written.
-use Rattle.std.proofs.Common.{◌≡◌, ◌≢◌, ◌⊎◌, ◌↔◌, inl, inr, ◌<◌, ◌≤◌, ◌+◌, ◌-◌, ℕ, suc, Bool, cond, nat_lt, Option, Some, None, List, length, map, take, slice_get, refl, sym, ap, subst, ◌∙◌, get_or-set_same, get_or-set_other, arith}
+use Rattle.std.proofs.Common.{◌≡◌, ◌≢◌, ◌⊎◌, ◌↔◌, inl, inr, ◌<◌, ◌≤◌, ℕ, suc, Option, Some, None, List, length, map, slice_get, refl, sym, ap, subst, ◌∙◌, arith}
 use native.Mathlib.Decide.{ℕ_discrete}
-use Rattle.std.specs.Prelude.{option_map, IsSomeAnd, IsTrue}
-use Rattle.in_arena.specs.Arenas.{ArenaView, changed, state_at}
-use Rattle.in_arena.specs.States.{State, Vacant, Leased, Live, IsLive, word_of, end_at, places}
+use Rattle.std.specs.Prelude.{IsSomeAnd, IsTrue}
+use Rattle.in_arena.specs.Arenas.{ArenaView, state_at}
+use Rattle.in_arena.specs.States.{State, Vacant, word_of, end_at, places}
 use Rattle.in_arena.specs.declared.content.CellNo.{CellNo}
 use Rattle.in_arena.specs.declared.content.End.{End}
-use Rattle.in_arena.proofs.Public.{live_inside, word_live}
 use Rattle.in_symbols.specs.Tables.{Tables, arity_of}
 use Rattle.in_net.specs.Interactions.{IsOfPair, end_agent, end_place}
 use Rattle.in_net.specs.Nets.{Point, Port, Free, Net, net_of, signature_of}
-use Rattle.in_interaction.proofs.Public.{has_value}
-use Rattle.in_base.proofs.Each.{at_index}
 use Rattle.in_cells.specs.Between.{Interaction, IsDone, before, redex_of}
-use Rattle.in_cells.specs.Shown.{end_of, point_of, stands_at}
-use Rattle.in_cells.proofs.Public.{place_within, point_end, take_at}
+use Rattle.in_cells.specs.Shown.{end_of, stands_at}
+use Rattle.in_cells.proofs.Public.{take_at}
 use Rattle.in_compile.specs.Templates.{TemplateParts}
 use Rattle.in_compile.specs.Wires.{both_points, over_of, over_point, within_of}
 use Rattle.in_compile.proofs.Public.{over_ends, wires_within}
@@ -26,8 +23,8 @@ use Rattle.in_reducer.specs.Inside.{most_ends, most_points}
 use Rattle.in_reducer.specs.Interacting.{PairSetting, IsAbout, interaction_of, named}
 use Rattle.in_reducer.specs.Sides.{end_there, port_at}
 use Rattle.in_reducer.specs.Wiring.{AreAtAgents, AreLive, CanRead, HasBegun, IsSideOf, IsWiring, retired, wires_of}
-use Rattle.in_reducer.proofs.Steps.Laid as laid
-use Rattle.in_reducer.proofs.Steps.Laid.{in_or_out}
+use Rattle.in_reducer.proofs.Steps.Agents as agents
+use Rattle.in_reducer.proofs.Steps.Agents.{HoldsAgents}
 use Rattle.in_reducer.proofs.Steps.Reading as read
 use Rattle.in_reducer.proofs.Steps.SetUp as ready
 use Rattle.in_reducer.proofs.Steps.SetUp.{AgentsStay}
@@ -57,30 +54,8 @@ module _ (t : Tables) (s : PairSetting) (p : TemplateParts) (pair : Pair) (own :
   stays : AgentsStay (net_of s.net) old now
   stays = ready.begun_stays t s p pair own old ends about ns now begun
 
-  symbols : (y z : ℕ) → (word_of (state_at now y) ≡ Some z) ↔ IsAgent y z
-  symbols y z = (forth (in_or_out ns y), back)
-    where
-      forth : laid.InOrOut ns y → word_of (state_at now y) ≡ Some z → IsAgent y z
-      forth (inr out) w = inl (about.shown.agents y ∙ sym (ap word_of (begun.others y out)) ∙ w)
-      forth (inl at) w =
-          let a = laid.begun_whose t s.rule.member about.member_over p.member about.template.member ns old now begun at.0 y at.1 in
-          let symbol = laid.symbol_of t s.rule.member about.member_over p.member about.template.member at.0 a.0 a.1 in
-          let there = laid.begun_word t s.rule.member about.member_over p.member about.template.member ns old now begun at.0 a.0.symbol.0 symbol in
-          let same : a.0.symbol.0 ≡ z = (let f : Some a.0.symbol.0 ≡ Some z = sym there ∙ ap (λ (y : ℕ). word_of (state_at now y)) a.2 ∙ w in cc) in
-          inr (at.0, a.2, symbol ∙ ap (λ (z : ℕ). Some z) same)
-
-      back : IsAgent y z → word_of (state_at now y) ≡ Some z
-      back (inl f) = ap word_of (stays y z f) ∙ sym (about.shown.agents y) ∙ f
-      back (inr (k, name, f)) =
-          ap (λ (y : ℕ). word_of (state_at now y)) (sym name) ∙ laid.begun_word t s.rule.member about.member_over p.member about.template.member ns old now begun k z f
-
-  all_places : (y z : ℕ) → word_of (state_at now y) ≡ Some z → places (state_at now y) ≡ suc (arity_of t z)
-  all_places y z w = go ((symbols y z).0 w)
-    where
-      go : IsAgent y z → places (state_at now y) ≡ suc (arity_of t z)
-      go (inl f) = ap places (stays y z f) ∙ read.old_places t s p pair own old ends about y z f
-      go (inr (k, name, f)) =
-          ap (λ (y : ℕ). places (state_at now y)) (sym name) ∙ laid.begun_places t s.rule.member about.member_over p.member about.template.member ns old now begun k z f
+  held : HoldsAgents t now IsAgent
+  held = agents.held t s p pair own old ends about ns old now begun (λ y z. (before x).symbol y ≡ Some z) (λ y z here w. about.shown.agents y ∙ w) (λ y z f. (stays y z f, f))
 
   still : (u v : Point ℕ) → (net_of s.net).partner u ≡ Some v → stands_at now ends u ≡ Some (end_of v)
   still (Port y i) v w = ap (λ (c : State). end_at c i) (stays y symbol.0 symbol.1) ∙ read.stood t s p pair own old ends about (Port y i) v w
@@ -168,17 +143,17 @@ module _ (t : Tables) (s : PairSetting) (p : TemplateParts) (pair : Pair) (own :
         forth : Where y → word_of (state_at b y) ≡ Some z → IsAgentAfter y z
         forth (at_one f) w = absurd (no_word_one y z f w)
         forth (at_two f) w = absurd (no_word_two y z f w)
-        forth (other f g) w = go ((symbols y z).0 (sym (ap word_of (others y f g)) ∙ w))
+        forth (other f g) w = go ((held.symbols y z).0 (sym (ap word_of (others y f g)) ∙ w))
           where
             go : IsAgent y z → IsAgentAfter y z
             go (inl old) = inl (f, g, old)
             go (inr new) = inr new
 
         back : IsAgentAfter y z → word_of (state_at b y) ≡ Some z
-        back (inl (f, g, old)) = ap word_of (others y f g) ∙ (symbols y z).1 (inl old)
+        back (inl (f, g, old)) = ap word_of (others y f g) ∙ (held.symbols y z).1 (inl old)
         back (inr (k, name, new)) =
             let apart = new_other k z new in
-            ap word_of (others y (λ same. apart.0 (name ∙ same)) (λ same. apart.1 (name ∙ same))) ∙ (symbols y z).1 (inr (k, name, new))
+            ap word_of (others y (λ same. apart.0 (name ∙ same)) (λ same. apart.1 (name ∙ same))) ∙ (held.symbols y z).1 (inr (k, name, new))
 
     places_after : (y z : ℕ) → word_of (state_at b y) ≡ Some z → places (state_at b y) ≡ suc (arity_of t z)
     places_after y z w = go (where_is y)
@@ -186,7 +161,7 @@ module _ (t : Tables) (s : PairSetting) (p : TemplateParts) (pair : Pair) (own :
         go : Where y → places (state_at b y) ≡ suc (arity_of t z)
         go (at_one f) = absurd (no_word_one y z f w)
         go (at_two f) = absurd (no_word_two y z f w)
-        go (other f g) = ap places (others y f g) ∙ all_places y z (sym (ap word_of (others y f g)) ∙ w)
+        go (other f g) = ap places (others y f g) ∙ held.places y z (sym (ap word_of (others y f g)) ∙ w)
 
     still_after : (u v : Point ℕ) → (net_of s.net).partner u ≡ Some v → (IsOfPair (redex_of x) u → ⊥) → stands_at b ends u ≡ Some (end_of v)
     still_after (Port y i) v w away = ap (λ (c : State). end_at c i) (others y (λ f. away (inl f)) (λ f. away (inr f))) ∙ still (Port y i) v w

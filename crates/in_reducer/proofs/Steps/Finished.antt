@@ -1,5 +1,5 @@
 -- An interaction that is finished where the right member stands beside its pair: what its steps owe, and what it leaves.
-use Rattle.std.proofs.Common.{◌≡◌, ◌<◌, ◌≤◌, ◌+◌, ℕ, List, [], ◌++◌, map, remove, reverse, length, get_or, slice_get, Some, sym, ap, subst, ◌∙◌, arith, refl}
+use Rattle.std.proofs.Common.{◌≡◌, ◌<◌, ◌≤◌, ◌+◌, ℕ, List, [], ◌++◌, map, remove, reverse, length, get_or, sym, ap, subst, ◌∙◌, arith, refl}
 use Rattle.std.specs.VecDeque.{deque_capacity}
 use Rattle.std.proofs.lemmas.Option.{same_Some, slice_get_within, slice_get_read}
 use Rattle.in_arena.specs.Arenas.{ArenaView}
@@ -55,12 +55,6 @@ module _ (r : Body) (a : ArenaView) (i : ℕ) (p : TemplateParts) (sb : StandsBe
             (ap (λ (z : ℕ × ℕ). z.0) (sym same_pair)) (ap (λ (z : ℕ × ℕ). z.1) (sym same_pair)) is_first own (own_is own is_own) ends is_ends,
         sb.put,
       )
-
-  pub pairs_there : (j : ℕ) (q : ℕ × ℕ) → slice_get p.member.pairs j ≡ Some q → (q.0 < length r.tools.placed.cells) × (q.1 < length r.tools.placed.cells)
-  pairs_there j q e =
-      let there = stepped.pairs_there (over a r) sb.net i p sb.at j q e in
-      let many = sb.put.count in
-      ((let l = there.0 in omega (arith, l, many)), (let l = there.1 in omega (arith, l, many)))
 
   module _ (own : ℕ) (is_own : own ≡ length r.free.items) (b : ArenaView) (es : List End) (made : List (ℕ × ℕ)) (tables : Tables) (same : tables ≡ r.checked.now.tables) (old : List (ℕ × ℕ)) (none : old ≡ [])
       (adds : IsInteracted tables (stepped.setting (over a r) sb.net i p sb.at) own r.tools.placed.cells b es old made) (still_net : IsNetIn tables (at_rest b)) (cells : b.cells ≡ r.arena.cells) (long : length es ≡ length r.ends.items) where

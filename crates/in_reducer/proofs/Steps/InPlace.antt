@@ -1,5 +1,5 @@
 -- An interaction in place, of a pair of a reducer: what its steps owe, and what it leaves.
-use Rattle.std.proofs.Common.{◌≡◌, ◌<◌, ◌≤◌, ◌+◌, ℕ, List, [], ◌++◌, map, remove, reverse, length, length-append, get_or, slice_get, Some, refl, sym, ap, subst, ◌∙◌, arith}
+use Rattle.std.proofs.Common.{◌≡◌, ◌≤◌, ◌+◌, ℕ, List, [], ◌++◌, map, remove, reverse, length, length-append, get_or, refl, sym, ap, subst, ◌∙◌, arith}
 use Rattle.std.specs.VecDeque.{deque_capacity}
 use Rattle.std.proofs.lemmas.List.{length-map, length-reverse, length-set, take_all}
 use Rattle.std.proofs.lemmas.List.Edits.{length-remove}
@@ -87,13 +87,6 @@ module _ (r : Body) (k : KeepsNet r) (i : ℕ) (p : TemplateParts) (at : IsTempl
 
     wiring : IsWiring t setting p own ns points (length (wires_of p.member)) a es
     wiring = up.written setting own about
-
-    -- the pairs of the right member are of agents that have cells
-    pub pairs_there : (j : ℕ) (q : ℕ × ℕ) → slice_get p.member.pairs j ≡ Some q → (q.0 < length ns) × (q.1 < length ns)
-    pairs_there j q e =
-        let there = stepped.pairs_there r k i p at j q e in
-        let many = up.begun.count in
-        ((let l = there.0 in omega (arith, l, many)), (let l = there.1 in omega (arith, l, many)))
 
     abbrev pub qs : List (AgentNo × AgentNo)
     qs = (up.queued setting own about).0

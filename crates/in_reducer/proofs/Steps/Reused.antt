@@ -1,26 +1,22 @@
 -- An interaction of a reducer whose new agents may stand in the cells of the pair: what its steps owe, and what it leaves. It is one of the
 -- reducer in which the pair has numbers of no cell.
-use Rattle.std.proofs.Common.{◌≡◌, ◌≢◌, ◌⊎◌, inl, inr, ◌<◌, ◌≤◌, ◌+◌, ℕ, suc, List, [], ◌∷◌, ◌++◌, map, take, remove, length, length-append, get_or, slice_get, Option, Some, None, IsSome, refl, sym, ap, subst, ◌∙◌, append_assoc, arith}
+use Rattle.std.proofs.Common.{◌≡◌, ◌≢◌, ◌≤◌, ◌+◌, ℕ, suc, List, ◌++◌, map, take, remove, length, length-append, Option, Some, None, refl, sym, ap, subst, ◌∙◌, append_assoc, arith}
 use Rattle.std.specs.VecDeque.{deque_capacity}
 use Rattle.std.proofs.lemmas.List.{length-map, length-set, take_all}
 use Rattle.std.specs.Prelude.{option_map, IsTrue}
 use Rattle.in_base.proofs.Places.{to_mapped, is_some as there}
-use Rattle.in_arena.specs.Arenas.{ArenaView, NoneLeased, changed, free_of, state_at}
-use Rattle.in_arena.specs.Changes.{HasAllCells, one_if_free}
-use Rattle.in_arena.specs.Classes.{classes}
-use Rattle.in_arena.specs.States.{State, Vacant, Leased, Live, IsLive}
-use Rattle.in_arena.specs.declared.content.CellClass.{CellClass}
-use Rattle.in_arena.specs.declared.content.CellClass.TheVariants.{Small, Large, Wide}
+use Rattle.in_arena.specs.Arenas.{ArenaView, NoneLeased, changed}
+use Rattle.in_arena.specs.Changes.{HasAllCells}
+use Rattle.in_arena.specs.States.{Vacant}
+use Rattle.in_arena.specs.declared.content.CellClass.TheVariants.{Small}
 use Rattle.in_arena.specs.declared.content.CellNo.{CellNo}
 use Rattle.in_arena.specs.declared.content.End.{End}
-use Rattle.in_arena.proofs.Public.{class_of_number, counts_change, live_inside}
 use Rattle.in_symbols.specs.declared.symbols.SymbolNo.{SymbolNo}
 use Rattle.in_symbols.specs.Tables.{Tables}
 use Rattle.in_net.specs.declared.nets.AgentNo.{AgentNo}
-use Rattle.in_net.specs.declared.nets.Cell.{Cell}
 use Rattle.in_net.specs.declared.nets.FreeEnd.{FreeEnd}
 use Rattle.in_net.specs.Interactions.{IsStep, IsRedex, redex_at}
-use Rattle.in_net.specs.Nets.{Point, Net, net_of, point_of, signature_of}
+use Rattle.in_net.specs.Nets.{Point, net_of, point_of, signature_of}
 use Rattle.in_interaction.specs.Interacting.{InteractsAs}
 use Rattle.in_interaction.specs.Made.{AreMade, AreMadeOverEnds}
 use Rattle.in_interaction.specs.Queues.{agents_at, both, numbers_of}
@@ -33,7 +29,7 @@ use Rattle.in_order.proofs.Public.{sound_steps}
 use Rattle.in_cells.specs.Between.{IsDone}
 use Rattle.in_cells.specs.Shown.{IsShown}
 use Rattle.in_cells.proofs.Public.{shown_is_step}
-use Rattle.in_compile.specs.Cells.{agents_of, count_of}
+use Rattle.in_compile.specs.Cells.{count_of}
 use Rattle.in_compile.specs.Templates.{TemplateParts}
 use Rattle.in_compile.specs.Wires.{over_of, over_point}
 use Rattle.in_compile.proofs.Public.{over_ends}
@@ -53,25 +49,17 @@ use Rattle.in_reducer.specs.Wiring.{CanWireAnew, IsSetAside, IsWiredAnew, IsWiri
 use Rattle.in_reducer.proofs.Cells.AsMany.{as_many_of}
 use Rattle.in_reducer.proofs.Cells.Counted.{cells_at_rest}
 use Rattle.in_reducer.proofs.Cells.Shown.{is_over, is_shown, same_kinds, same_names, seen}
-use Rattle.in_reducer.proofs.Numbers.Before.{apart_aside, f_aside, is_x, is_y, is_z, number_below}
+use Rattle.in_reducer.proofs.Numbers.Before.{IsAsideBy, number_below, put_aside}
 use Rattle.in_reducer.proofs.Numbers.OfSame.{reducer_same}
 use Rattle.in_reducer.proofs.Numbers.Renamed.{is_under, machine_under}
-use Rattle.in_reducer.proofs.Numbers.SameStep.{map_removed, need_moved, pair_moved, rule_moved}
+use Rattle.in_reducer.proofs.Numbers.SameStep.{map_fixed, map_removed, need_moved, pair_moved, rule_moved}
 use Rattle.in_reducer.proofs.Pairs.Queues.{short_queue}
 use Rattle.in_reducer.proofs.Pairs.Requeued.{other_pair, was_there}
 use Rattle.in_reducer.proofs.Starts.Started.{symbol_moved}
 use Rattle.in_reducer.proofs.Steps.CanWire as can
-use Rattle.in_reducer.proofs.Steps.InPlace as place
-use Rattle.in_reducer.proofs.Steps.Reading as read
 use Rattle.in_reducer.proofs.Steps.StillNet as still
 use Rattle.in_reducer.proofs.Steps.Stepped as stepped
 use Rattle.in_reducer.proofs.Steps.StepsOn as steps
-
--- ---- lists
-
-map_fixed : {X : Type 0} (g : X → X) (xs : List X) → ((k : ℕ) (x : X) → slice_get xs k ≡ Some x → g x ≡ x) → map g xs ≡ xs
-map_fixed g [] h = refl
-map_fixed {X} g (x ∷ xs) h = ap (λ (z : X). z ∷ map g xs) (h 0 x refl) ∙ ap (λ (zs : List X). x ∷ zs) (map_fixed g xs (λ k. h (suc k)))
 
 module _ (r : Body) (k : KeepsNet r) (i : ℕ) (p : TemplateParts) (at : IsTemplateAt (reducer_view r) i p) where
   abbrev t : Tables
@@ -110,30 +98,17 @@ module _ (r : Body) (k : KeepsNet r) (i : ℕ) (p : TemplateParts) (at : IsTempl
   next_other : length r.arena.states ≢ suc (length r.arena.states)
   next_other e = omega (arith, e)
 
-  pub f : ℕ → ℕ
-  f = f_aside m a b (length r.arena.states) (suc (length r.arena.states)) differ next_other no_one no_two
+  pub moved : (f : ℕ → ℕ) × IsAsideBy m a b (length r.arena.states) (suc (length r.arena.states)) f
+  moved = put_aside m a b (length r.arena.states) (suc (length r.arena.states)) differ next_other no_one no_two
 
-  f_one : f a ≡ length r.arena.states
-  unfolding f
-  f_one = is_x m a b (length r.arena.states) (suc (length r.arena.states)) differ next_other no_one no_two
-
-  f_two : f b ≡ suc (length r.arena.states)
-  unfolding f
-  f_two = is_y m a b (length r.arena.states) (suc (length r.arena.states)) differ next_other no_one no_two
-
-  f_old : (z : ℕ) → z ≢ a → z ≢ b → f z ≡ z
-  unfolding f
-  f_old = is_z m a b (length r.arena.states) (suc (length r.arena.states)) differ next_other no_one no_two
-
-  f_apart : (u v : ℕ) → IsSome ((net_of (parts_of m)).symbol u) → IsSome ((net_of (parts_of m)).symbol v) → f u ≡ f v → u ≡ v
-  unfolding f
-  f_apart = apart_aside m a b (length r.arena.states) (suc (length r.arena.states)) differ next_other no_one no_two
+  abbrev pub f : ℕ → ℕ
+  f = moved.0
 
   abbrev pub s : MachineParts
   s = machine_under f m
 
   same : IsSameMachine f m s
-  same = is_under f m f_apart
+  same = is_under f m moved.1.apart
 
   s_reducer : IsReducer s
   s_reducer = reducer_same m s k.reducer f same
@@ -162,12 +137,12 @@ module _ (r : Body) (k : KeepsNet r) (i : ℕ) (p : TemplateParts) (at : IsTempl
 
   pub set : IsSetAside t setting r.arena (parts_of s) f
   set = record {
-    aside = record { renamed = same.net; stays = f_old };
+    aside = record { renamed = same.net; stays = moved.1.old };
     net = s_reducer.net.sound.net;
     typed = s_reducer.net.sound.typed;
     redex = redex;
-    one = (let e = f_one in omega (arith, e));
-    two = (let e = f_two in omega (arith, e));
+    one = (let e = moved.1.one in omega (arith, e));
+    two = (let e = moved.1.two in omega (arith, e));
   }
 
   -- ---- what the interaction owes
@@ -196,13 +171,6 @@ module _ (r : Body) (k : KeepsNet r) (i : ℕ) (p : TemplateParts) (at : IsTempl
 
     done : IsDone t (interaction_of (aside_of setting (parts_of s) f) ns) own c es
     done = can.is_done t (aside_of setting (parts_of s) f) p own ns points c es wiring
-
-    -- the pairs of the right member are of agents that have cells
-    pub pairs_there : (j : ℕ) (q : ℕ × ℕ) → slice_get p.member.pairs j ≡ Some q → (q.0 < length ns) × (q.1 < length ns)
-    pairs_there j q e =
-        let there = stepped.pairs_there r k i p at j q e in
-        let many = up.begun.count in
-        ((let l = there.0 in omega (arith, l, many)), (let l = there.1 in omega (arith, l, many)))
 
     abbrev qs : List (AgentNo × AgentNo)
     qs = (up.queued setting own (parts_of s) f about set).0
@@ -316,8 +284,8 @@ module _ (r : Body) (k : KeepsNet r) (i : ℕ) (p : TemplateParts) (at : IsTempl
           ∙ map_fixed (both f) (remove m.queue i) (λ j q e. (
           let w = was_there m.queue i j q e in
           let d = other_pair t (parts_of m) (agents_at at.pair).0 (agents_at at.pair).1 m.queue i k.reducer.net.sound.net k.reducer.queue at.stands w.0 q w.2 w.1 in
-          let one : f q.0 ≡ q.0 = f_old q.0 (λ z. d.1 (agent_same (agents_at q).0 (agents_at at.pair).0 z)) (λ z. d.2 (agent_same (agents_at q).0 (agents_at at.pair).1 z)) in
-          let two : f q.1 ≡ q.1 = f_old q.1 (λ z. d.3 (agent_same (agents_at q).1 (agents_at at.pair).0 z)) (λ z. d.4 (agent_same (agents_at q).1 (agents_at at.pair).1 z)) in
+          let one : f q.0 ≡ q.0 = moved.1.old q.0 (λ z. d.1 (agent_same (agents_at q).0 (agents_at at.pair).0 z)) (λ z. d.2 (agent_same (agents_at q).0 (agents_at at.pair).1 z)) in
+          let two : f q.1 ≡ q.1 = moved.1.old q.1 (λ z. d.3 (agent_same (agents_at q).1 (agents_at at.pair).0 z)) (λ z. d.4 (agent_same (agents_at q).1 (agents_at at.pair).1 z)) in
           ap (λ (z : ℕ). let w : ℕ × ℕ = (z, f q.1) in w) one ∙ ap (λ (z : ℕ). let w : ℕ × ℕ = (q.0, z) in w) two
           ))
 

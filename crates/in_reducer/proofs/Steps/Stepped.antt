@@ -155,18 +155,18 @@ module _ (r : Body) (k : KeepsNet r) (i : ℕ) (p : TemplateParts) (at : IsTempl
       let e = free_at_rest none c in
       omega (arith, a, l, e)
 
-  -- the pairs of the right member are of its agents
-  pub pairs_there : (j : ℕ) (q : ℕ × ℕ) → slice_get p.member.pairs j ≡ Some q → (q.0 < length p.member.agents) × (q.1 < length p.member.agents)
-  pairs_there j q e =
+  -- the pairs of the right member are of its agents, of which there are so many
+  pub pairs_there : (n : ℕ) → n ≡ length p.member.agents → (j : ℕ) (q : ℕ × ℕ) → slice_get p.member.pairs j ≡ Some q → (q.0 < n) × (q.1 < n)
+  pairs_there n many j q e =
       let active = at.template.member.pairs.pairs.pairs j q e in
       (agent_there q.0 active.first (at.template.member.agents q.0 ∙ active.one), agent_there q.1 active.second (at.template.member.agents q.1 ∙ active.two))
     where
-      agent_there : (x : ℕ) (s : SymbolNo) → option_map (λ (a : AgentParts). a.symbol) (slice_get p.member.agents x) ≡ Some s → x < length p.member.agents
+      agent_there : (x : ℕ) (s : SymbolNo) → option_map (λ (a : AgentParts). a.symbol) (slice_get p.member.agents x) ≡ Some s → x < n
       agent_there x s e = go (slice_get p.member.agents x) refl e
         where
-          go : (o : Option AgentParts) → slice_get p.member.agents x ≡ o → option_map (λ (a : AgentParts). a.symbol) o ≡ Some s → x < length p.member.agents
+          go : (o : Option AgentParts) → slice_get p.member.agents x ≡ o → option_map (λ (a : AgentParts). a.symbol) o ≡ Some s → x < n
           go None is h = absurd (let f : None ≡ Some s = h in cc)
-          go (Some a) is h = slice_get_within p.member.agents x a is
+          go (Some a) is h = let l = slice_get_within p.member.agents x a is in omega (arith, l, many)
 
   -- ---- after
 

@@ -1,5 +1,5 @@
 -- The first two agents of a right member take the cells of the pair, which are free then.
-use Rattle.std.proofs.Common.{◌≡◌, ◌≢◌, ◌⊎◌, inl, inr, ◌<◌, ◌≤◌, ◌+◌, ◌*◌, ℕ, List, [], ◌∷◌, ◌++◌, length, slice_get, Some, refl, sym, ap, subst, ◌∙◌, get_or-set_other, arith}
+use Rattle.std.proofs.Common.{◌≡◌, ◌≢◌, ◌⊎◌, inl, inr, ◌<◌, ◌≤◌, ◌+◌, ℕ, List, [], ◌∷◌, ◌++◌, length, slice_get, Some, refl, sym, ap, subst, ◌∙◌, get_or-set_other, arith}
 use Rattle.std.proofs.lemmas.List.{length-set, set_comm}
 use Rattle.in_arena.specs.Arenas.{ArenaView, changed, free_of, state_at}
 use Rattle.in_arena.specs.Changes.{HasAllCells, one_if_free}
@@ -9,7 +9,7 @@ use Rattle.in_arena.specs.declared.content.CellClass.TheVariants.{Small, Large, 
 use Rattle.in_arena.specs.declared.content.CellNo.{CellNo}
 use Rattle.in_arena.specs.declared.content.End.{End}
 use Rattle.in_arena.proofs.Public.{class_of_number, counts_change, live_inside}
-use Rattle.in_compile.specs.Cells.{count_of, IsEnough}
+use Rattle.in_compile.specs.Cells.{count_of}
 use Rattle.in_compile.specs.Members.{AgentParts, IsSoundMember, MemberParts}
 use Rattle.in_compile.specs.Putting.{AreBegunBelow, BeginsAgent}
 use Rattle.in_compile.proofs.Public.{begins, none_begun, one_more_begun, some_free}
@@ -103,7 +103,7 @@ module _ (m : MemberParts) (sound : IsSoundMember m) (pair : Pair) (old : ArenaV
           ∙ ap (λ (ss : List State). let v : ArenaView = record { memory = old.memory; cells = old.cells; states = ss } in v) (set_comm one.states n.0 pair.other.0 b.state Vacant apart);
     })
 
-    first_below : AreBegunBelow m (retired pair old) 1 (changed next pair.other.0 Vacant) (n ∷ [])
+    pub first_below : AreBegunBelow m (retired pair old) 1 (changed next pair.other.0 Vacant) (n ∷ [])
     first_below = one_more_begun m (retired pair old) 0 (retired pair old) [] (none_begun m (retired pair old)) x at n (changed next pair.other.0 Vacant) moved ([] ++ n ∷ []) refl
 
     pub both_below : (y : AgentParts) → slice_get m.agents 1 ≡ Some y → (k : CellNo) (new : ArenaView) → BeginsAgent y (changed next pair.other.0 Vacant) k.0 new → AreBegunBelow m (retired pair old) 2 new (n ∷ k ∷ [])

@@ -1,4 +1,4 @@
-use Rattle.std.proofs.Common.{◌≡◌, ◌<◌, ◌≤◌, ◌+◌, ℕ, List, [], ◌∷◌, length, slice_get, set, refl, sym, ap, subst, ◌∙◌, arith}
+use Rattle.std.proofs.Common.{◌≡◌, ◌≤◌, List, [], ◌∷◌, length, set, refl, sym, ap, subst, ◌∙◌, arith}
 use Rattle.std.proofs.lemmas.List.{length-set}
 use Rattle.in_base.proofs.Each.{at_index}
 use Rattle.in_base.proofs.Places.{set_there}
@@ -11,8 +11,7 @@ use Rattle.in_compile.specs.Members.{MemberParts}
 use Rattle.in_compile.specs.Putting.{AreBegunBelow}
 use Rattle.in_compile.proofs.Public.{none_begun}
 use Rattle.in_reducer.specs.declared.sides.Pair.{Pair}
-use Rattle.in_reducer.specs.Inside.{most_ends}
-use Rattle.in_reducer.specs.Wiring.{AreAtAgents, CanBegin, HasBegunBelow, retired}
+use Rattle.in_reducer.specs.Wiring.{CanBegin, HasBegunBelow, retired}
 use Rattle.in_reducer.proofs.Steps.Points.{none_at, one_more_at}
 use Rattle.in_reducer.proofs.Steps.Taken as taken
 use Rattle.in_reducer.proofs.wiring.begin_in.Goals as goal
@@ -28,38 +27,79 @@ none_below m a b points same = ([], subst (λ (v : ArenaView). AreBegunBelow m b
 pub begin_rest-requires-clause-begun : goal.begin_rest-requires-clause-begun
 begin_rest-requires-clause-begun c =
     let m = c.args.member.now in
-    let gone = both_retired c.args.pair c.args.arena.now c.retire.new.self c.retire-then-many-lt2.new.self c.retire.ensures c.retire-then-many-lt2.ensures in (
+    let gone = both_retired c.args.pair c.args.arena.now c.retire.new.self c.retire-then-many-eq0.new.self c.retire.ensures c.retire-then-many-eq0.ensures in (
       retired c.args.pair c.args.arena.now,
       taken.can_retired m c.is_sound.ensures c.args.pair c.args.arena.now c.requires.0 c.args.points.now c.requires.1,
-      none_below m c.retire-then-many-lt2.new.self (retired c.args.pair c.args.arena.now) c.args.points.now gone,
+      none_below m c.retire-then-many-eq0.new.self (retired c.args.pair c.args.arena.now) c.args.points.now gone,
     )
 
-pub returns-then-many-lt2-clause-begun : goal.returns-then-many-lt2-clause-begun
-returns-then-many-lt2-clause-begun c =
+pub returns-then-many-eq0-clause-begun : goal.returns-then-many-eq0-clause-begun
+returns-then-many-eq0-clause-begun c =
     let m = c.args.member.now in
-    let gone = both_retired c.args.pair c.args.arena.now c.retire.new.self c.retire-then-many-lt2.new.self c.retire.ensures c.retire-then-many-lt2.ensures in
+    let gone = both_retired c.args.pair c.args.arena.now c.retire.new.self c.retire-then-many-eq0.new.self c.retire.ensures c.retire-then-many-eq0.ensures in
     c.begin_rest.ensures.begun (retired c.args.pair c.args.arena.now) (taken.can_retired m c.is_sound.ensures c.args.pair c.args.arena.now c.requires.0 c.args.points.now c.requires.1)
-    (none_below m c.retire-then-many-lt2.new.self (retired c.args.pair c.args.arena.now) c.args.points.now gone)
+    (none_below m c.retire-then-many-eq0.new.self (retired c.args.pair c.args.arena.now) c.args.points.now gone)
+
+-- one is begun, and stands at its point
+one_below : (m : MemberParts) (b new : ArenaView) (one : CellNo) (points : List End) (v : End) → AreBegunBelow m b 1 new (one ∷ []) → 33 ≤ length points → v ≡ Cell one 0 → HasBegunBelow m b 1 new (set points 32 v)
+one_below m b new one points v below long is_v = (one ∷ [], below, one_more_at [] one points 0 refl (omega (arith, long)) v is_v (none_at points))
+
+still_begin : (m : MemberParts) (a : ArenaView) (points after : List End) → length after ≡ length points → CanBegin m a points → CanBegin m a after
+still_begin m a points after same h = record { all = h.all; free = h.free; few = h.few; long = (let l = h.long in omega (arith, l, same)) }
 
 pub begin_in-first-requires-clause-free : goal.begin_in-first-requires-clause-free
 begin_in-first-requires-clause-free c = taken.first_free c.args.member.now c.is_sound.ensures c.args.pair c.args.arena.now c.requires.0 c.args.points.now c.requires.1
 
+pub retire-requires-then-many-eq1 : goal.retire-requires-then-many-eq1
+retire-requires-then-many-eq1 c =
+    let m = c.args.member.now in
+    let x = at_index m.agents 0 (let many = c.agents-many.ensures in let f = c.if-many-eq1.true in omega (arith, many, f)) in
+    taken.other_live m c.is_sound.ensures c.args.pair c.args.arena.now c.requires.0 c.args.points.now c.requires.1 x.0 x.1 c.begin_in-first.result c.begin_in-first.new.arena (c.begin_in-first.ensures x.0 x.1)
+
+pub begin_rest-requires-then-many-eq1-clause-begun : goal.begin_rest-requires-then-many-eq1-clause-begun
+begin_rest-requires-then-many-eq1-clause-begun c =
+    let m = c.args.member.now in
+    let x = at_index m.agents 0 (let many = c.agents-many.ensures in let f = c.if-many-eq1.true in omega (arith, many, f)) in
+    let points = c.args.points.now in
+    let long = c.requires.1.long in
+    let below = taken.first_below m c.is_sound.ensures c.args.pair c.args.arena.now c.requires.0 points c.requires.1 x.0 x.1 c.begin_in-first.result c.begin_in-first.new.arena (c.begin_in-first.ensures x.0 x.1) in (
+      retired c.args.pair c.args.arena.now,
+      still_begin m (retired c.args.pair c.args.arena.now) points (set points 32 c.port.result) (length-set points 32 c.port.result) (taken.can_retired m c.is_sound.ensures c.args.pair c.args.arena.now c.requires.0 points c.requires.1),
+      one_below m (retired c.args.pair c.args.arena.now) c.retire-then-many-eq1.new.self c.begin_in-first.result points c.port.result
+          (subst (λ (v : ArenaView). AreBegunBelow m (retired c.args.pair c.args.arena.now) 1 v (c.begin_in-first.result ∷ [])) (sym c.retire-then-many-eq1.ensures) below) (omega (arith, long)) c.port.ensures,
+    )
+
+pub returns-then-many-eq1-clause-begun : goal.returns-then-many-eq1-clause-begun
+returns-then-many-eq1-clause-begun c =
+    let m = c.args.member.now in
+    let x = at_index m.agents 0 (let many = c.agents-many.ensures in let f = c.if-many-eq1.true in omega (arith, many, f)) in
+    let points = c.args.points.now in
+    let long = c.requires.1.long in
+    let below = taken.first_below m c.is_sound.ensures c.args.pair c.args.arena.now c.requires.0 points c.requires.1 x.0 x.1 c.begin_in-first.result c.begin_in-first.new.arena (c.begin_in-first.ensures x.0 x.1) in
+    c.begin_rest-then-many-eq1.ensures.begun (retired c.args.pair c.args.arena.now)
+    (still_begin m (retired c.args.pair c.args.arena.now) points (set points 32 c.port.result) (length-set points 32 c.port.result) (taken.can_retired m c.is_sound.ensures c.args.pair c.args.arena.now c.requires.0 points c.requires.1))
+    (one_below m (retired c.args.pair c.args.arena.now) c.retire-then-many-eq1.new.self c.begin_in-first.result points c.port.result
+    (subst (λ (v : ArenaView). AreBegunBelow m (retired c.args.pair c.args.arena.now) 1 v (c.begin_in-first.result ∷ [])) (sym c.retire-then-many-eq1.ensures) below) (omega (arith, long)) c.port.ensures)
+
+pub returns-then-many-eq1-clause-ends : goal.returns-then-many-eq1-clause-ends
+returns-then-many-eq1-clause-ends c = λ e low. c.begin_rest-then-many-eq1.ensures.ends e low ∙ set_there c.args.points.now 32 e c.port.result (λ same. omega (arith, low, same))
+
 pub begin_in-second-requires-clause-live : goal.begin_in-second-requires-clause-live
 begin_in-second-requires-clause-live c =
     let m = c.args.member.now in
-    let x = at_index m.agents 0 (let many = c.agents-many.ensures in let f = c.if-many-lt2.false in omega (arith, many, f)) in
+    let x = at_index m.agents 0 (let many = c.agents-many.ensures in let f = c.if-many-eq0.false in omega (arith, many, f)) in
     taken.other_live m c.is_sound.ensures c.args.pair c.args.arena.now c.requires.0 c.args.points.now c.requires.1 x.0 x.1 c.begin_in-first.result c.begin_in-first.new.arena (c.begin_in-first.ensures x.0 x.1)
 
 pub begin_in-second-requires-clause-all : goal.begin_in-second-requires-clause-all
 begin_in-second-requires-clause-all c =
     let m = c.args.member.now in
-    let x = at_index m.agents 0 (let many = c.agents-many.ensures in let f = c.if-many-lt2.false in omega (arith, many, f)) in
+    let x = at_index m.agents 0 (let many = c.agents-many.ensures in let f = c.if-many-eq0.false in omega (arith, many, f)) in
     taken.all_next m c.is_sound.ensures c.args.pair c.args.arena.now c.requires.0 c.args.points.now c.requires.1 x.0 x.1 c.begin_in-first.result c.begin_in-first.new.arena (c.begin_in-first.ensures x.0 x.1)
 
 pub begin_in-second-requires-clause-free : goal.begin_in-second-requires-clause-free
 begin_in-second-requires-clause-free c =
     let m = c.args.member.now in
-    let x = at_index m.agents 0 (let many = c.agents-many.ensures in let f = c.if-many-lt2.false in omega (arith, many, f)) in
+    let x = at_index m.agents 0 (let many = c.agents-many.ensures in let f = c.if-many-eq0.false in omega (arith, many, f)) in
     taken.second_free m c.is_sound.ensures c.args.pair c.args.arena.now c.requires.0 c.args.points.now c.requires.1 x.0 x.1 c.begin_in-first.result c.begin_in-first.new.arena (c.begin_in-first.ensures x.0 x.1)
 
 -- two are begun, and stand at their points
@@ -70,14 +110,11 @@ two_below m b new one two points v w below long is_v is_w = (
   one_more_at (one ∷ []) two (set points 32 v) 1 refl (let l = length-set points 32 v in omega (arith, l, long)) w is_w (one_more_at [] one points 0 refl (omega (arith, long)) v is_v (none_at points)),
 )
 
-still_begin : (m : MemberParts) (a : ArenaView) (points after : List End) → length after ≡ length points → CanBegin m a points → CanBegin m a after
-still_begin m a points after same h = record { all = h.all; free = h.free; few = h.few; long = (let l = h.long in omega (arith, l, same)) }
-
 pub begin_rest-requires-2-clause-begun : goal.begin_rest-requires-2-clause-begun
 begin_rest-requires-2-clause-begun c =
     let m = c.args.member.now in
-    let x = at_index m.agents 0 (let many = c.agents-many.ensures in let f = c.if-many-lt2.false in omega (arith, many, f)) in
-    let y = at_index m.agents 1 (let many = c.agents-many.ensures in let f = c.if-many-lt2.false in omega (arith, many, f)) in
+    let x = at_index m.agents 0 (let many = c.agents-many.ensures in let f = c.if-many-eq0.false in omega (arith, many, f)) in
+    let y = at_index m.agents 1 (let many = c.agents-many.ensures in let f = c.if-many-eq0.false in let g = c.if-many-eq1.false in omega (arith, many, f, g)) in
     let points = c.args.points.now in
     let long = c.requires.1.long in (
       retired c.args.pair c.args.arena.now,
@@ -92,8 +129,8 @@ begin_rest-requires-2-clause-begun c =
 pub returns-clause-begun : goal.returns-clause-begun
 returns-clause-begun c =
     let m = c.args.member.now in
-    let x = at_index m.agents 0 (let many = c.agents-many.ensures in let f = c.if-many-lt2.false in omega (arith, many, f)) in
-    let y = at_index m.agents 1 (let many = c.agents-many.ensures in let f = c.if-many-lt2.false in omega (arith, many, f)) in
+    let x = at_index m.agents 0 (let many = c.agents-many.ensures in let f = c.if-many-eq0.false in omega (arith, many, f)) in
+    let y = at_index m.agents 1 (let many = c.agents-many.ensures in let f = c.if-many-eq0.false in let g = c.if-many-eq1.false in omega (arith, many, f, g)) in
     let points = c.args.points.now in
     let long = c.requires.1.long in
     c.begin_rest-2.ensures.begun (retired c.args.pair c.args.arena.now)

@@ -1,15 +1,13 @@
-use Rattle.std.proofs.Common.{◌≡◌, ◌<◌, ◌≤◌, ◌+◌, ℕ, List, length, slice_get, refl, sym, ap, subst, ◌∙◌, arith}
+use Rattle.std.proofs.Common.{◌≡◌, ◌<◌, ◌≤◌, ℕ, List, length, slice_get, refl, sym, subst, ◌∙◌, arith}
 use Rattle.in_arena.specs.Arenas.{ArenaView}
 use Rattle.in_arena.specs.declared.content.CellNo.{CellNo}
 use Rattle.in_arena.specs.declared.content.End.{End}
-use Rattle.in_symbols.specs.Tables.{Tables}
 use Rattle.in_cells.proofs.Public.{keep_on}
 use Rattle.in_compile.specs.Members.{MemberParts}
-use Rattle.in_compile.specs.Templates.{TemplateParts}
 use Rattle.in_reducer.specs.declared.sides.Pair.{Pair}
 use Rattle.in_reducer.specs.Inside.{most_ends}
 use Rattle.in_reducer.specs.Sides.{end_there, port_at}
-use Rattle.in_reducer.specs.Wiring.{CanBegin, CanWireAnew, HasBegun, IsWiring, aside_of, retired}
+use Rattle.in_reducer.specs.Wiring.{CanBegin, HasBegun, aside_of, retired}
 use Rattle.in_reducer.proofs.Steps.Anew as anew
 use Rattle.in_reducer.proofs.Steps.Points.{over_few}
 use Rattle.in_reducer.proofs.Steps.Reading as read

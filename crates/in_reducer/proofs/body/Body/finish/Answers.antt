@@ -4,9 +4,11 @@ use Rattle.std.proofs.lemmas.List.{length-reverse, with_items_is}
 use Rattle.in_symbols.specs.Tables.{Tables}
 use Rattle.in_interaction.specs.Queues.{both}
 use Rattle.in_compile.specs.Members.{MemberParts}
+use Rattle.in_reducer.specs.Inside.{over}
 use Rattle.in_reducer.specs.Interacting.{named}
 use Rattle.in_reducer.specs.Standing.{IsNetIn, at_rest}
 use Rattle.in_reducer.proofs.Steps.Finished as finished
+use Rattle.in_reducer.proofs.Steps.Stepped as stepped
 use Rattle.in_reducer.proofs.body.Body.finish.Goals as goal
 
 pub interact-requires-clause-beside : goal.interact-requires-clause-beside
@@ -51,7 +53,8 @@ queue_made-requires c =
 pub queue_own-requires-clause-there : goal.queue_own-requires-clause-there
 queue_own-requires-clause-there c j q e =
     let here = ap (λ (m : MemberParts). slice_get m.pairs j) (sym c.member.ensures) ∙ e in
-    finished.pairs_there c.args.self.now c.requires.beside.0 c.args.number c.args.template.now c.requires.beside.1 j q here
+    let sb = c.requires.beside.1 in
+    stepped.pairs_there (over c.requires.beside.0 c.args.self.now) sb.net c.args.number c.args.template.now sb.at (length c.args.self.now.tools.placed.cells) sb.put.count j q here
 
 pub queue_own-requires-clause-room : goal.queue_own-requires-clause-room
 queue_own-requires-clause-room c =

@@ -9,6 +9,7 @@ use Rattle.in_reducer.specs.Steps.{HasRoomAt, StepsAt}
 use Rattle.in_reducer.specs.Templates.{IsTemplateAt}
 use Rattle.in_reducer.specs.Wiring.{AreAtAgents}
 use Rattle.in_reducer.proofs.Steps.InPlace as place
+use Rattle.in_reducer.proofs.Steps.Stepped as stepped
 use Rattle.in_reducer.proofs.Steps.StillNet as still
 use Rattle.in_reducer.proofs.reducer.Reducer.step_in_place.Goals as goal
 
@@ -57,7 +58,7 @@ queue_begun-requires-clause-there c =
     let slice : c.as_slice.result.now ≡ points = c.as_slice.ensures.value ∙ is_points in (
       up.cells,
       subst (AreAtAgents up.cells) (sym slice) up.at,
-      (λ j q e. place.pairs_there r k i p at room none pair own refl ends about old a es points middle up j q (ap (λ (m : MemberParts). slice_get m.pairs j) (sym c.member.ensures) ∙ e)),
+      (λ j q e. stepped.pairs_there r k i p at (length up.cells) up.begun.count j q (ap (λ (m : MemberParts). slice_get m.pairs j) (sym c.member.ensures) ∙ e)),
     )
 
 pub queue_begun-requires-clause-room : goal.queue_begun-requires-clause-room
@@ -116,7 +117,7 @@ invariant_of-self c =
     let is_ends : zs.items ≡ es = with_items_is r.ends es (let ok = r.ends.ok.0 in omega (arith, ok, long)) in
     let slice : c.as_slice.result.now ≡ points = c.as_slice.ensures.value ∙ is_points in
     let pairs : (j : ℕ) (q : ℕ × ℕ) → slice_get c.member.result.now.pairs j ≡ Some q → (q.0 < length up.cells) × (q.1 < length up.cells) =
-    (λ j q e. place.pairs_there r k i p at room none pair own refl ends about old a es points middle up j q (ap (λ (m : MemberParts). slice_get m.pairs j) (sym c.member.ensures) ∙ e)) in
+    (λ j q e. stepped.pairs_there r k i p at (length up.cells) up.begun.count j q (ap (λ (m : MemberParts). slice_get m.pairs j) (sym c.member.ensures) ∙ e)) in
     let queue : c.queue_begun.new.queue.items ≡ middle ++ map (both (named up.cells)) p.member.pairs =
     c.queue_begun.ensures.items up.cells (subst (AreAtAgents up.cells) (sym slice) up.at) pairs ∙ ap (λ (m : MemberParts). middle ++ map (both (named up.cells)) m.pairs) c.member.ensures in
     let tools = c.self.invariant.all.tools in
@@ -175,7 +176,7 @@ returns c =
     let is_ends : zs.items ≡ es = with_items_is r.ends es (let ok = r.ends.ok.0 in omega (arith, ok, long)) in
     let slice : c.as_slice.result.now ≡ points = c.as_slice.ensures.value ∙ is_points in
     let pairs : (j : ℕ) (q : ℕ × ℕ) → slice_get c.member.result.now.pairs j ≡ Some q → (q.0 < length up.cells) × (q.1 < length up.cells) =
-    (λ j q e. place.pairs_there r k i p at room none pair own refl ends about old a es points middle up j q (ap (λ (m : MemberParts). slice_get m.pairs j) (sym c.member.ensures) ∙ e)) in
+    (λ j q e. stepped.pairs_there r k i p at (length up.cells) up.begun.count j q (ap (λ (m : MemberParts). slice_get m.pairs j) (sym c.member.ensures) ∙ e)) in
     let queue : c.queue_begun.new.queue.items ≡ middle ++ map (both (named up.cells)) p.member.pairs =
     c.queue_begun.ensures.items up.cells (subst (AreAtAgents up.cells) (sym slice) up.at) pairs ∙ ap (λ (m : MemberParts). middle ++ map (both (named up.cells)) m.pairs) c.member.ensures in
     steps_there _ _ _ i c.self.view_is (place.steps r k i p at room none pair own refl ends about old a es points middle up long c.take_out.ensures.items c.queue_begun.new.queue.items queue zs.items is_ends)

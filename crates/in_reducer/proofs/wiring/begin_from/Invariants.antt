@@ -2,7 +2,7 @@ use Rattle.std.proofs.Common.{◌≡◌, ◌<◌, ℕ, length, slice_get}
 use Rattle.in_arena.specs.Arenas.{ArenaView}
 use Rattle.in_reducer.specs.Inside.{most_ends}
 use Rattle.in_reducer.specs.Wiring.{CanBegin, HasBegunBelow}
-use Rattle.in_reducer.proofs.wiring.begin_rest.Given as goal
+use Rattle.in_reducer.proofs.wiring.begin_from.Given as goal
 
 abbrev pub invariant-loop-agent : goal.invariant-loop-agent
 invariant-loop-agent l = record {

@@ -1,0 +1,8 @@
+//! A law over what verifying given steps answers, for whoever reasons above it. No function here does anything.
+
+ghost use Rattle.in_certificates.specs.Laws.{StepsAreJudgedOnce};
+
+/// A text, an item of it and steps have one answer: yes, no, or the text's one refusal. Nothing is said where memory ran out.
+pub fn steps_are_judged_once()
+    ensures { StepsAreJudgedOnce }
+{}
