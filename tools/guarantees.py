@@ -1,0 +1,273 @@
+#!/usr/bin/env python3
+"""Prints the contract of a public call of the crates: its comment, its signature with its clauses, and the definitions and the laws behind
+these, each with file and line. It reads the sources, and nothing of it is proved.
+
+    tools/guarantees.py check Symbols::build in_order::laws::runs_end_alike
+
+The *definitions* are those that the clauses name; of a law, those that its statement names too. The *laws* are those whose statement names a
+definition of the call's `ensures` clauses, other than a word that many laws share. `docs/proof/GUARANTEES.md` has a row for each call, and
+`tests/run --only documents` compares the two.
+"""
+import argparse
+import glob
+import os
+import re
+from collections import defaultdict
+from functools import lru_cache
+from typing import NamedTuple
+
+import streams
+
+TOP = os.path.normpath(os.path.join(os.path.dirname(os.path.abspath(__file__)), ".."))
+# The heading of the crates in crates.txt that no program has.
+FOR_TESTS = "For tests alone"
+# A definition that more laws name is a word of the subject, such as `Net`, and leads to none of them.
+MOST_LAWS = 12
+# What a crate's first file gives out: a whole module, names of a module, an item.
+MODULE = re.compile(r"^pub mod (\w+);", re.MULTILINE)
+EXPORT = re.compile(r"^pub use (\w+)::(?:(\w+)|\{([^}]*)\});", re.MULTILINE)
+OWNER = re.compile(r"^(?:unsafe )?impl(?:<[^{]*?>)? (?:[\w:]+(?:<.*>)? for )?(\w+)|^pub trait (\w+)")
+FUNCTION = re.compile(r'^( *)(pub )?(?:const )?(?:unsafe )?(?:extern "C" )?fn (\w+)')
+CLAUSE = re.compile(r"^\s*(requires|ensures)\b")
+IMPORT = re.compile(r"^(?:unfoldable )?(?:pub )?(?:ghost )?use (?:package\.)?Rattle\.([\w.\-]+)\.\{([^}]*)\}", re.MULTILINE)
+# A word of a definition, which may have marks in it, and the line that declares one.
+WORD = re.compile(r"[A-Za-z_][\w'\-]*")
+DECLARED = re.compile(r"^ *(?:unfoldable |abbrev )*pub (?!use |mod )(?:data |record )?([A-Za-z_][\w'\-]*)|^ +([A-Z][\w'\-]*) : ")
+
+
+class Call(NamedTuple):
+    """A public call: its crate, the module of a law, the type or trait of a method, and where and how it is written."""
+
+    crate: str
+    module: str
+    owner: str
+    name: str
+    path: str
+    line: int
+    comment: tuple
+    signature: tuple
+
+    def said(self):
+        """The name as one writes it in another crate."""
+        return "::".join(part for part in (self.crate, self.module, self.owner, self.name) if part)
+
+    def clauses(self, kinds=("requires", "ensures")):
+        """The clauses of these kinds, each as the lines of it."""
+        found = []
+        for line in self.signature:
+            if CLAUSE.match(line):
+                found.append([line])
+            elif found:
+                found[-1].append(line)
+        return [lines for lines in found if CLAUSE.match(lines[0])[1] in kinds]
+
+
+class Definition(NamedTuple):
+    """A definition in a folder `specs/`, and the words of its text."""
+
+    name: str
+    path: str
+    line: int
+    words: frozenset
+
+
+@lru_cache(maxsize=None)
+def lines_of(path):
+    with open(os.path.join(TOP, path), encoding="utf-8") as file:
+        return file.read().split("\n")
+
+
+def crates():
+    """The crates that have a library, but for those of tests."""
+    of_tests = False
+    for line in lines_of("crates.txt"):
+        of_tests = line.startswith(f"# {FOR_TESTS}") or of_tests and not line.startswith("#")
+        name = re.match(r"\w+", line)
+        if name and not of_tests and os.path.exists(os.path.join(TOP, "crates", name[0], "src", "lib.rt")):
+            yield name[0]
+
+
+def exported(crate):
+    """What a crate gives out: the modules that are public, and the names of its other modules."""
+    text = "\n".join(lines_of(f"crates/{crate}/src/lib.rt"))
+    own = {os.path.basename(path)[:-3] for path in glob.glob(os.path.join(TOP, "crates", crate, "src", "*.rt"))}
+    names = {
+        name.split()[-1]
+        for module, one, several in EXPORT.findall(text)
+        if module in own
+        for name in ([one] if one else several.split(","))
+        if name.strip()
+    }
+    return set(MODULE.findall(text)), names
+
+
+def signature_from(lines, begin):
+    """The lines of a function from its first one to where its body begins, which is left out."""
+    indent = len(lines[begin]) - len(lines[begin].lstrip())
+    kept = []
+    for number in range(begin, len(lines)):
+        line = lines[number]
+        rest = line[indent:]
+        if number > begin and rest.startswith("{"):
+            break
+        ended = rest.endswith(";") or number == begin and rest.endswith((" {", "{}")) or rest.startswith(")") and rest.endswith(" {")
+        kept.append(re.sub(r"\s*\{\}?$", "", rest) if ended and not rest.endswith(";") else rest)
+        if ended:
+            break
+    return tuple(kept)
+
+
+def comment_before(lines, begin):
+    """The lines of comment above a function, over its attributes."""
+    kept = []
+    for line in reversed(lines[:begin]):
+        if line.lstrip().startswith("///"):
+            kept.append(line.strip())
+        elif not line.lstrip().startswith("#["):
+            break
+    return tuple(reversed(kept))
+
+
+def calls_in(crate):
+    """The public calls of a crate."""
+    modules, names = exported(crate)
+    for full in sorted(glob.glob(os.path.join(TOP, "crates", crate, "src", "*.rt"))):
+        path = os.path.relpath(full, TOP)
+        module = os.path.basename(path)[:-3]
+        lines, owner, is_trait = lines_of(path), "", False
+        for number, line in enumerate(lines):
+            if line.startswith("}"):
+                owner, is_trait = "", False
+            found = OWNER.match(line)
+            if found and not line.endswith("}"):
+                owner, is_trait = found[1] or found[2], bool(found[2])
+            written = FUNCTION.match(line)
+            if not written or not (written[2] or is_trait):
+                continue
+            given_out = owner in names if owner else written[3] in names or module == "lib" or module in modules
+            if given_out and bool(owner) == bool(written[1]):
+                of_module = module if module in modules else ""
+                yield Call(crate, of_module, owner, written[3], path, number + 1, comment_before(lines, number), signature_from(lines, number))
+
+
+def all_calls():
+    return [call for crate in crates() for call in calls_in(crate)]
+
+
+def public_types(crate):
+    """The names of types and constants that a crate gives out."""
+    return exported(crate)[1]
+
+
+@lru_cache(maxsize=None)
+def definitions_in(path):
+    """The definitions of a file of `specs/`, by their names."""
+    found, lines = {}, lines_of(path)
+    begins = [(number, it[1] or it[2]) for number, it in enumerate(map(DECLARED.match, lines)) if it]
+    for (begin, name), (end, _) in zip(begins, [*begins[1:], (len(lines), "")]):
+        if name not in found:
+            text = "\n".join(line.split("--")[0] for line in lines[begin:end])
+            found[name] = Definition(name, path, begin + 1, frozenset(WORD.findall(text)))
+    return found
+
+
+@lru_cache(maxsize=None)
+def imports(path):
+    """Of each name that a file imports of a folder `specs/`, the file there and the name that it has in it."""
+    found = {}
+    for module, names in IMPORT.findall("\n".join(lines_of(path))):
+        crate, _, rest = module.partition(".")
+        home = f"crates/{crate}/{rest.replace('.', '/')}.antt"
+        if rest.startswith("specs.") and os.path.exists(os.path.join(TOP, home)):
+            for name in filter(None, map(str.strip, names.split(","))):
+                there, _, here = name.partition(" as ")
+                found[here or there] = home, there
+    return found
+
+
+def definition_of(path, word):
+    """The definition that a word of a file names: one that it imports, from where that is declared, or its own; None where there is none."""
+    if word in imports(path):
+        return definition_of(*imports(path)[word])
+    return definitions_in(path).get(word) if path.endswith(".antt") else None
+
+
+def named_in(path, words):
+    """The definitions that words of a file name."""
+    return list(filter(None, (definition_of(path, word) for word in sorted(words))))
+
+
+def cited(call, kinds=("requires", "ensures")):
+    """The definitions that a call's clauses name."""
+    words = {word for lines in call.clauses(kinds) for line in lines for word in WORD.findall(line)}
+    return named_in(call.path, words)
+
+
+def is_law(call):
+    """A module that a crate gives out whole has laws, and nothing else."""
+    return bool(call.module)
+
+
+def with_statements(call):
+    """The definitions that a call's clauses name; of a law also those that its statements name."""
+    direct = cited(call)
+    below = [other for definition in direct for other in named_in(definition.path, definition.words)] if is_law(call) else []
+    return list(dict.fromkeys([*direct, *below]))
+
+
+def laws_by_definition(calls):
+    """Of each definition the laws of which the statement names it."""
+    found = defaultdict(list)
+    for law in filter(is_law, calls):
+        for definition in with_statements(law):
+            found[definition].append(law)
+    return found
+
+
+def laws_of(call, laws):
+    """The laws that speak of what a call's `ensures` clauses name."""
+    own = cited(call, ("ensures",))
+    few = [laws[definition] for definition in own if len(laws[definition]) <= MOST_LAWS]
+    return [] if is_law(call) else list(dict.fromkeys(law for found in few for law in found))
+
+
+def is_called(call, name):
+    """Whether a name is the call's, or the end of it."""
+    return f"::{call.said()}".endswith(f"::{name}")
+
+
+def printed(call, laws):
+    """The contract of a call, as lines."""
+    yield f"{call.said()}  {call.path}:{call.line}"
+    yield from (f"    {line}" for line in (*call.comment, *call.signature))
+    for title, found in (
+        ("definitions", [(it.name, it.path, it.line) for it in with_statements(call)]),
+        ("laws", [(law.said(), law.path, law.line) for law in laws_of(call, laws)]),
+    ):
+        if found:
+            yield f"    {title}:"
+            yield from (f"        {name}  {path}:{line}" for name, path, line in found)
+    yield ""
+
+
+def main():
+    words = argparse.ArgumentParser(description=__doc__, formatter_class=argparse.RawDescriptionHelpFormatter)
+    words.add_argument("--names", action="store_true", help="prints the names alone, each with the number of its clauses")
+    words.add_argument("calls", nargs="*", metavar="CALL", help="a call's name, or the end of it; all calls if none is given")
+    asked = words.parse_args()
+    calls = all_calls()
+    for name in asked.calls:
+        if not any(is_called(call, name) for call in calls):
+            raise streams.Refused(f"no public call {name}")
+    chosen = [call for call in calls if not asked.calls or any(is_called(call, name) for name in asked.calls)]
+    if asked.names:
+        lines = [f"{call.said()} {len(call.clauses())}" for call in chosen]
+    else:
+        laws = laws_by_definition(calls)
+        lines = [line for call in chosen for line in printed(call, laws)]
+    streams.write("".join(f"{line}\n" for line in lines))
+    return 0
+
+
+if __name__ == "__main__":
+    streams.run(main)
