@@ -1,12 +1,15 @@
 #!/usr/bin/env python3
 """Prints the contract of a public call of the crates: its comment, its signature with its clauses, and the definitions and the laws behind
-these, each with file and line. It reads the sources, and nothing of it is proved.
+these, each with file and line; and where its proof is. It reads the sources, and nothing of it is proved.
 
     tools/guarantees.py check Symbols::build in_order::laws::runs_end_alike
+    tools/guarantees.py --proof build_net
 
 The *definitions* are those that the clauses name; of a law, those that its statement names too. The *laws* are those whose statement names a
-definition of the call's `ensures` clauses, other than a word that many laws share. `docs/proof/GUARANTEES.md` has a row for each call, and
-`tests/run --only documents` compares the two.
+definition of the call's `ensures` clauses, other than a word that many laws share. `--proof` adds the *answers*, which close the goals of the
+call and of the functions below it in its crate, and the *lemmas* that these cite, each file with the first sentence of its head; of a law, a
+second list has those on which its lemmas rest. `docs/proof/GUARANTEES.md` has a row for each call, and `tests/run --only documents` compares
+the two.
 """
 import argparse
 import glob
@@ -30,6 +33,8 @@ OWNER = re.compile(r"^(?:unsafe )?impl(?:<[^{]*?>)? (?:[\w:]+(?:<.*>)? for )?(\w
 FUNCTION = re.compile(r'^( *)(pub )?(?:const )?(?:unsafe )?(?:extern "C" )?fn (\w+)')
 CLAUSE = re.compile(r"^\s*(requires|ensures)\b")
 IMPORT = re.compile(r"^(?:unfoldable )?(?:pub )?(?:ghost )?use (?:package\.)?Rattle\.([\w.\-]+)\.\{([^}]*)\}", re.MULTILINE)
+LEMMAS = re.compile(r"^\s*(?:pub )?use (?:package\.)?Rattle\.(in_\w+)\.proofs\.([\w.]+)\.\{([^}]*)\}", re.MULTILINE)
+CALLED = re.compile(r"\b([a-z]\w*)(?:::<[^(]*>)?\(")
 # A word of a definition, which may have marks in it, and the line that declares one.
 WORD = re.compile(r"[A-Za-z_][\w'\-]*")
 DECLARED = re.compile(r"^ *(?:unfoldable |abbrev )*pub (?!use |mod )(?:data |record )?([A-Za-z_][\w'\-]*)|^ +([A-Z][\w'\-]*) : ")
@@ -231,28 +236,102 @@ def laws_of(call, laws):
     return [] if is_law(call) else list(dict.fromkeys(law for found in few for law in found))
 
 
+@lru_cache(maxsize=None)
+def functions_of(crate):
+    """Of each function of a crate, public or not, by its name: the names of what it calls."""
+    found = defaultdict(set)
+    for full in sorted(glob.glob(os.path.join(TOP, "crates", crate, "src", "*.rt"))):
+        name, end = None, ""
+        for line in lines_of(os.path.relpath(full, TOP)):
+            written = FUNCTION.match(line)
+            if written:
+                name, end = written[3], written[1] + "}"
+            elif name and line.startswith(end):
+                name = None
+            elif name:
+                found[name].update(CALLED.findall(line))
+    return found
+
+
+def below(call):
+    """The names of a call and of all functions of its crate that it calls, directly or not; of its own name that call alone."""
+    functions, found, left = functions_of(call.crate), {call.name}, [call.name]
+    while left:
+        new = (functions[left.pop()] & functions.keys()) - found
+        found |= new
+        left += sorted(new)
+    return found
+
+
+def answers_of(call):
+    """The files that answer the goals of a call and of the functions below it."""
+    names = {call.name} if is_law(call) else below(call)
+    for full in sorted(glob.glob(os.path.join(TOP, "crates", call.crate, "proofs", "**", "Answers.antt"), recursive=True)):
+        path = os.path.relpath(full, TOP)
+        *_, owner, name, _ = path.split(os.sep)
+        if name in names and (name != call.name or not call.owner or owner == call.owner) and (call.module in ("", owner)):
+            yield path
+
+
+def lemma_files(path):
+    """The files of lemmas that a file names, behind the modules `Public` that hand lemmas on."""
+    found = []
+    for crate, module, names in LEMMAS.findall("\n".join(lines_of(path))):
+        home = f"crates/{crate}/proofs/{module.replace('.', '/')}.antt"
+        wanted = {name.partition(" as ")[0].strip() for name in names.split(",")}
+        if module == "Public":
+            listed = LEMMAS.findall("\n".join(lines_of(home)))
+            homes = [f"crates/{of}/proofs/{inner.replace('.', '/')}.antt" for of, inner, given in listed if wanted & {it.strip() for it in given.split(",")}]
+        else:
+            homes = [home]
+        found += [home for home in homes if os.path.exists(os.path.join(TOP, home)) and not home.endswith("/Goals.antt")]
+    return list(dict.fromkeys(found))
+
+
+def head_of(path):
+    """The first sentence of a file's head."""
+    kept = []
+    for line in lines_of(path):
+        if not line.startswith("--"):
+            break
+        kept.append(line[2:].strip())
+    return re.split(r"(?<=\.)\s", " ".join(kept))[0]
+
+
+def proof_of(call):
+    """The answers of a call and the lemmas behind them, as titles with lines."""
+    answers = list(answers_of(call))
+    lemmas = list(dict.fromkeys(home for path in answers for home in lemma_files(path)))
+    over = list(dict.fromkeys(home for path in lemmas for home in lemma_files(path) if home not in lemmas)) if is_law(call) else []
+    yield "answers", answers or ["none: the prover finds the proof"]
+    yield "lemmas", [f"{path}  {head_of(path)}" for path in lemmas]
+    yield "over", [f"{path}  {head_of(path)}" for path in over]
+
+
 def is_called(call, name):
     """Whether a name is the call's, or the end of it."""
     return f"::{call.said()}".endswith(f"::{name}")
 
 
-def printed(call, laws):
-    """The contract of a call, as lines."""
+def printed(call, laws, has_proof):
+    """The contract of a call, as lines, and its proof if that is asked for."""
     yield f"{call.said()}  {call.path}:{call.line}"
     yield from (f"    {line}" for line in (*call.comment, *call.signature))
     for title, found in (
-        ("definitions", [(it.name, it.path, it.line) for it in with_statements(call)]),
-        ("laws", [(law.said(), law.path, law.line) for law in laws_of(call, laws)]),
+        ("definitions", [f"{it.name}  {it.path}:{it.line}" for it in with_statements(call)]),
+        ("laws", [f"{law.said()}  {law.path}:{law.line}" for law in laws_of(call, laws)]),
+        *(proof_of(call) if has_proof else ()),
     ):
         if found:
             yield f"    {title}:"
-            yield from (f"        {name}  {path}:{line}" for name, path, line in found)
+            yield from (f"        {line}" for line in found)
     yield ""
 
 
 def main():
     words = argparse.ArgumentParser(description=__doc__, formatter_class=argparse.RawDescriptionHelpFormatter)
     words.add_argument("--names", action="store_true", help="prints the names alone, each with the number of its clauses")
+    words.add_argument("--proof", action="store_true", help="adds the answers and the lemmas")
     words.add_argument("calls", nargs="*", metavar="CALL", help="a call's name, or the end of it; all calls if none is given")
     asked = words.parse_args()
     calls = all_calls()
@@ -264,7 +343,7 @@ def main():
         lines = [f"{call.said()} {len(call.clauses())}" for call in chosen]
     else:
         laws = laws_by_definition(calls)
-        lines = [line for call in chosen for line in printed(call, laws)]
+        lines = [line for call in chosen for line in printed(call, laws, asked.proof)]
     streams.write("".join(f"{line}\n" for line in lines))
     return 0
 
