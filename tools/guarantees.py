@@ -4,11 +4,14 @@ these, each with file and line; and where its proof is. It reads the sources, an
 
     tools/guarantees.py check Symbols::build in_order::laws::runs_end_alike
     tools/guarantees.py --proof build_net
+    tools/guarantees.py --define IsAsPromised
+    tools/guarantees.py --files in_check
 
 The *definitions* are those that the clauses name; of a law, those that its statement names too. The *laws* are those whose statement names a
 definition of the call's `ensures` clauses, other than a word that many laws share. `--proof` adds the *answers*, which close the goals of the
 call and of the functions below it in its crate, and the *lemmas* that these cite, each file with the first sentence of its head; of a law, a
-second list has those on which its lemmas rest. `docs/proof/GUARANTEES.md` has a row for each call, and `tests/run --only documents` compares
+second list has those on which its lemmas rest. `--define` prints definitions by their names, and `--files` the files of definitions of crates,
+each after those that it imports, with the first sentence of its head. `docs/proof/GUARANTEES.md` has a row for each call, and `tests/run --only documents` compares
 the two.
 """
 import argparse
@@ -37,7 +40,8 @@ LEMMAS = re.compile(r"^\s*(?:pub )?use (?:package\.)?Rattle\.(in_\w+)\.proofs\.(
 CALLED = re.compile(r"\b([a-z]\w*)(?:::<[^(]*>)?\(")
 # A word of a definition, which may have marks in it, and the line that declares one.
 WORD = re.compile(r"[A-Za-z_][\w'\-]*")
-DECLARED = re.compile(r"^ *(?:unfoldable |abbrev )*pub (?!use |mod )(?:data |record )?([A-Za-z_][\w'\-]*)|^ +([A-Z][\w'\-]*) : ")
+DECLARED = re.compile(r"^(?:(?:unfoldable |abbrev )*pub (?!use |mod )(?:data |record )?| +(?:unfoldable )?abbrev pub | +pub (?:data|record) )([A-Za-z_][\w'\-]*)")
+VARIANT = re.compile(r"^ +(?:pub )?([A-Z][\w'\-]*) : ")
 
 
 class Call(NamedTuple):
@@ -168,11 +172,14 @@ def public_types(crate):
 def definitions_in(path):
     """The definitions of a file of `specs/`, by their names."""
     found, lines = {}, lines_of(path)
-    begins = [(number, it[1] or it[2]) for number, it in enumerate(map(DECLARED.match, lines)) if it]
+    begins = [(number, it[1]) for number, it in enumerate(map(DECLARED.match, lines)) if it]
     for (begin, name), (end, _) in zip(begins, [*begins[1:], (len(lines), "")]):
         if name not in found:
             text = "\n".join(line.split("--")[0] for line in lines[begin:end])
             found[name] = Definition(name, path, begin + 1, frozenset(WORD.findall(text)))
+    for number, it in enumerate(map(VARIANT.match, lines)):
+        if it:
+            found.setdefault(it[1], Definition(it[1], path, number + 1, frozenset()))
     return found
 
 
@@ -328,23 +335,75 @@ def printed(call, laws, has_proof):
     yield ""
 
 
-def main():
-    words = argparse.ArgumentParser(description=__doc__, formatter_class=argparse.RawDescriptionHelpFormatter)
-    words.add_argument("--names", action="store_true", help="prints the names alone, each with the number of its clauses")
-    words.add_argument("--proof", action="store_true", help="adds the answers and the lemmas")
-    words.add_argument("calls", nargs="*", metavar="CALL", help="a call's name, or the end of it; all calls if none is given")
-    asked = words.parse_args()
-    calls = all_calls()
-    for name in asked.calls:
+def spec_files(crate):
+    """The files of definitions of a crate, each after those of the crate that it imports."""
+    inside = os.path.join(TOP, "crates", crate, "specs", "**", "*.antt")
+    paths = [os.path.relpath(full, TOP) for full in sorted(glob.glob(inside, recursive=True)) if not full.endswith("Lib.antt")]
+    done = []
+
+    def add(path):
+        if path not in done:
+            for home in sorted({home for home, _ in imports(path).values()} & set(paths) - {path}):
+                add(home)
+            done.append(path)
+
+    for path in paths:
+        add(path)
+    return done
+
+
+def defined(name):
+    """The definitions of this name in all crates, each with its place and its text under its comment."""
+    for crate in crates():
+        for path in spec_files(crate):
+            definition = definitions_in(path).get(name)
+            if definition:
+                lines, begin = lines_of(path), definition.line - 1
+                while begin and lines[begin - 1].lstrip().startswith("--"):
+                    begin -= 1
+                end = next((number for number in range(definition.line, len(lines)) if not lines[number].strip()), len(lines))
+                yield f"{name}  {path}:{definition.line}"
+                yield from (f"    {line}" for line in lines[begin:end])
+                yield ""
+
+
+def chosen_calls(names, calls):
+    """The calls of these names, all if there are none."""
+    for name in names:
         if not any(is_called(call, name) for call in calls):
             raise streams.Refused(f"no public call {name}")
-    chosen = [call for call in calls if not asked.calls or any(is_called(call, name) for name in asked.calls)]
-    if asked.names:
-        lines = [f"{call.said()} {len(call.clauses())}" for call in chosen]
-    else:
-        laws = laws_by_definition(calls)
-        lines = [line for call in chosen for line in printed(call, laws, asked.proof)]
-    streams.write("".join(f"{line}\n" for line in lines))
+    return [call for call in calls if not names or any(is_called(call, name) for name in names)]
+
+
+def lines_for(asked):
+    """What is printed."""
+    if asked.define:
+        lines = [line for name in asked.names for line in defined(name)]
+        if not lines:
+            raise streams.Refused("no such definition")
+        return lines
+    if asked.files:
+        known = list(crates())
+        if not set(asked.names) <= set(known):
+            raise streams.Refused("no such crate")
+        return [f"{path}  {head_of(path)}" for crate in known if not asked.names or crate in asked.names for path in spec_files(crate)]
+    calls = all_calls()
+    chosen = chosen_calls(asked.names, calls)
+    if asked.list:
+        return [f"{call.said()} {len(call.clauses())}" for call in chosen]
+    laws = laws_by_definition(calls)
+    return [line for call in chosen for line in printed(call, laws, asked.proof)]
+
+
+def main():
+    words = argparse.ArgumentParser(description=__doc__, formatter_class=argparse.RawDescriptionHelpFormatter)
+    kinds = words.add_mutually_exclusive_group()
+    kinds.add_argument("--list", action="store_true", help="prints the names of calls alone, each with the number of its clauses")
+    kinds.add_argument("--proof", action="store_true", help="adds the answers and the lemmas")
+    kinds.add_argument("--define", action="store_true", help="prints the definitions of these names")
+    kinds.add_argument("--files", action="store_true", help="prints the files of definitions of these crates")
+    words.add_argument("names", nargs="*", metavar="NAME", help="a call's name, or the end of it; all calls if none is given")
+    streams.write("".join(f"{line}\n" for line in lines_for(words.parse_args())))
     return 0
 
 

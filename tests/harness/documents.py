@@ -150,7 +150,14 @@ def calls_without_row(crate):
     return ", ".join(call.said() for call in public_calls() if call.crate == crate and call.clauses() and call not in named)
 
 
+def definitions_not_found():
+    """The definitions that a file with a public call imports, and that the tool doesn't find."""
+    paths = sorted({call.path for call in public_calls()})
+    return ", ".join(f"{name} of {path}" for path in paths for name in guarantees.imports(path) if not guarantees.definition_of(path, name))
+
+
 def documents(program):
+    yield "tools/guarantees.py: definitions", definitions_not_found
     for crates, cell in rows():
         yield f"{GUARANTEES}: {cell}", partial(wrong_row, crates, cell)
     for crate in guarantees.crates():
