@@ -11,8 +11,9 @@ The *definitions* are those that the clauses name; of a law, those that its stat
 definition of the call's `ensures` clauses, other than a word that many laws share. `--proof` adds the *answers*, which close the goals of the
 call and of the functions below it in its crate, and the *lemmas* that these cite, each file with the first sentence of its head; of a law, a
 second list has those on which its lemmas rest. `--define` prints definitions by their names, and `--files` the files of definitions of crates,
-each after those that it imports, with the first sentence of its head. `docs/proof/GUARANTEES.md` has a row for each call, and `tests/run --only documents` compares
-the two.
+each after those that it imports, with the first sentence of its head.
+
+`docs/proof/GUARANTEES.md` has a row for each call, and `tests/run --only documents` compares the two.
 """
 import argparse
 import glob
@@ -35,6 +36,7 @@ EXPORT = re.compile(r"^pub use (\w+)::(?:(\w+)|\{([^}]*)\});", re.MULTILINE)
 OWNER = re.compile(r"^(?:unsafe )?impl(?:<[^{]*?>)? (?:[\w:]+(?:<.*>)? for )?(\w+)|^pub trait (\w+)")
 FUNCTION = re.compile(r'^( *)(pub )?(?:const )?(?:unsafe )?(?:extern "C" )?fn (\w+)')
 CLAUSE = re.compile(r"^\s*(requires|ensures)\b")
+# What a file imports of definitions, and of lemmas; what the body of a function calls.
 IMPORT = re.compile(r"^(?:unfoldable )?(?:pub )?(?:ghost )?use (?:package\.)?Rattle\.([\w.\-]+)\.\{([^}]*)\}", re.MULTILINE)
 LEMMAS = re.compile(r"^\s*(?:pub )?use (?:package\.)?Rattle\.(in_\w+)\.proofs\.([\w.]+)\.\{([^}]*)\}", re.MULTILINE)
 CALLED = re.compile(r"\b([a-z]\w*)(?:::<[^(]*>)?\(")
