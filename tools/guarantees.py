@@ -38,7 +38,7 @@ FUNCTION = re.compile(r'^( *)(pub )?(?:const )?(?:unsafe )?(?:extern "C" )?fn (\
 CLAUSE = re.compile(r"^\s*(requires|ensures)\b")
 # What a file imports of definitions, and of lemmas; what the body of a function calls.
 IMPORT = re.compile(r"^(?:unfoldable )?(?:pub )?(?:ghost )?use (?:package\.)?Rattle\.([\w.\-]+)\.\{([^}]*)\}", re.MULTILINE)
-LEMMAS = re.compile(r"^\s*(?:pub )?use (?:package\.)?Rattle\.(in_\w+)\.proofs\.([\w.]+)\.\{([^}]*)\}", re.MULTILINE)
+LEMMAS = re.compile(r"^\s*(?:pub )?use (?:package\.)?Rattle\.(in_\w+)\.proofs\.([\w.]+?)(?:\.\{([^}]*)\}| as (\w+))?$", re.MULTILINE)
 CALLED = re.compile(r"\b([a-z]\w*)(?:::<[^(]*>)?\(")
 # A word of a definition, which may have marks in it, and the line that declares one.
 WORD = re.compile(r"[A-Za-z_][\w'\-]*")
@@ -284,13 +284,13 @@ def answers_of(call):
 
 def lemma_files(path):
     """The files of lemmas that a file names, behind the modules `Public` that hand lemmas on."""
-    found = []
-    for crate, module, names in LEMMAS.findall("\n".join(lines_of(path))):
+    found, text = [], "\n".join(lines_of(path))
+    for crate, module, names, short in LEMMAS.findall(text):
         home = f"crates/{crate}/proofs/{module.replace('.', '/')}.antt"
-        wanted = {name.partition(" as ")[0].strip() for name in names.split(",")}
         if module == "Public":
+            wanted = {name.partition(" as ")[0].strip() for name in names.split(",")} | {*(re.findall(rf"\b{short}\.(\w+)", text) if short else ())}
             listed = LEMMAS.findall("\n".join(lines_of(home)))
-            homes = [f"crates/{of}/proofs/{inner.replace('.', '/')}.antt" for of, inner, given in listed if wanted & {it.strip() for it in given.split(",")}]
+            homes = [f"crates/{of}/proofs/{inner.replace('.', '/')}.antt" for of, inner, given, _ in listed if wanted & {it.strip() for it in given.split(",")}]
         else:
             homes = [home]
         found += [home for home in homes if os.path.exists(os.path.join(TOP, home)) and not home.endswith("/Goals.antt")]
