@@ -1,5 +1,5 @@
-"""The documents: each link and path in README.md and docs/ leads to a file, each crate named there is one, and each command on an example
-prints what is shown.
+"""The documents: each link and path in README.md and docs/ leads to a file, each crate named there is one, each command on an example
+prints what is shown, and each public call with a clause has its row in GUARANTEES.
 
 A command stands in a block as `$ ./inet WORDS < FILE`, `$ cat FILE` or `$ tools/NAME.py WORDS < FILE`, and the lines up to the next command are
 what it prints, those on standard error last. Other commands, and those with pipes and files that are written, aren't tried.
@@ -9,11 +9,15 @@ import os
 import re
 import subprocess
 import sys
-from functools import partial
+from functools import lru_cache, partial
 
 from harness.programs import HERE, LONGEST, shortened
 
 TOP = os.path.normpath(os.path.join(HERE, "..", ".."))
+sys.path.insert(0, os.path.join(TOP, "tools"))
+import guarantees  # noqa: E402  (the tools stand beside the tests)
+
+GUARANTEES = os.path.join("docs", "proof", "GUARANTEES.md")
 FOLDERS = ("bench", "bindings", "crates", "docs", "examples", "include", "tests", "tools")
 # Words that stand for any name.
 ANY = {"NAME", "LAW", "FOLDER", "MODULE", "CALL", "F"}
@@ -22,6 +26,8 @@ BLOCK = re.compile(r"^```[a-z]*\n(.*?)^```$", re.MULTILINE | re.DOTALL)
 LINK = re.compile(r"\]\(([^)\s]+)\)")
 WORD = re.compile(r"`([^`\n]+)`")
 CRATE = re.compile(r"`(in_\w+)(?:::[^`\n]*)?`")
+# A call in the first cell of a row, which may be a link.
+CALL = re.compile(r"`([\w:]+)`(?:\]\(([^)]+)\))?")
 COMMAND = re.compile(r"\$ (?:\./)?(inet|cat|tools/\w+\.py)\b(?: ([^>|]*?))?(?: ?< (\S+))?$")
 
 
@@ -101,7 +107,61 @@ def wrong_print(program, name, words, file, shown):
     return None if printed == shown.encode() else f"prints {shortened(printed)}; shown: {shortened(shown.encode())}"
 
 
+@lru_cache(maxsize=None)
+def public_calls():
+    return guarantees.all_calls()
+
+
+def rows():
+    """The rows of GUARANTEES, each as the crates of its part and the cell that names calls."""
+    crates = []
+    for line in text_at(GUARANTEES).split("\n"):
+        if line.startswith("## "):
+            crates = CRATE.findall(line)
+        elif crates and line.startswith("| ") and not line.startswith(("| Call ", "| Law ")):
+            yield crates, line.split(" | ")[0]
+
+
+def calls_of_row(crates, cell):
+    """Each name in a row's cell, with its link and its call: a name without a type belongs to the type before it, if that has such a call."""
+    owner = ""
+    for name, link in CALL.findall(cell):
+        before, _, last = name.rpartition("::")
+        owner = before or owner
+        named = {call.owner: call for call in public_calls() if call.crate in crates and call.name == last}
+        yield name, link, named.get(owner) or (None if before else named.get(""))
+
+
+def wrong_row(crates, cell):
+    """What is wrong with a row: it names no call or type of its crates, or links another file."""
+    types = {name for crate in crates for name in guarantees.exported(crate)[1]}
+    for name, link, call in calls_of_row(crates, cell):
+        if call is None and name not in types:
+            return f"no public call {name} in {', '.join(crates)}"
+        home = os.path.normpath(os.path.join(os.path.dirname(GUARANTEES), link))
+        if call and link and home != call.path:
+            return f"{name} is in {call.path}, and the link leads to {home}"
+    return None
+
+
+def calls_without_row(crate):
+    """The public calls of a crate that have a clause and no row."""
+    named = {call for crates, cell in rows() for _, _, call in calls_of_row(crates, cell)}
+    return ", ".join(call.said() for call in public_calls() if call.crate == crate and call.clauses() and call not in named)
+
+
+def definitions_not_found():
+    """The definitions that a file with a public call imports, and that the tool doesn't find."""
+    paths = sorted({call.path for call in public_calls()})
+    return ", ".join(f"{name} of {path}" for path in paths for name in guarantees.imports(path) if not guarantees.definition_of(path, name))
+
+
 def documents(program):
+    yield "tools/guarantees.py: definitions", definitions_not_found
+    for crates, cell in rows():
+        yield f"{GUARANTEES}: {cell}", partial(wrong_row, crates, cell)
+    for crate in guarantees.crates():
+        yield f"{GUARANTEES}: rows of {crate}", partial(calls_without_row, crate)
     for page in pages():
         text = text_at(page)
         outside = BLOCK.sub("", text)
