@@ -265,9 +265,10 @@ static void give_pair(struct worker *w, int to, word *pair, size_t most) {
   post_letter(w, &team.posts[to], (struct letter){0, pair[0], pair[1]});
 }
 
+// Without interactions that it may do, a process gives none: it has said that it is idle, and who is idle sends no letters.
 static void give_pairs(struct worker *w, int to, size_t most) {
   size_t pairs = (size_t)(w->sp - w->bottom) / 2;
-  if (!team.is_together || pairs < LEAST_PAIRS) {
+  if (!team.is_together || !w->fuel || pairs < LEAST_PAIRS) {
     tell(to, NONE, 0);
     return;
   }

@@ -106,6 +106,13 @@ def wrong_jobs(made):
     return None
 
 
+def wrong_limits(made):
+    """What is wrong with runs that stop at a limit while pairs are asked for: none of them is lost."""
+    text = text_of("ackermann")
+    path, usual = made.compiled("limits", text), made.inet(text, MOST)
+    return next(filter(None, (made.wrong(3, [path], limit, usual) for limit in range(1, count_of(usual), 2))), None)
+
+
 def children_of(process):
     """The processes that this one started."""
     with open(f"/proc/{process}/task/{process}/children") as file:
@@ -163,6 +170,7 @@ def machines(program):
         return
     made = Machines(program, "machines")
     yield "killed half way", partial(wrong_when_killed, made)
+    yield "each limit", partial(wrong_limits, made)
     yield "jobs", partial(wrong_jobs, made)
     yield "memory", partial(wrong_memory, made)
     yield "sanitizers", partial(wrong_sanitized, made)
