@@ -1,5 +1,5 @@
 -- Given steps are judged once: a text has one program, or one refusal.
-use Rattle.std.proofs.Common.{◌≡◌, ◌↔◌, ◌∙◌, ℕ, tt, Bool, IsTrue, List, Option, Some, None, Ok, Err, option_map, slice_get, refl, sym, ap, subst}
+use Rattle.std.proofs.Common.{◌≡◌, ◌↔◌, ◌∙◌, ℕ, Bool, IsTrue, List, Option, Some, None, Ok, Err, option_map, slice_get, refl, sym, ap, subst}
 use Rattle.in_syntax.specs.declared.faults.Fault.TheVariants.{Refused, Memory}
 use Rattle.in_open_nets.specs.OpenNets.{OpenNet}
 use Rattle.in_open_nets.proofs.Public.{same_test}

@@ -81,23 +81,23 @@ module _ (text : List ℕ) (p : Program) (accepted : IsAccepted text p) (choices
   after : (most : ℕ) → o.further ≤ most → (o.further < most → TakesNoFirst o.machine) → u.further ≤ most → (u.further < most → TakesNoFirst u.machine) → (o.further ≡ u.further) × AreSame o.machine u.machine
   after most fits ends fits_too ends_too = firsts_taken_are_one h.middle o.machine u.machine most o.further u.further middle.0 h.in_turn fits ends other fits_too ends_too
 
+  further : (o.further ≡ u.further) × AreSame o.machine u.machine
+  further = elim (slice_get_cases choices o.chosen).1 [
+    | inl x ↦ (
+        let none = (h.left x.0 x.2).1 in
+        let none_too = (g.left x.0 (subst (λ i. slice_get choices i ≡ Some x.0) as_many x.2)).1 in
+        after 0 (omega (arith, none)) (λ l. absurd (omega (arith, l))) (omega (arith, none_too)) (λ l. absurd (omega (arith, l)))
+        )
+    | inr x ↦ (
+        let past = x.0 in
+        let most = h.most in
+        let all : o.chosen ≡ length choices = omega (arith, past, most) in
+        after limit h.few (h.fewer all) g.few (g.fewer (subst (λ i. i ≡ length choices) as_many all))
+        )
+  ]
+
   pub one_end : (o.chosen ≡ u.chosen) × (o.further ≡ u.further) × AreSame o.machine u.machine
-  one_end = (
-    as_many,
-    elim (slice_get_cases choices o.chosen).1 [
-      | inl x ↦ (
-          let none = (h.left x.0 x.2.0).1 in
-          let none_too = (g.left x.0 (subst (λ i. slice_get choices i ≡ Some x.0) as_many x.2.0)).1 in
-          after 0 (omega (arith, none)) (λ l. absurd (omega (arith, l))) (omega (arith, none_too)) (λ l. absurd (omega (arith, l)))
-          )
-      | inr x ↦ (
-          let past = x.0 in
-          let most = h.most in
-          let all : o.chosen ≡ length choices = omega (arith, past, most) in
-          after limit h.few (h.fewer all) g.few (g.fewer (subst (λ i. i ≡ length choices) as_many all))
-          )
-    ],
-  )
+  one_end = (as_many, further.0, further.1)
 
 pub chosen_runs_are_one : ChosenRunsAreOne
 chosen_runs_are_one text p choices limit cells o u accepted few h g = one_end text p accepted choices limit cells few o u h g

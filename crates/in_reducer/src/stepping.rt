@@ -268,19 +268,4 @@ impl<'a> Reducer<'a> {
         self.step_here(template);
         true
     }
-
-    /// The interaction of the first pair, up to numbers, where there is one and what it needs is free. Returns whether it was done. The
-    /// templates are those of the program. It takes no memory.
-    #[inline(always)]
-    pub(crate) fn step_first(&mut self, templates: &Templates) -> bool
-        requires { AreTemplatesOf self.old.program templates.now }
-        ensures done { result ≡ true → StepsUpToNumbers self.old 0 self.new }
-        ensures none { result ≡ false → (self.new ≡ self.old) × ((self.old.queue ≡ []) ⊎ (HasRoomAt self.old 0 → ⊥)) }
-    {
-        if self.pairs() == 0 {
-            return false;
-        }
-        let heads = self.body.heads(0);
-        self.step_known(templates, heads)
-    }
 }

@@ -1,5 +1,5 @@
 // Interactions of the first pairs, or of the last ones, one after another.
-ghost use Rattle.std.specs.Prelude.{◌≡◌, ◌⊎◌, ◌↔◌, ◌≤◌, ◌<◌, ◌-◌, ℕ, IsTrue, true, false, [], length, Some, slice_get};
+ghost use Rattle.std.specs.Prelude.{◌≡◌, ◌⊎◌, ◌↔◌, ◌≤◌, ◌<◌, ◌+◌, ◌-◌, ℕ, IsTrue, true, false, [], length, Some, slice_get};
 ghost use Rattle.in_arena.specs.declared.content.CellClass.{CellClass};
 ghost use Rattle.in_symbols.specs.declared.symbols.SymbolNo.{SymbolNo as Symbol};
 ghost use Rattle.in_compile.specs.Cells.{count_of};
@@ -36,6 +36,19 @@ impl Ahead {
             next: TOGETHER,
         }
     }
+
+    /// The first pair is taken, whose symbols were read ahead if any were.
+    #[inline(always)]
+    fn go_on(&mut self)
+        requires { self.old.next ≤ together }
+        ensures heads { (self.new.heads ≡ self.old.heads) × (length self.new.heads ≡ together) }
+        ensures none { self.old.next ≡ together → self.new.next ≡ together }
+        ensures some { (self.old.next ≡ together → ⊥) → self.new.next ≡ self.old.next + 1 }
+    {
+        if self.next != TOGETHER {
+            self.next += 1;
+        }
+    }
 }
 
 impl<'a> Reducer<'a> {
@@ -62,20 +75,36 @@ impl<'a> Reducer<'a> {
         }
     }
 
-    /// The interaction of the first pair, as `step_first` says, by what was read ahead, if anything was.
+    /// The symbols of the first pair, which were read ahead if any were.
+    #[inline(always)]
+    fn first_heads(&self, ahead: &Ahead) -> (SymbolNo, SymbolNo)
+        requires { AreAhead self.now ahead.now × (0 < length self.now.queue) }
+        ensures { HasHeadsAt self.now 0 result }
+    {
+        if ahead.next == TOGETHER {
+            self.body.heads(0)
+        } else {
+            ahead.heads[ahead.next]
+        }
+    }
+
+    /// The interaction of the first pair, up to numbers, where there is one and what it needs is free. Returns whether it was done. The
+    /// templates are those of the program. It takes no memory.
     #[inline(always)]
     fn step_next(&mut self, templates: &Templates, ahead: &mut Ahead) -> bool
         requires { AreTemplatesOf self.old.program templates.now × AreAhead self.old ahead.old }
         ensures done { result ≡ true → StepsUpToNumbers self.old 0 self.new × AreAhead self.new ahead.new }
         ensures none { result ≡ false → (self.new ≡ self.old) × ((self.old.queue ≡ []) ⊎ (HasRoomAt self.old 0 → ⊥)) }
     {
-        use_promise!(self.pairs());
-        if ahead.next == TOGETHER {
-            return self.step_first(templates);
+        if self.pairs() == 0 {
+            return false;
         }
-        let heads = ahead.heads[ahead.next];
-        ahead.next += 1;
-        self.step_known(templates, heads)
+        let heads = self.first_heads(ahead);
+        if !self.step_known(templates, heads) {
+            return false;
+        }
+        ahead.go_on();
+        true
     }
 
     /// Interactions of the first pair of the queue, one after another, at most `most`, first in, first out. Fewer only where no pair is left, or

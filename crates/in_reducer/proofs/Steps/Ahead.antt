@@ -74,6 +74,14 @@ one_taken m n h s a b ahead some next same = record {
       (ap (slice_get a.heads) (let z : a.next + suc k ≡ b.next + k = omega (arith, next) in z) ∙ ap (λ (xs : List (SymbolNo × SymbolNo)). slice_get xs (b.next + k)) (sym same) ∙ at));
 }
 
+-- .. or none was ahead
+pub goes_on : (m n : MachineParts) → IsReducer m → StepsUpToNumbers m 0 n → (a b : Ahead) → AreAhead m a → b.heads ≡ a.heads → length b.heads ≡ together → (a.next ≡ together → b.next ≡ together) → ((a.next ≡ together → ⊥) → b.next ≡ a.next + 1) → AreAhead n b
+goes_on m n h s a b ahead same long none some = go (cases_eq a.next together)
+  where
+    go : (a.next ≡ together) ⊎ (a.next ≢ together) → AreAhead n b
+    go (inl e) = none_ahead n b (none e) long
+    go (inr f) = one_taken m n h s a b ahead f (some f) same
+
 -- ---- one after another
 
 -- what holds of the first n holds of one more
