@@ -1,5 +1,5 @@
 -- Numbers of cells by class: two needs that are alike are one, and one class is the first that is short.
-use Rattle.std.proofs.Common.{◌≡◌, ◌⊎◌, inl, inr, ◌<◌, ℕ, refl, arith}
+use Rattle.std.proofs.Common.{◌≡◌, ◌⊎◌, inl, inr, ◌<◌, ℕ, arith}
 use Rattle.in_arena.specs.Classes.{class_no}
 use Rattle.in_arena.proofs.Public.{same_class}
 use Rattle.in_arena.specs.declared.content.CellClass.{CellClass}

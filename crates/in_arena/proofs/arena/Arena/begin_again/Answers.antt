@@ -1,4 +1,4 @@
-use Rattle.std.proofs.Common.{◌≡◌, ◌∙◌, ap, refl, sym, subst}
+use Rattle.std.proofs.Common.{◌∙◌, ap, refl, sym, subst}
 use Rattle.in_arena.specs.Arenas.{ArenaView}
 use Rattle.in_arena.specs.Classes.{Holds, IsNumberOf, class_no}
 use Rattle.in_arena.specs.States.{IsLive, IsBegun}
@@ -24,8 +24,11 @@ returns-then-number-clause-begun c = λ yes.
     (changed_from r h c.renew.new.self _ _ c.self.view_is c.place_of-own.ensures x.2 refl)
 
 pub returns-clause-other : goal.returns-clause-other
-returns-clause-other c = λ no. (refl, λ of.
-    let r = c.self.inside.regions in let q = c.place_of-own.result in
-    let at = subst (λ (v : ArenaView). IsNumberOf v.cells q.0 c.args.cell.0) c.self.view_is (number_of_place r.cells c.args.cell.0 q.0 q.1 c.place_of-own.ensures) in
-    let same = numbers_apart c.args.self.now.cells c.args.cell.0 q.0 c.args.class at of in
-    c.if-number.false (c.number.ensures ∙ ap class_no same ∙ sym c.number-2.ensures))
+returns-clause-other c = λ no. (
+  refl,
+  λ of.
+      let r = c.self.inside.regions in let q = c.place_of-own.result in
+      let at = subst (λ (v : ArenaView). IsNumberOf v.cells q.0 c.args.cell.0) c.self.view_is (number_of_place r.cells c.args.cell.0 q.0 q.1 c.place_of-own.ensures) in
+      let same = numbers_apart c.args.self.now.cells c.args.cell.0 q.0 c.args.class at of in
+      c.if-number.false (c.number.ensures ∙ ap class_no same ∙ sym c.number-2.ensures),
+)

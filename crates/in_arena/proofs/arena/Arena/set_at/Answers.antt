@@ -22,10 +22,13 @@ returns-in-Some-clause-cell c = λ yes.
     )
 
 pub returns-in-None-clause-free : goal.returns-in-None-clause-free
-returns-in-None-clause-free c = λ no. (refl, λ cell place at.
-    let long = arena_long c.self.inside.regions c.self.invariant.regions in
-    let same = ap (λ (v : ArenaView). length v.states) c.self.view_is in
-    let old = c.args.self.now in
-    let low = state_inside old cell.0 (placed_here (state_at old cell.0) place (c.requires cell place at)) in
-    let high = c.in-None.ensures cell place at in
-    absurd (omega (arith, long, same, low, high)))
+returns-in-None-clause-free c = λ no. (
+  refl,
+  λ cell place at.
+      let long = arena_long c.self.inside.regions c.self.invariant.regions in
+      let same = ap (λ (v : ArenaView). length v.states) c.self.view_is in
+      let old = c.args.self.now in
+      let low = state_inside old cell.0 (placed_here (state_at old cell.0) place (c.requires cell place at)) in
+      let high = c.in-None.ensures cell place at in
+      absurd (omega (arith, long, same, low, high)),
+)
