@@ -68,9 +68,13 @@ def range_at(document, place):
 
 def said(data, with_places):
     """The sentences of a diagnosis: those of notes with places too, where nothing else shows them."""
-    notes = [part for part in data["notes"] if with_places or not part["place"]]
-    parts = [(word, part) for word, parts in (("", data["errors"]), ("note: ", notes), ("help: ", data["helps"])) for part in parts]
-    return "\n".join(word + part["message"] for word, part in parts)
+    lines = [part["message"] for part in data["errors"]]
+    for part in data["notes"]:
+        if not part["place"]:
+            lines.append(f"note: {part['message']}")
+        elif with_places:
+            lines.append(f"note, line {part['place']['line']}: {part['message']}")
+    return "\n".join([*lines, *(f"help: {part['message']}" for part in data["helps"])])
 
 
 def diagnostics(document, status, data, shows_related):

@@ -240,14 +240,9 @@ def of_symbol(symbol, brackets, snippets):
 
 def of_heads(reading, first, snippets):
     """The symbols that may be a head: behind another one those that it can meet, without a rule first."""
-    if not first:
-        return [of_symbol(symbol, "[]", snippets) for symbol in reading.symbols.values()]
     symbol = reading.symbols.get(first)
-    offered = []
-    for other in opposites(reading, symbol) if symbol else []:
-        has_rule = frozenset((first, other.name.text)) in reading.rules
-        offered.append({**of_symbol(other, "[]", snippets), "sortText": f"{int(has_rule)}{other.name.text}"})
-    return offered
+    rank = {symbol.name.text: int(frozenset((first, symbol.name.text)) in reading.rules) for symbol in reading.symbols.values()}
+    return [{**of_symbol(other, "[]", snippets), "sortText": f"{rank[other.name.text]}{other.name.text}"} for other in (opposites(reading, symbol) if symbol else reading.symbols.values())]
 
 
 def of_terms(reading, item, begin, end, snippets):
@@ -279,7 +274,7 @@ def offered(reading, begin, end, snippets):
         if not heads.open:
             if heads.is_complete:
                 return of_words("with")
-            first = heads.current.sides[0].name.text if heads.current else None
+            first = heads.current.sides[0].name.text if heads.current else ""
             return of_heads(reading, first, snippets) if not first or heads.current.sign else []
     return of_terms(reading, item, begin, end, snippets) if word in ("rule", "net") else []
 
