@@ -51,10 +51,10 @@ def library():
         return None, str(error)
 
 
-def verdict(calls, text):
-    """What a change of names leaves as it is: what an accepted program has, or the code of a refusal."""
-    status, line = calls.check(text)
-    return status, line if status == inet.OK else line[:len("refused E00")]
+def is_spoilt(calls, one, other):
+    """Whether a text is accepted, and another one isn't, or has other counts."""
+    usual = calls.check(one)
+    return usual.status == inet.OK and calls.check(other) != usual
 
 
 # ---- diagnoses

@@ -78,12 +78,12 @@ class Document:
         """The characters of a range, in their order."""
         return sorted((self.offset(range_["start"]), self.offset(range_["end"])))
 
-    def changed(self, version, change):
+    def changed(self, change):
         """The document after a change of the protocol: of a part of the text, or of all of it."""
         begin, end = self.offsets(change["range"]) if change.get("range") else (0, len(self.text))
         if not isinstance(change["text"], str):
             raise TypeError("a text is no string")
-        return Document(self.uri, version, changed(self.text, [(begin, end, change["text"])]))
+        return Document(self.uri, self.version, changed(self.text, [(begin, end, change["text"])]))
 
     def edits(self, changes):
         """Changes of the text in the protocol's form."""

@@ -62,6 +62,11 @@ def opposites(reading, symbol):
     return [other for other in reading.symbols.values() if other.principal and (other.principal.type.text, other.principal.sign) == wanted]
 
 
+def rule_of(reading, one, other):
+    """The rule of two symbols, None where there is none."""
+    return reading.rules.get(frozenset((one, other)))
+
+
 def about_symbol(reading, text):
     """A symbol's declaration, its ports, and its rules."""
     symbol = reading.symbols.get(text)
@@ -73,8 +78,8 @@ def about_symbol(reading, text):
         said.append(f"a {kind}: its principal port {direction(symbol.principal)}")
     said.append("\n".join(f"- auxiliary port {number} {direction(port)}" for number, port in enumerate(symbol.auxiliary, 1)))
     names = [other.name.text for other in opposites(reading, symbol)]
-    with_rules = [f"`{name}` (line {line_of(reading, reading.rules[key].start)})" for name in names if (key := frozenset((text, name))) in reading.rules]
-    without = [name for name in names if frozenset((text, name)) not in reading.rules]
+    with_rules = [f"`{name}` (line {line_of(reading, rule.start)})" for name in names if (rule := rule_of(reading, text, name))]
+    without = [name for name in names if not rule_of(reading, text, name)]
     said.append(f"rules with {', '.join(with_rules)}" if with_rules else "")
     said.append(f"no rule with {listed(without)}" if without else "")
     return said
@@ -106,7 +111,7 @@ def about_wire(reading, wire, called):
 def about_pair(reading, wire):
     """The rule of an active pair, as it is written."""
     names = [term.name.text for term, _ in wire.points]
-    rule = reading.rules.get(frozenset(names))
+    rule = rule_of(reading, *names)
     if not rule:
         return [f"an active pair of {listed(names)}, which have no rule"]
     return [f"an active pair; its rule is in line {line_of(reading, rule.start)}", code(reading.text[rule.start:rule.end][:MOST_SHOWN])]
@@ -139,7 +144,7 @@ def about(reading, offset):
     if item and token and token.text == "~":
         wire = wire_of(reading, item, lambda wire: token.start in wire.places)
         return (about_pair(reading, wire) if wire.is_pair else about_wire(reading, wire, "this equation")) if wire else [], token
-    if item and item.heads and token in (item.word, item.heads.sign):
+    if item and item.heads and token and token in (item.word, item.heads.sign):
         return [part for head in item.head_names for part in about_symbol(reading, head)[:2]], token
     return None
 
@@ -174,7 +179,7 @@ def definition(document, offset):
         return [location(document, other.token) for other in reading.same(name) if other.declared]
     item, token = item_at(reading, offset), token_at(reading, offset)
     wire = wire_of(reading, item, lambda wire: wire.is_pair and token.start in wire.places) if item and token and token.text == "~" else None
-    rule = reading.rules.get(frozenset(term.name.text for term, _ in wire.points)) if wire else None
+    rule = rule_of(reading, *(term.name.text for term, _ in wire.points)) if wire else None
     return [location(document, rule.word)] if rule else []
 
 
@@ -241,8 +246,8 @@ def of_symbol(symbol, brackets, snippets):
 def of_heads(reading, first, snippets):
     """The symbols that may be a head: behind another one those that it can meet, without a rule first."""
     symbol = reading.symbols.get(first)
-    rank = {symbol.name.text: int(frozenset((first, symbol.name.text)) in reading.rules) for symbol in reading.symbols.values()}
-    return [{**of_symbol(other, "[]", snippets), "sortText": f"{rank[other.name.text]}{other.name.text}"} for other in (opposites(reading, symbol) if symbol else reading.symbols.values())]
+    found = opposites(reading, symbol) if symbol else reading.symbols.values()
+    return [{**of_symbol(other, "[]", snippets), "sortText": f"{int(bool(rule_of(reading, first, other.name.text)))}{other.name.text}"} for other in found]
 
 
 def of_terms(reading, item, begin, end, snippets):

@@ -18,7 +18,7 @@ import checking
 import features
 import layout
 import transport
-from documents import Document
+from documents import Document, changed
 
 ENDED, WENT_AWAY, WRONG_WORDS = range(3)
 # Errors as the protocol numbers them.
@@ -85,7 +85,8 @@ class Server:
             number, words = REQUEST_FAILED, str(why)
         except Exception as why:
             number, words = INVALID_PARAMS if isinstance(why, OF_PARAMS) else INTERNAL_ERROR, repr(why)
-            self.tell(FOR_THE_LOG, traceback.format_exc(), "window/logMessage")
+            if number == INTERNAL_ERROR:
+                self.tell(FOR_THE_LOG, traceback.format_exc(), "window/logMessage")
         return {"error": {"code": number, "message": words}}
 
     def tell(self, kind, words, method="window/showMessage"):
@@ -103,7 +104,8 @@ class Server:
         elif method == "shutdown":
             self.is_ending = True
         elif method in ANSWERS and is_request:
-            return ANSWERS[method](self, *self.place(params), params)
+            document, offset = self.place(params)
+            return ANSWERS[method](self, document, offset, params) if len(document.text) <= MOST_CHARACTERS else None
         elif method in NOTED and self.client is not None:
             NOTED[method](self, params)
         elif is_request:
@@ -115,8 +117,6 @@ class Server:
         document = self.documents.get(params["textDocument"]["uri"])
         if document is None:
             raise Failed(INVALID_PARAMS, "this document isn't open")
-        if len(document.text) > MOST_CHARACTERS:
-            raise Failed(REQUEST_FAILED, "the text is too long")
         return document, document.offset(params["position"]) if "position" in params else None
 
     def initialize(self, params):
@@ -162,8 +162,9 @@ class Server:
     def edited(self, params):
         given = params["textDocument"]
         document = self.documents[given["uri"]]
+        document = Document(document.uri, given.get("version"), document.text)
         for change in params["contentChanges"]:
-            document = document.changed(given.get("version"), change)
+            document = document.changed(change)
         self.put(document)
 
     def closed(self, params):
@@ -212,12 +213,9 @@ class Server:
         return {"range": document.range_of(name.token), "placeholder": name.token.text} if name else None
 
     def rename(self, document, offset, params):
-        """The changes that rename. Where `inet` would say something else of the program then, there are none."""
         changes = features.renamed(document, offset, params["newName"])
-        if self.calls:
-            one, other = (checking.verdict(self.calls, text) for text in (document.text, checking.changed(document.text, changes)))
-            if one != other:
-                raise features.Refused("the program would have another meaning with this name")
+        if self.calls and checking.is_spoilt(self.calls, document.text, changed(document.text, changes)):
+            raise features.Refused("the program wouldn't be accepted with this name")
         return self.workspace_edit(document, changes)
 
     def workspace_edit(self, document, changes):
