@@ -694,6 +694,121 @@ def wrong_first_library(room):
     return None
 
 
+# ---- editors
+
+VSCODE = os.path.join(EDITORS, "vscode")
+# How colours are called, in VS Code's grammar and in Vim's; of a name without brackets a grammar doesn't know whether it is a symbol's.
+SCOPES = {reader.TYPE: ["entity.name.type.inet"], reader.SYMBOL: ["entity.name.function.inet"], reader.VARIABLE: ["variable.other.inet"]}
+GROUPS = {reader.TYPE: ["inetType", "inetDeclaredType"], reader.SYMBOL: ["inetSymbol"], reader.VARIABLE: ["inetVariable"]}
+MENDED_IN_NEOVIM = ("misspelt_symbol", "sum_before_its_copies")
+# Stands in for what VS Code hands to its extensions, and prints how the server is started.
+STAND_IN = """
+const Module = require("module"), load = Module._load;
+class LanguageClient {
+  constructor(id, name, server, client) { console.log(JSON.stringify([server, client])); }
+  start() { return Promise.resolve(); }
+  stop() { return Promise.resolve(); }
+}
+Module._load = (name, ...more) => name === "vscode-languageclient/node" ? { LanguageClient } : load(name, ...more);
+const extension = require(process.argv[1]);
+extension.activate().then(extension.deactivate);
+"""
+
+
+def colours(text):
+    """Which colour each name of a text has: that of a type or of a symbol where it is declared or its sign or bracket follows, else of a variable."""
+    follows = {reader.TYPE: re.compile(r"\s*[+-]"), reader.SYMBOL: re.compile(r"\s*[(\[]")}
+    for name in reader.Reading(text).names:
+        is_known = name.kind in follows and (name.declared or follows[name.kind].match(text, name.token.end))
+        yield name.token, name.kind if is_known else reader.VARIABLE
+
+
+def scopes(grammar, text):
+    """The scope of each place of a text, by a grammar of VS Code that has matches, and rules with a beginning and an end, within which are matches."""
+    found, offset, patterns, end = {}, 0, grammar["patterns"], None
+    for line in text.splitlines(keepends=True):
+        place = 0
+        while True:
+            rules = [{"match": end, "is_end": True}] * bool(end) + patterns
+            hits = [(hit.start(), number) for number, rule in enumerate(rules) if (hit := re.compile(rule.get("match") or rule["begin"]).search(line, place))]
+            if not hits:
+                break
+            start, number = min(hits)
+            rule = rules[number]
+            hit = re.compile(rule.get("match") or rule["begin"]).match(line, start)
+            captures = {**rule.get("captures", {}), **rule.get("beginCaptures", {}), **({"0": {"name": rule["name"]}} if "name" in rule else {})}
+            for group, capture in captures.items():
+                for at in range(*hit.span(int(group))):
+                    found[offset + at] = capture["name"]
+            if "begin" in rule:
+                patterns, end = rule["patterns"], rule["end"]
+            elif "is_end" in rule:
+                patterns, end = grammar["patterns"], None
+            place = hit.end()
+        offset += len(line)
+    return found
+
+
+def wrong_grammar(names):
+    """What is wrong with the colours that VS Code's grammar gives to the names, words and comments of examples."""
+    with open(os.path.join(VSCODE, "inet.tmLanguage.json"), encoding="utf-8") as file:
+        grammar = json.load(file)
+    for name in names:
+        text = text_of(name).decode(errors="replace")
+        found = scopes(grammar, text)
+        wanted = [(token, SCOPES[kind]) for token, kind in colours(text)]
+        wanted += [(token, ["keyword.declaration.inet"]) for token in reader.tokens(text) if token.kind == reader.RESERVED]
+        wanted += [(token, ["comment.line.number-sign.inet"]) for token in reader.tokens(text) if token.kind == reader.COMMENT]
+        for token, allowed in wanted:
+            if found.get(token.start) not in allowed:
+                return f"{name}: {token} is a {found.get(token.start)}"
+    return None
+
+
+def wrong_extension(room):
+    """What is wrong with VS Code's extension: the files that it names are there, and it starts the server, from a link too."""
+    with open(os.path.join(VSCODE, "package.json"), encoding="utf-8") as file:
+        package = json.load(file)
+    paths = [package["main"], *(one["configuration"] for one in package["contributes"]["languages"]), *(one["path"] for one in package["contributes"]["grammars"])]
+    lacking = [path for path in paths if not os.path.exists(os.path.join(VSCODE, path))]
+    if lacking or not shutil.which("node"):
+        return f"no {lacking}" if lacking else None
+    link = os.path.join(room, "inet of VS Code")
+    os.symlink(VSCODE, link)
+    ran = subprocess.run(["node", "-e", STAND_IN, link], capture_output=True, timeout=WAIT, check=False)
+    server, client = json.loads(ran.stdout)
+    wanted = [{"command": "python3", "args": [os.path.realpath(SERVER)]}, {"documentSelector": [{"language": package["contributes"]["languages"][0]["id"]}]}]
+    return None if [server, client] == wanted and not ran.returncode and not ran.stderr else f"{server}, {client}, {ran.stderr!r}"
+
+
+def wrong_neovim(program, shared, name):
+    """What is wrong in headless Neovim: a diagnosis appears, a change mends it, names are known, and what is typed is checked again."""
+    room = os.path.join(program.room, f"Neovim {name}")
+    os.mkdir(room)
+    file, text = os.path.join(room, f"{name}.inet"), text_of(name)
+    with open(file, "wb") as opened:
+        opened.write(text)
+    homes = {key: room for key in ("HOME", "XDG_CONFIG_HOME", "XDG_DATA_HOME", "XDG_STATE_HOME", "XDG_CACHE_HOME")}
+    words = ["--headless", "-n", "-u", "NONE", "-i", "NONE", "--cmd", f"set runtimepath^={os.path.join(EDITORS, 'vim')}", "--cmd", "filetype plugin on | syntax on"]
+    command = ["nvim", *words, file, "-c", f"luafile {os.path.join(HERE, 'editors.lua')}"]
+    ran = subprocess.run(command, stdin=subprocess.DEVNULL, capture_output=True, env={**os.environ, **homes, "INET_LIBRARY": shared}, timeout=10 * WAIT, check=False)
+    try:
+        seen = json.loads(ran.stdout)
+    except ValueError:
+        return f"status {ran.returncode}, {ran.stdout!r}, {ran.stderr!r}"
+    line, column = re.match(rb"refused E\d\d at (\d+):(\d+)", program.run(["check"], text).output).groups()
+    lacking = [key for key in ("diagnosed", "mended", "renamed", "typed", "typed_again") if seen[key] is not True]
+    if lacking or seen["filetype"] != "inet" or seen["place"] != [int(line), int(column)] or "symbol Add : nat- {nat-} {nat+};" not in seen["hover"] or not seen["completions"]:
+        return f"lacking {lacking}: {seen}"
+    for token, kind in colours(text.decode()):
+        place = position(text.decode(), token.start)
+        group = seen["colours"][place["line"]][place["character"]]
+        if group not in GROUPS[kind]:
+            return f"{token} is a {group}"
+    answer = program.run(["check"], seen["text"].encode())
+    return None if answer.status == ACCEPTED else f"not mended: {answer}"
+
+
 def editors(program):
     made = Library(os.path.join(program.room, "library of editors"))
     shared = made.path("lib", "libinet.so.0")
@@ -723,3 +838,8 @@ def editors(program):
     yield "wrong words", partial(wrong_words, ["now"], WRONG_WORDS)
     yield "no library", partial(wrong_without_library, os.path.join(program.room, "no library"))
     yield "the library is made", partial(wrong_first_library, os.path.join(program.room, "a clone"))
+    yield "VS Code: grammar", partial(wrong_grammar, names)
+    yield "VS Code: extension", partial(wrong_extension, program.room)
+    if shutil.which("nvim"):
+        for name in MENDED_IN_NEOVIM:
+            yield f"Neovim: {name}", partial(wrong_neovim, program, shared, name)
