@@ -11,6 +11,7 @@ import queue
 import sys
 import threading
 import traceback
+from functools import cached_property
 
 sys.dont_write_bytecode = True
 
@@ -56,7 +57,7 @@ class Server:
         self.documents, self.diagnoses = {}, {}
         # The documents whose diagnoses weren't sent yet, in order.
         self.waiting = {}
-        self.calls = self.client = self.status = None
+        self.client = self.status = None
         self.is_ending = False
 
     # ---- messages
@@ -142,10 +143,13 @@ class Server:
         """What the client says that it can do with a text."""
         return under(self.client, "textDocument", *names)
 
-    def initialized(self, _params):
-        self.calls, wrong = checking.library()
+    @cached_property
+    def calls(self):
+        """The calls of the library; None where it can't be had, which the user is told once."""
+        calls, wrong = checking.library()
         if wrong:
             self.tell(AS_ERROR, f"inet checks nothing: {wrong}")
+        return calls
 
     # ---- documents
 
@@ -255,7 +259,6 @@ class Server:
 
 
 NOTED = {
-    "initialized": Server.initialized,
     "textDocument/didOpen": Server.opened,
     "textDocument/didChange": Server.edited,
     "textDocument/didClose": Server.closed,
@@ -303,7 +306,7 @@ def serve(stream, output):
 
 def main(words):
     if words:
-        print(__doc__.strip())
+        print(__doc__.strip(), flush=True)
         return ENDED if words == ["--help"] else WRONG_WORDS
     try:
         return serve(sys.stdin.buffer, sys.stdout.buffer)
@@ -312,7 +315,5 @@ def main(words):
 
 
 if __name__ == "__main__":
-    status = main(sys.argv[1:])
-    sys.stdout.flush()
-    # The other thread may still be reading.
-    os._exit(status)
+    # The other thread may still be reading, and what could not be written is left.
+    os._exit(main(sys.argv[1:]))
