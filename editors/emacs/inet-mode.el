@@ -36,6 +36,7 @@
   (expand-file-name "../server/main.py" (file-name-directory (or load-file-name buffer-file-name)))
   "The language server.")
 
+(defvar eglot-server-programs)
 (with-eval-after-load 'eglot
   (add-to-list 'eglot-server-programs `(inet-mode . ("python3" ,inet-server))))
 

@@ -1,4 +1,4 @@
-"""What the checker says of a document, as the protocol has it: diagnoses, and changes that mend them. The checker is libinet."""
+"""What the checker says of a document, as the protocol has it: diagnoses, and changes that mend them. The checker is libinet. Not proved."""
 import fcntl
 import os
 import re

@@ -1,4 +1,4 @@
-"""The text of an open document, and places in it as the protocol counts them: lines from 0, and in a line units of UTF-16."""
+"""The text of an open document, and places in it as the protocol counts them: lines from 0, and in a line units of UTF-16. Not proved."""
 import re
 from bisect import bisect_left, bisect_right
 from functools import cached_property

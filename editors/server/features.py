@@ -1,4 +1,4 @@
-"""What an editor asks of a place in a text: what stands there, where it is declared, its other name, what may be written."""
+"""What an editor asks of a place in a text: what stands there, where it is declared, its other name, what may be written. Not proved."""
 from bisect import bisect_right
 
 import reader

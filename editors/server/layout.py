@@ -1,4 +1,5 @@
-"""The layout of a text: blanks within its lines, and how far each line is moved in. Lines stay lines, and comments stay as they are."""
+"""The layout of a text: blanks within its lines, and how far each line is moved in. Lines stay lines, and comments stay as they are. Not
+proved."""
 from documents import changed
 from reader import BAD, COMMENT, NAME, RESERVED, tokens
 

@@ -1,4 +1,4 @@
-"""Messages of the protocol on streams: each is an object of JSON behind a head that says how many bytes it has."""
+"""Messages of the protocol on streams: each is an object of JSON behind a head that says how many bytes it has. Not proved."""
 import json
 
 # A longer message isn't kept: a text of the most bytes that a program may have takes less, however it is written in JSON.

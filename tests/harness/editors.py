@@ -21,7 +21,7 @@ from harness.export import BUILT
 from harness.generated import small
 from harness.library import LIBRARY, Library
 from harness.programs import ACCEPTED, EXAMPLES, HERE, MOST_BYTES, Program, differing, text_of
-from harness.tools import MENDED, NOT_MENDED, altered_text
+from harness.tools import MENDED, NOT_MENDED, SCRAMBLED, altered_text, put_at_random
 
 TOP = os.path.normpath(os.path.join(HERE, "..", ".."))
 EDITORS = os.path.join(TOP, "editors")
@@ -323,6 +323,46 @@ def wrong_example(program, client, name):
     wrong = wrong or wrong_layout(program, text)
     client.note("textDocument/didClose", textDocument={"uri": text.uri})
     return wrong
+
+
+def wrong_braces(program, shared, seed):
+    """What is wrong with the changes that are offered for programs whose braces are put at random: one is preferred, and mends them."""
+    chance = random.Random(seed)
+    with Client(shared) as client:
+        for name in SCRAMBLED:
+            text = Text(client, put_at_random(text_of(name).decode(), chance))
+            if program.run(["check"], text.text.encode()).status == ACCEPTED:
+                continue
+            preferred = [text.edits_in(action["edit"]) for action in text.actions() if action["isPreferred"]]
+            if not preferred:
+                return f"nothing mends {text.text}"
+            text.edit(preferred[0])
+            if text.diagnoses() or program.run(["check"], text.text.encode()).status != ACCEPTED:
+                return f"not mended: {text.text}"
+    return None
+
+
+def wrong_for_simple_client(shared):
+    """What is wrong for a client that says nothing of itself: all sentences stand in the diagnosis, and changes have no version."""
+    with Client(shared, {}) as client:
+        text = Text(client, text_of("declared_twice").decode())
+        words = text.diagnoses()[0]["message"]
+        if words != "the symbol `Z` is declared twice\nnote, line 3: it is declared here first\nhelp: rename one of them, or remove one":
+            return words
+        offset = offset_of(text.text, 4, "S")
+        found = text.ask("rename", offset, newName="T"), text.ask("completion", offset), text.ask("hover", offset)
+        is_plain = list(found[0]) == ["changes"] and not any("insertTextFormat" in item for item in found[1]) and found[2]["contents"]["kind"] == "plaintext"
+        return None if is_plain else f"{found}"
+
+
+def wrong_for_able_client(shared):
+    """What is wrong for a client that takes marks, and texts to be filled in."""
+    able = {"textDocument": {"hover": {"contentFormat": ["markdown", "plaintext"]}, "completion": {"completionItem": {"snippetSupport": True}}}}
+    with Client(shared, able) as client:
+        text = Text(client, "type a; symbol A : a+ {a-} {a-}; symbol B : a- {a+}; rule A[x, y] >< ")
+        offered = [item["textEdit"]["newText"] for item in text.ask("completion", len(text.text))]
+        said = text.ask("hover", text.text.index("A :"))["contents"]
+        return None if offered == ["B[${1:a+}]"] and said["value"].startswith("```inet\nsymbol A : a+ {a-} {a-};\n```") else f"{offered}, {said}"
 
 
 def wrong_examples(program, shared, names):
@@ -825,7 +865,11 @@ def editors(program):
     for seed in range(8):
         yield f"texts by chance: {seed}", partial(wrong_by_chance, seed)
         yield f"places: {seed}", partial(wrong_places, seed)
+    for seed in range(4):
+        yield f"braces at random: {seed}", partial(wrong_braces, program, shared, seed)
     yield "answers", partial(wrong_answers, shared)
+    yield "a simple client", partial(wrong_for_simple_client, shared)
+    yield "an able client", partial(wrong_for_able_client, shared)
     for what, (data, errors) in ODD.items():
         yield f"odd message: {what}", partial(wrong_after, shared, data, errors)
     yield "odd places", partial(wrong_at_odd_places, shared)

@@ -4,5 +4,4 @@ if exists('b:did_ftplugin')
 endif
 let b:did_ftplugin = 1
 setlocal commentstring=#\ %s comments=:# expandtab shiftwidth=4 softtabstop=4
-setlocal matchpairs+=[:]
-let b:undo_ftplugin = 'setlocal commentstring< comments< expandtab< shiftwidth< softtabstop< matchpairs<'
+let b:undo_ftplugin = 'setlocal commentstring< comments< expandtab< shiftwidth< softtabstop<'
