@@ -47,6 +47,8 @@ ABLE = {
     },
     "workspace": {"workspaceEdit": {"documentChanges": True}},
 }
+# With its braces put at random, fewer declarations need a change than the diagnosis shows.
+SEARCHED = "fold_of_a_tree"
 # A name is too long, or declared twice: another name mends that.
 FAULTS_OF_NAMES = (b"E03", b"E04")
 ENDED, WENT_AWAY, WRONG_WORDS = range(3)
@@ -325,21 +327,20 @@ def wrong_example(program, client, name):
     return wrong
 
 
-def wrong_braces(program, shared, seed):
-    """What is wrong with the changes that are offered for programs whose braces are put at random: one is preferred, and mends them."""
-    chance = random.Random(seed)
+def wrong_braces(program, shared, name, seed):
+    """What is wrong with the changes that are offered for a program whose braces are put at random: some are preferred, and each of these mends it.
+    Of one program the search finds fewer declarations than the diagnosis."""
     with Client(shared) as client:
-        for name in SCRAMBLED:
-            text = Text(client, put_at_random(text_of(name).decode(), chance))
-            if program.run(["check"], text.text.encode()).status == ACCEPTED:
-                continue
-            preferred = [text.edits_in(action["edit"]) for action in text.actions() if action["isPreferred"]]
-            if not preferred:
-                return f"nothing mends {text.text}"
-            text.edit(preferred[0])
+        whole = put_at_random(text_of(name).decode(), random.Random(seed))
+        text = Text(client, whole)
+        offered = [(action["title"], text.edits_in(action["edit"])) for action in text.actions() if action["isPreferred"]]
+        for _, edits in offered:
+            text.put(whole)
+            text.edit(edits)
             if text.diagnoses() or program.run(["check"], text.text.encode()).status != ACCEPTED:
                 return f"not mended: {text.text}"
-    return None
+    searched = any(title.startswith("mend the braces") for title, _ in offered) or name != SEARCHED
+    return None if searched and (offered or program.run(["check"], whole.encode()).status == ACCEPTED) else f"{offered} for {whole}"
 
 
 def wrong_for_simple_client(shared):
@@ -865,8 +866,8 @@ def editors(program):
     for seed in range(8):
         yield f"texts by chance: {seed}", partial(wrong_by_chance, seed)
         yield f"places: {seed}", partial(wrong_places, seed)
-    for seed in range(4):
-        yield f"braces at random: {seed}", partial(wrong_braces, program, shared, seed)
+    for name, seed in itertools.product(SCRAMBLED, (5, 7)):
+        yield f"{name}: braces at random: {seed}", partial(wrong_braces, program, shared, name, seed)
     yield "answers", partial(wrong_answers, shared)
     yield "a simple client", partial(wrong_for_simple_client, shared)
     yield "an able client", partial(wrong_for_able_client, shared)
