@@ -253,18 +253,18 @@ class Equations:
 
 
 def read_rule(item, found):
-    heads = Equations(("><",))
+    heads, begin = Equations(("><",)), len(found)
     for number, token in enumerate(found):
         # A word behind both heads is `with`, or wrong.
-        if token.text in ("{", ";") or token.kind == NAME and heads.is_complete and heads.current.sides[1].bracketed:
+        is_word = token.kind == NAME and heads.is_complete and heads.current.sides[1].bracketed
+        if is_word or token.text in ("{", ";"):
+            begin = number + is_word
             break
         heads.take(token)
-    else:
-        number = len(found)
     item.heads = heads.found[0] if heads.found else None
     for head in item.heads.sides if item.heads else []:
         head.is_head = True
-    read_body(item, [token for token in found[number:] if token.text != "with"] if number < len(found) and found[number].text == "with" else found[number:])
+    read_body(item, found[begin:])
 
 
 def read_net(item, found):

@@ -47,6 +47,14 @@ ABLE = {
     },
     "workspace": {"workspaceEdit": {"documentChanges": True}},
 }
+BLANKS = " \t\r\n"
+# `with` is a reserved word behind the heads of a rule alone.
+NAMED_WITH = (
+    "type with; symbol Z : with+; symbol S : with+ {with-}; symbol with : with- {with-} {with+};\n"
+    "rule Z[] >< with[a, b] with { a ~ b; }; rule S[x] >< with[a, S(r)] with { x ~ with(a, r); };\nnet (r : with+) { S(Z) ~ with(Z, r); }\n",
+    "type t; symbol Z : t+; symbol S : t+ {t-}; symbol A : t- {t-} {t+};\n"
+    "rule Z[] >< A[with, with]; rule S[with] >< A[a, S(r)] with { with ~ A(a, r); };\nnet (with : t+) { S(Z) ~ A(Z, with); }\n",
+)
 # With its braces put at random, fewer declarations need a change than the diagnosis shows.
 SEARCHED = "fold_of_a_tree"
 # A name is too long, or declared twice: another name mends that.
@@ -404,11 +412,11 @@ def exported(reading):
     }
 
 
-def wrong_reading(exporter, text):
+def wrong_reading(exporter, text, must_be_accepted=False):
     """What is wrong with the reading of a text that is accepted: it has what the export has."""
     answer = exporter.run([], text.encode())
     if answer.status != ACCEPTED:
-        return None
+        return f"{answer}" if must_be_accepted else None
     wanted = json.loads(answer.output)
     del wanted["format"]
     for item in (*wanted["rules"], wanted["net"]):
@@ -427,11 +435,11 @@ def wrong_tolerance(text):
         reading.wires(item)
     rest = list(text)
     for token in reading.tokens:
-        if text[token.start:token.end] != token.text:
+        if text[token.start:token.end] != token.text or not token.text.strip(BLANKS):
             return f"{token} isn't in {text!r}"
         rest[token.start:token.end] = " " * len(token.text)
     laid_out = changed(text, layout.formatted(text))
-    if "".join(rest).strip(" \t\r\n") or names != sorted(set(names)) or list(layout.edits(laid_out)):
+    if "".join(rest).strip(BLANKS) or names != sorted(set(names)) or list(layout.edits(laid_out)):
         return f"read {reading.tokens}, names at {names}, laid out {laid_out!r}: {text!r}"
     return None
 
@@ -861,8 +869,8 @@ def editors(program):
     chance = random.Random(84)
     for name in names:
         yield f"{name}: read", partial(wrong_reading, exporter, text_of(name).decode(errors="replace"))
-    for number in range(GENERATED):
-        yield f"generated program {number}: read", partial(wrong_reading, exporter, small(chance))
+    for number, text in enumerate([*NAMED_WITH, *(small(chance) for _ in range(GENERATED))]):
+        yield f"program {number}: read", partial(wrong_reading, exporter, text, True)
     for seed in range(8):
         yield f"texts by chance: {seed}", partial(wrong_by_chance, seed)
         yield f"places: {seed}", partial(wrong_places, seed)
