@@ -33,7 +33,7 @@
 (add-to-list 'auto-mode-alist '("\\.inet\\'" . inet-mode))
 
 (defconst inet-server
-  (expand-file-name "../server/main.py" (file-name-directory (or load-file-name buffer-file-name)))
+  (expand-file-name "../server/main.py" (file-name-directory (file-truename (or load-file-name buffer-file-name))))
   "The language server.")
 
 (defvar eglot-server-programs)

@@ -270,8 +270,8 @@ def offered(reading, begin, end, snippets):
     word, last = item.word.text, found[-1].text
     inside = any(token.text == "{" for token in found)
     if word == "symbol" or word == "net" and not inside:
-        has_colon = any(token.text == ":" for token in found)
-        return of_types(reading) if word == "symbol" and has_colon and last in (":", "{", ",") or word == "net" and last == ":" else []
+        is_port = last == ":" or word == "symbol" and inside and last in ("{", ",")
+        return of_types(reading) if is_port else []
     if word == "rule" and not inside:
         heads = Equations(("><",))
         for token in found[1:]:
@@ -285,11 +285,14 @@ def offered(reading, begin, end, snippets):
 
 
 def completions(document, offset, snippets):
+    """What may be written at a place, each with the change that writes it."""
     reading = document.reading
     token = token_at(reading, max(0, offset - 1))
     if token and token.kind in (reader.COMMENT, reader.BAD):
         return []
     written = token if token and token.kind in (NAME, reader.RESERVED) else None
     begin, end = (written.start, written.end) if written else (offset, offset)
-    edit = {"range": document.range(begin, offset)}
-    return [{**item, "textEdit": {**edit, "newText": item.pop("insertText", item["label"])}} for item in offered(reading, begin, end, snippets)]
+    found = offered(reading, begin, end, snippets)
+    for item in found:
+        item["textEdit"] = {"range": document.range(begin, offset), "newText": item.pop("insertText", item["label"])}
+    return found

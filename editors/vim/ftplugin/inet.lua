@@ -1,6 +1,6 @@
--- In Neovim: starts the language server, or takes the one that runs.
-local here = vim.fn.fnamemodify(debug.getinfo(1, 'S').source:sub(2), ':p:h')
-local words = { name = 'inet', cmd = { 'python3', vim.fn.resolve(here .. '/../../server/main.py') } }
+-- In Neovim: starts the language server, or takes the one that runs. This folder may be a link.
+local here = vim.fn.fnamemodify(vim.fn.resolve(vim.fn.fnamemodify(debug.getinfo(1, 'S').source:sub(2), ':p')), ':h')
+local words = { name = 'inet', cmd = { 'python3', vim.fn.simplify(here .. '/../../server/main.py') } }
 if vim.lsp.start then
   vim.lsp.start(words)
 else

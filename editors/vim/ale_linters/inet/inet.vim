@@ -1,5 +1,5 @@
 " In Vim: the language server for ALE, which finds this file by itself.
-let s:server = resolve(expand('<sfile>:p:h') . '/../../../server/main.py')
+let s:server = simplify(fnamemodify(resolve(expand('<sfile>:p')), ':h') . '/../../../server/main.py')
 
 call ale#linter#Define('inet', {
 \   'name': 'inet',
