@@ -497,7 +497,10 @@ def wrong_places(seed):
 
 # In the example, on a line: where the name is, what is asked, and what has to be in the answer.
 HOVERS = {
-    (6, "Add"): ["symbol Add : nat- {nat-} {nat+};", "a destructor: its principal port takes a `nat`", "auxiliary port 1 takes a `nat`", "auxiliary port 2 gives a `nat`", "rules with `Z` (line 9), `S` (line 8)"],
+    (6, "Add"): [
+        "symbol Add : nat- {nat-} {nat+};", "a destructor: its principal port takes a `nat`", "auxiliary port 1 takes a `nat`", "auxiliary port 2 gives a `nat`",
+        "rules with `Z` (line 9), `S` (line 8)",
+    ],
     (3, "nat"): ["type nat;", "constructors: `Z`, `S`", "destructors: `Add`"],
     (8, "><"): ["symbol S : nat+ {nat-};", "symbol Add : nat- {nat-} {nat+};"],
     (8, "sum"): ["auxiliary port 1 of `S`, `nat-` (line 8)", "auxiliary port 2 of `Add`, `nat+` (line 8)"],
@@ -509,7 +512,10 @@ HOVERS = {
 DEFINITIONS = {(12, "Add"): [(6, "Add")], (12, "sum"): [(11, "sum")], (8, "nat"): [], (4, "nat"): [(3, "nat")], (12, "~"): [(8, "rule")], (8, "sum"): [(8, "sum)];")]}
 # The other name of what is there, and what the server says of it.
 REFUSED_NAMES = {
-    (12, "Add"): {"Z": "the symbol `Z` is there already", "y": "the variable `y` is there already", "sum": "is there already", "rule": "`rule` is a reserved word", "A-b": "is no name", "": "is no name", "1": "is no name", "n" * 65: "is no name"},
+    (12, "Add"): {
+        "Z": "the symbol `Z` is there already", "y": "the variable `y` is there already", "sum": "is there already", "rule": "`rule` is a reserved word",
+        **dict.fromkeys(("A-b", "", "1", "n" * 65), "is no name"),
+    },
     (8, "sum"): {"y": "the variable `y` is there already", "Add": "the symbol `Add` is there already"},
     (12, "sum"): {"S": "the symbol `S` is there already"},
     (3, "nat"): {"net": "`net` is a reserved word", "a b": "is no name", "#": "is no name"},

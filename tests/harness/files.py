@@ -5,7 +5,7 @@ import threading
 import time
 from functools import partial
 
-from harness.programs import COMMANDS, MOST_BYTES, REFUSED, STREAM, Answer, answering, differing, shortened, text_of
+from harness.programs import COMMANDS, MOST_BYTES, REFUSED, STREAM, answering, differing, shortened, text_of
 from harness.refusals import ONE_BYTE, Refuser, refused_memory
 
 # A program that is accepted and one that is refused.
@@ -15,10 +15,6 @@ TOO_LONG = b"refused E03 at 1:1\n"
 PLACE = ":11:11"
 # How long a writer waits before it goes on, in seconds.
 PAUSE = 0.05
-
-
-def on_file(words, file):
-    return [*words, file]
 
 
 def written(program, name, text):
