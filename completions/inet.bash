@@ -1,4 +1,14 @@
 # Made by tools/command_line.py from --help: completions for bash. Source this file.
+# What may stand in place of the word: programs and folders where `files` isn't empty, else one of the words.
+_inet_offer() {
+  local files=$1 word=$2 words=$3
+  if [[ $files && $word != -* ]]; then
+    compopt -o filenames
+    mapfile -t COMPREPLY < <(compgen -d -- "$word"; compgen -f -X '!*.inet' -- "$word")
+  else
+    mapfile -t COMPREPLY < <(compgen -W "$words" -- "$word")
+  fi
+}
 _inet() {
   local word=${COMP_WORDS[COMP_CWORD]} before=${COMP_WORDS[COMP_CWORD-1]} words files=
   if ((COMP_CWORD == 1)); then
@@ -15,22 +25,12 @@ _inet() {
       help) if ((COMP_CWORD == 2)); then words='check derive run'; fi ;;
     esac
   fi
-  if [[ $files && $word != -* ]]; then
-    compopt -o filenames
-    mapfile -t COMPREPLY < <(compgen -d -- "$word"; compgen -f -X '!*.inet' -- "$word")
-  else
-    mapfile -t COMPREPLY < <(compgen -W "$words" -- "$word")
-  fi
+  _inet_offer "$files" "$word" "$words"
 }
 complete -F _inet inet
 _inet_export() {
   local word=${COMP_WORDS[COMP_CWORD]} before=${COMP_WORDS[COMP_CWORD-1]} words files=
   words='-h --help -V --version' files=1
-  if [[ $files && $word != -* ]]; then
-    compopt -o filenames
-    mapfile -t COMPREPLY < <(compgen -d -- "$word"; compgen -f -X '!*.inet' -- "$word")
-  else
-    mapfile -t COMPREPLY < <(compgen -W "$words" -- "$word")
-  fi
+  _inet_offer "$files" "$word" "$words"
 }
 complete -F _inet_export inet_export

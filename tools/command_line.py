@@ -10,14 +10,13 @@ INET and INET_EXPORT are the programs, by default those that were built here.
 import os
 import re
 import subprocess
-import sys
 from dataclasses import dataclass
 
+import made_files
 import streams
 
-TOP = os.path.dirname(os.path.dirname(os.path.abspath(__file__)))
-BUILT = [os.path.join(TOP, "crates", name, "out", name) for name in ("inet", "inet_export")]
-FOLDERS = ("man", "completions")
+NAMES = ("inet", "inet_export")
+FILES = (*(f"man/{name}.1" for name in NAMES), "completions/inet.bash", "completions/_inet", "completions/inet.fish")
 # A line of a list in help: the words, and what is said of them.
 ENTRY = re.compile(r"^ {2,}(\S.*?) {2,}(\S.*)$")
 # An option's short and long name, and what stands for its value.
@@ -179,10 +178,22 @@ def words_for(command):
 
 def bash(programs):
     """Completions for bash."""
-    lines = ["# Made by tools/command_line.py from --help: completions for bash. Source this file."]
+    lines = [
+        "# Made by tools/command_line.py from --help: completions for bash. Source this file.",
+        "# What may stand in place of the word: programs and folders where `files` isn't empty, else one of the words.",
+        "_inet_offer() {",
+        "  local files=$1 word=$2 words=$3",
+        "  if [[ $files && $word != -* ]]; then",
+        "    compopt -o filenames",
+        "    mapfile -t COMPREPLY < <(compgen -d -- \"$word\"; compgen -f -X '!*.inet' -- \"$word\")",
+        "  else",
+        "    mapfile -t COMPREPLY < <(compgen -W \"$words\" -- \"$word\")",
+        "  fi",
+        "}",
+    ]
     for program in programs:
         function = f"_{program.name}"
-        lines += [f"{function}() {{", '  local word=${COMP_WORDS[COMP_CWORD]} before=${COMP_WORDS[COMP_CWORD-1]} words files=']
+        lines += [f"{function}() {{", "  local word=${COMP_WORDS[COMP_CWORD]} before=${COMP_WORDS[COMP_CWORD-1]} words files="]
         if program.commands:
             lines.append("  if ((COMP_CWORD == 1)); then")
             first = [one.name for one in program.commands] + ["help", *words_for(program)]
@@ -197,16 +208,7 @@ def bash(programs):
             lines += ["    esac", "  fi"]
         else:
             lines.append(f"  words='{' '.join(words_for(program))}' files=1")
-        lines += [
-            '  if [[ $files && $word != -* ]]; then',
-            '    compopt -o filenames',
-            '    mapfile -t COMPREPLY < <(compgen -d -- "$word"; compgen -f -X \'!*.inet\' -- "$word")',
-            "  else",
-            '    mapfile -t COMPREPLY < <(compgen -W "$words" -- "$word")',
-            "  fi",
-            "}",
-            f"complete -F {function} {program.name}",
-        ]
+        lines += ['  _inet_offer "$files" "$word" "$words"', "}", f"complete -F {function} {program.name}"]
     return "\n".join(lines) + "\n"
 
 
@@ -286,55 +288,19 @@ def fish(programs):
 # ---- the files
 
 
-def made(paths):
-    """The texts of all files, by their paths below the top."""
-    programs = [command_of(path, os.path.basename(built)) for path, built in zip(paths, BUILT)]
-    pages = {f"man/{program.name}.1": man_page(program) for program in programs}
-    return {**pages, "completions/inet.bash": bash(programs), "completions/_inet": zsh(programs), "completions/inet.fish": fish(programs)}
+def made(*paths):
+    """The bytes of each file, from the paths of the programs."""
+    programs = [command_of(path, name) for path, name in zip(paths, NAMES)]
+    texts = [*map(man_page, programs), bash(programs), zsh(programs), fish(programs)]
+    return zip(FILES, (text.encode() for text in texts))
 
 
-def read(name):
-    """The text of a file below the top, None where it isn't there."""
-    path = os.path.join(TOP, name)
-    if not os.path.exists(path):
-        return None
-    with open(path, encoding="utf-8") as file:
-        return file.read()
-
-
-def wrong(paths):
-    """What is wrong with the files: a line for each."""
-    wanted = made(paths)
-    for name, text in wanted.items():
-        if read(name) != text:
-            yield f"{name} isn't there" if read(name) is None else f"{name} has other bytes"
-    for folder in FOLDERS:
-        for file in sorted(os.listdir(os.path.join(TOP, folder))):
-            if f"{folder}/{file}" not in wanted:
-                yield f"{folder}/{file} is of no program"
-
-
-def make(paths):
-    for name, text in made(paths).items():
-        os.makedirs(os.path.join(TOP, os.path.dirname(name)), exist_ok=True)
-        with open(os.path.join(TOP, name), "w", encoding="utf-8") as file:
-            file.write(text)
-    return 0
-
-
-def check(paths):
-    found = [*wrong(paths)]
-    streams.write("\n".join(found or ["the man pages and completions are as they should be"]) + "\n")
-    return 1 if found else 0
-
-
-def main():
-    commands = {"make": make, "check": check}
-    if len(sys.argv) not in (2, 4) or sys.argv[1] not in commands:
-        streams.write(f"{__doc__.strip()}\n")
-        return 0 if sys.argv[1:] == ["--help"] else streams.WRONG_WORDS
-    return commands[sys.argv[1]](sys.argv[2:] or BUILT)
+def superfluous():
+    """Other files beside these."""
+    folders = sorted({os.path.dirname(file) for file in FILES})
+    beside = [f"{folder}/{file}" for folder in folders for file in sorted(os.listdir(os.path.join(made_files.TOP, folder)))]
+    return [file for file in beside if file not in FILES]
 
 
 if __name__ == "__main__":
-    streams.run(main)
+    made_files.run(__doc__, made, superfluous, "the man pages and completions are as they should be")

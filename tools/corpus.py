@@ -11,13 +11,11 @@ the lines that this run prints with one worker, and a line `status S`.
 import os
 import re
 import subprocess
-import sys
 
+import made_files
 import streams
 
-TOP = os.path.dirname(os.path.dirname(os.path.abspath(__file__)))
-EXAMPLES = os.path.join(TOP, "examples")
-BUILT = [os.path.join(TOP, "crates", name, "out", name) for name in ("inet", "inet_export")]
+EXAMPLES = os.path.join(made_files.TOP, "examples")
 ENDINGS = (".json", ".limits")
 TO_ITS_END, STOPPED = 0, 3
 
@@ -29,11 +27,7 @@ def names():
 
 def read(file):
     """The bytes of a file of examples/, None where it isn't there."""
-    path = os.path.join(EXAMPLES, file)
-    if not os.path.exists(path):
-        return None
-    with open(path, "rb") as opened:
-        return opened.read()
+    return made_files.read(os.path.join("examples", file))
 
 
 def answer(words, name):
@@ -54,52 +48,32 @@ def limits(name):
     return sorted(limit for limit in some if 0 <= limit <= interactions)
 
 
-def made(name, inet, inet_export):
-    """The texts of an example's files, by their endings."""
+def made_of(name, inet, inet_export):
+    """The bytes of an example's files."""
     runs = b""
     for limit in limits(name):
         printed, status = answer([inet, "run", "--limit", str(limit)], name)
         runs += f"$ inet run --limit {limit}\n".encode() + printed + f"status {status}\n".encode()
-    return dict(zip(ENDINGS, (answer([inet_export], name)[0], runs)))
+    for ending, data in zip(ENDINGS, (answer([inet_export], name)[0], runs)):
+        yield f"examples/{name}{ending}", data
+
+
+def made(*programs):
+    """The bytes of each file, from the paths of the programs."""
+    for name in names():
+        yield from made_of(name, *programs)
 
 
 def superfluous():
     """Files of the corpus that belong to no program that is run."""
     wanted = {name + ending for name in names() for ending in ENDINGS}
-    return sorted(file for file in os.listdir(EXAMPLES) if file.endswith(ENDINGS) and file not in wanted)
+    return sorted(f"examples/{file}" for file in os.listdir(EXAMPLES) if file.endswith(ENDINGS) and file not in wanted)
 
 
-def wrong(name, inet, inet_export):
+def wrong(name, *programs):
     """What is wrong with the files of an example, None where nothing is."""
-    for ending, text in made(name, inet, inet_export).items():
-        if read(name + ending) != text:
-            return f"examples/{name}{ending} isn't there" if read(name + ending) is None else f"examples/{name}{ending} has other bytes"
-    return None
-
-
-def make(programs):
-    for file in superfluous():
-        os.remove(os.path.join(EXAMPLES, file))
-    for name in names():
-        for ending, text in made(name, *programs).items():
-            with open(os.path.join(EXAMPLES, name + ending), "wb") as file:
-                file.write(text)
-    return 0
-
-
-def check(programs):
-    found = [what for name in names() if (what := wrong(name, *programs))] + [f"examples/{file} belongs to no program" for file in superfluous()]
-    streams.write("\n".join([*found] or [f"the corpus of {len(names())} programs is as it should be"]) + "\n")
-    return 1 if found else 0
-
-
-def main():
-    commands = {"make": make, "check": check}
-    if len(sys.argv) not in (2, 4) or sys.argv[1] not in commands:
-        streams.write(f"{__doc__.strip()}\n")
-        return 0 if sys.argv[1:] == ["--help"] else streams.WRONG_WORDS
-    return commands[sys.argv[1]](sys.argv[2:] or BUILT)
+    return next(made_files.wrong(made_of(name, *programs)), None)
 
 
 if __name__ == "__main__":
-    streams.run(main)
+    made_files.run(__doc__, made, superfluous, f"the corpus of {len(names())} programs is as it should be")

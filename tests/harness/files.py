@@ -5,7 +5,7 @@ import threading
 import time
 from functools import partial
 
-from harness.programs import COMMANDS, MOST_BYTES, REFUSED, STREAM, Answer, answering, differing, shortened, text_of
+from harness.programs import COMMANDS, MOST_BYTES, REFUSED, STREAM, answering, differing, shortened, text_of
 from harness.refusals import ONE_BYTE, Refuser, refused_memory
 
 # A program that is accepted and one that is refused.
@@ -15,10 +15,6 @@ TOO_LONG = b"refused E03 at 1:1\n"
 PLACE = ":11:11"
 # How long a writer waits before it goes on, in seconds.
 PAUSE = 0.05
-
-
-def on_file(words, file):
-    return [*words, file]
 
 
 def written(program, name, text):
@@ -101,25 +97,30 @@ def wrong_without_right(program, command, file):
     return unread(command, file, "opened", "Permission denied (os error 13)")()
 
 
+def while_written(run, write):
+    """The answer of a run while a thread writes, which is given an event that tells it of the run's end."""
+    ended = threading.Event()
+    thread = threading.Thread(target=write, args=[ended])
+    thread.start()
+    try:
+        return run()
+    finally:
+        ended.set()
+        thread.join()
+
+
 def grown(program, words):
     """A file that grows while it is read: what was there at first, or more; here its end is past the most bytes of a text."""
     path = written(program, f"grows {' '.join(words)}", b"# grows\n")
-    ended = threading.Event()
 
-    def write():
+    def write(ended):
         with open(path, "ab", buffering=0) as file:
             for _turn in range(64):
                 if ended.is_set():
                     return
                 file.write(b"# grows\n" * 8192)
 
-    thread = threading.Thread(target=write)
-    thread.start()
-    try:
-        return program.run([*words, path])
-    finally:
-        ended.set()
-        thread.join()
+    return while_written(partial(program.run, [*words, path]), write)
 
 
 def wrong_grown(program, words):
@@ -134,18 +135,13 @@ def from_fifo(program, words, name):
     os.mkfifo(path)
     text = text_of(name)
 
-    def write():
+    def write(_ended):
         time.sleep(PAUSE)
         with open(path, "wb", buffering=0) as fifo:
             for at in range(0, len(text), 50):
                 fifo.write(text[at : at + 50])
 
-    thread = threading.Thread(target=write)
-    thread.start()
-    try:
-        return program.run([*words, path])
-    finally:
-        thread.join()
+    return while_written(partial(program.run, [*words, path]), write)
 
 
 def odd(program):

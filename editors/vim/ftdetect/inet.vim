@@ -1,0 +1,1 @@
+autocmd BufNewFile,BufRead *.inet setfiletype inet
