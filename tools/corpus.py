@@ -33,7 +33,7 @@ def read(file):
 def answer(words, name):
     """What a program prints on an example, with its status."""
     try:
-        ran = subprocess.run(words, input=read(name + ".inet"), stdout=subprocess.PIPE, check=False)
+        ran = subprocess.run(words, input=read(name + ".inet"), stdout=subprocess.PIPE, stderr=subprocess.DEVNULL, check=False)
     except OSError as error:
         raise streams.Refused(f"{words[0]} can't be run: {error.strerror}") from None
     if ran.returncode not in (TO_ITS_END, STOPPED):
