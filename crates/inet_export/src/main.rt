@@ -4,7 +4,7 @@
 //! Where the text is refused, it lets `in_program::report` write what `inet check` writes.
 #![tactic(auto)]
 
-ghost use Rattle.std.specs.Prelude.{◌≡◌, ◌⊎◌, ◌-◌, ◌<◌, ◌^◌};
+ghost use Rattle.std.specs.Prelude.{◌≡◌, ◌⊎◌, ◌-◌, ◌<◌, ◌^◌, false};
 ghost use Rattle.in_check.specs.Checking.{IsAccepted};
 ghost use Rattle.in_check.specs.Programs.{Program};
 ghost use Rattle.in_export.specs.Programs.{program_line};
