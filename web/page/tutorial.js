@@ -6,6 +6,8 @@ import { examples, startCaller } from "./within.js";
 import { escaped } from "./picture.js";
 
 const LIMIT = 100_000, CELLS = 65_536;
+// An editor is as high as its text, up to so many lines.
+const MOST_LINES = 26;
 const caller = startCaller();
 const sections = [...document.querySelectorAll("main > section")];
 const exampleOf = name => examples.find(it => it.name === name).text;
@@ -13,8 +15,9 @@ const solutionOf = ({ solution }) => examples.find(it => it.name === solution)?.
 
 // A workbench for the run alone, as high as its text, with a way to the playground.
 function program(place, text, looked) {
-  const bench = new Bench(place, caller, { panels: ["run"], label: place.dataset.label ?? "the program", looked });
-  bench.editor.area.parentElement.parentElement.style.height = `${Math.min(24, text.split("\n").length + 1) * 20 + 16}px`;
+  const bench = new Bench(place, caller, { panels: ["run"], looked });
+  const fit = () => (place.querySelector(".editor").style.height = `${Math.min(MOST_LINES, bench.text.split("\n").length + 1) * 20 + 16}px`);
+  bench.editor.area.addEventListener("input", fit);
   const link = document.createElement("a");
   link.textContent = "more of this program";
   link.href = "index.html";
@@ -24,6 +27,7 @@ function program(place, text, looked) {
   });
   place.querySelector(".left").append(link);
   bench.load(text);
+  fit();
   return bench;
 }
 
