@@ -467,7 +467,7 @@ def lessons(tried):
     exercises = 0
     for name in names:
         page.value(f"location.hash = {quoted(name)}")
-        page.until("document.querySelector(`nav a[href='${location.hash}']`).hasAttribute('aria-current') && document.querySelectorAll('main > section:not([hidden])').length === 1")
+        page.until("document.querySelector(`nav a[href='${location.hash}'][aria-current=page]`) && document.querySelectorAll('main > section:not([hidden])').length === 1")
         page.value("document.querySelectorAll('section:not([hidden]) details').forEach(it => (it.open = true))")
         page.until("[...document.querySelectorAll('section:not([hidden]) .program, section:not([hidden]) .exercise')].every(it => it.bench?.said && it.bench.verdict.textContent)")
         for number in page.value("[...document.querySelectorAll('section:not([hidden]) .exercise')].map(it => it.dataset.exercise)"):
@@ -662,7 +662,8 @@ def web(program):
         yield "the kept module", partial(wrong_kept, module)
     else:
         print("web: the module isn't built and compared with the kept one, which needs what was proved, and wasm-opt (tests/setup installs binaryen)")
-    site = os.path.join(room, "site")
+    # They stay there, ready to be put up.
+    site = os.path.join(TOP, "out", "site")
     subprocess.run([os.path.join(WEB, "build"), site, "--module", module], check=True)
     playground = f"file://{site}/index.html"
     exporter = program_at(EXPORTER, room)

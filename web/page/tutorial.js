@@ -59,7 +59,7 @@ function make(place) {
 function show() {
   const named = sections.find(it => `#${it.dataset.name}` === location.hash) ?? sections[0];
   for (const section of sections) section.hidden = section !== named;
-  for (const link of document.querySelectorAll("nav a")) link.toggleAttribute("aria-current", link.hash === `#${named.dataset.name}`);
+  for (const link of document.querySelectorAll("nav a")) link.setAttribute("aria-current", link.hash === `#${named.dataset.name}` ? "page" : "false");
   for (const place of named.querySelectorAll(":scope > .program, :scope > .exercise")) make(place);
   scrollTo(0, 0);
 }
