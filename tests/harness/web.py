@@ -97,6 +97,8 @@ class Chromium(Page):
                 return said["result"]
             if said.get("method") == "Runtime.exceptionThrown":
                 self.faults.append(said["params"]["exceptionDetails"].get("exception", {}).get("description") or str(said["params"]))
+            elif said.get("method") == "Runtime.consoleAPICalled" and said["params"]["type"] == "error":
+                self.faults.append(str(said["params"]["args"])[:500])
             elif said.get("method") == "Log.entryAdded" and said["params"]["entry"]["level"] == "error":
                 self.faults.append(said["params"]["entry"]["text"])
 
@@ -248,11 +250,12 @@ SEEN = """(() => { const it = bench.said; return { verdict: bench.verdict.textCo
 # The net at a number of interactions: its text, what the picture is drawn from, as text, and how many agents are drawn.
 NET = """(async number => { const run = bench.panels.run; await run.go(number); const net = run.nets.get(number).net;
   return { text: run.lines.textContent, drawn: net && module_nets.printed(net), agents: run.picture.querySelectorAll("g.agent").length, wanted: net ? run.state.agents : 0, count: run.at, pairs: run.state.pairs }; })"""
-# An order by chance, step by step as by clicks; how many agents the pictures don't have of the net.
-WALK = """(async () => { const run = bench.panels.run; await run.go(0); let wrong = 0;
-  while (run.state.pairs && run.at < 40) { await run.take(Math.floor(Math.random() * run.state.pairs)); const { net, said } = run.nets.get(run.at);
-    wrong += net ? module_nets.printed(net) !== said.text : 0; }
-  await run.go(run.total); return { wrong, text: run.lines.textContent, count: run.total }; })()"""
+# An order by chance, step by step as by clicks: which pairs were asked for, the net after each, and where the run ends after that.
+WALK = """(async () => { const run = bench.panels.run, asked = [], texts = []; await run.go(0); let wrong = 0;
+  while (run.state.pairs && run.at < 40) { const before = run.at, pair = Math.floor(Math.random() * run.state.pairs); await run.take(pair);
+    if (run.at === before) return { wrong: "no step", asked, texts };
+    const { net, said } = run.nets.get(run.at); asked.push(pair); texts.push(run.lines.textContent); wrong += net ? module_nets.printed(net) !== said.text : 0; }
+  await run.go(run.total); return { wrong, asked, texts, text: run.lines.textContent, count: run.total }; })()"""
 
 
 def wrong_refused(tried, seen, check):
@@ -267,7 +270,7 @@ def wrong_refused(tried, seen, check):
     tried.same(seen["remedies"], sum(part["remedy"] is not None for part in parts), "remedies")
 
 
-def wrong_run(tried, program, text, total):
+def wrong_run(tried, program, native, text, total):
     """The net at the first interactions and at the end, in the order of the queue and in orders by chance."""
     page = tried.page
     end = program.run(["run", "--limit", str(LIMIT)], text).output.decode()
@@ -281,8 +284,10 @@ def wrong_run(tried, program, text, total):
         tried.same(net["agents"], net["wanted"], f"agents drawn after {number}")
     if total < LIMIT:
         walk = page.value(WALK)
-        tried.same((walk["text"], walk["count"]), (lines, total), "an order by clicks")
         tried.same(walk["wrong"], 0, "nets that are drawn wrong")
+        for step, found in enumerate(walk["texts"], 1):
+            tried.same(found, native.inet.run_by(text, walk["asked"][:step])[0].text, f"after the pairs {walk['asked'][:step]}")
+        tried.same((walk.get("text"), walk.get("count")), (lines, total), "an order by clicks")
         if total <= 1000:
             for _ in range(2):
                 order = page.value("bench.caller.ask('order', { text: bench.text })")
@@ -291,7 +296,7 @@ def wrong_run(tried, program, text, total):
             tried.same((rounds["count"], sum(map(len, rounds["rounds"]))), (total, total), "rounds")
 
 
-def wrong_example(tried, program, exporter, name):
+def wrong_example(tried, program, exporter, native, name):
     """An example in the page, beside the program."""
     try:
         text = text_of(name)
@@ -305,7 +310,7 @@ def wrong_example(tried, program, exporter, name):
         wrong_refused(tried, seen, check)
         return
     tried.same(seen["exported"], exporter.run([], text).output.decode(), "export")
-    wrong_run(tried, program, text, seen["total"])
+    wrong_run(tried, program, native, text, seen["total"])
     # The verifier says yes of each rule and of the net, and pictures are drawn of each step.
     said = tried.page.value("""(async () => { bench.show("derivation"); const panel = bench.panels.derivation, said = [];
       for (let item = 0; item <= panel.program.rules.length && item < 12; item++) { await panel.choose(item); said.push(panel.verified.textContent[0] + panel.picture.querySelectorAll("g.agent").length * (panel.layout ? 1 : 0)); panel.go(Infinity); }
@@ -313,10 +318,10 @@ def wrong_example(tried, program, exporter, name):
     tried.need(all(it.startswith("✓") for it in said), f"verifier: {said}")
 
 
-def by_name(tried, program, exporter, names):
+def by_name(tried, program, exporter, native, names):
     for name in names:
         before = len(tried.wrong)
-        wrong_example(tried, program, exporter, name)
+        wrong_example(tried, program, exporter, native, name)
         tried.wrong[before:] = [f"{name}: {what}" for what in tried.wrong[before:]]
 
 
@@ -353,9 +358,9 @@ def typed(tried):
 def remedied(tried):
     """A remedy and a place of a diagnosis are clicked, and undone."""
     page = tried.page
-    wrong, right = text_of("one_pair_of_braces").decode(), "symbol Add : nat- {nat-} {nat+};"
-    page.value("location.hash = '#example=one_pair_of_braces'")
-    page.until(f"bench.text === {quoted(wrong)} && bench.place.querySelector('[data-remedy]')")
+    # A character that a string has two units for.
+    wrong, right = "# 𝒳 é\n" + text_of("one_pair_of_braces").decode(), "symbol Add : nat- {nat-} {nat+};"
+    tried.shows(wrong)
     page.click("bench.place.querySelector('[data-part]')")
     tried.same(page.value("bench.text.slice(bench.editor.area.selectionStart, bench.editor.area.selectionEnd)"), "Add", "the place")
     page.click("bench.place.querySelector('[data-remedy]')")
@@ -403,6 +408,17 @@ def addressed(tried):
     for damaged in ("#text=%%%", "#text=AAAA", address.split("#")[1][:40], "#example=none"):
         page.value(f"document.getElementById('note').textContent = '', location.hash = {quoted(damaged)}")
         page.until("document.getElementById('note').textContent")
+    # A text of one's own is there again after an example, and when the page is loaded anew.
+    page.value("location.hash = '#example=product'")
+    page.until(f"bench.text === {quoted(text_of('product').decode())} && bench.said.exported")
+    page.click("bench.editor.area")
+    page.key("a", 2, ["selectAll"])
+    page.type("net () { } # mine")
+    page.until("bench.verdict.textContent.startsWith('accepted: 0') && !bench.verdict.classList.contains('old') && !location.hash")
+    page.value("(list => { list.value = 'sum'; list.dispatchEvent(new Event('change')); list.value = ''; list.dispatchEvent(new Event('change')); })(document.getElementById('examples'))")
+    page.until("bench.text === 'net () { } # mine'")
+    page.send("Page.reload")
+    page.until("document.readyState === 'complete' && globalThis.bench?.text === 'net () { } # mine'")
     # A megabyte of blanks is some thousand letters; two are refused.
     page.value("module_address.addressOf(' '.repeat(2 ** 21)).then(it => { document.getElementById('note').textContent = ''; location.hash = it; })")
     page.until("document.getElementById('note').textContent.startsWith('The address')")
@@ -428,8 +444,14 @@ def long_texts(tried, program):
         page.value("bench.editor.select(500000, 500007)")
         page.type("𝒳")
         tried.need(page.value(f"bench.text === {quoted(held[:500000] + '𝒳' + held[500007:] + 'é')}"), f"{name}: what is typed in the middle")
+        # Twenty lines further each time, whichever part of the text is held; and to the end.
+        page.value("bench.editor.select(0, 0)")
+        first, frame = "Number(bench.editor.numbers.textContent.split('\\n')[0])", "new Promise(done => requestAnimationFrame(() => setTimeout(done)))"
+        for turn in range(1, 201 if name == "lines" else 1):
+            page.value(f"bench.editor.area.scrollTop += 400, {frame}")
+            tried.same(page.value(first), 20 * turn, f"{name}: the first line that is seen")
         while page.value("(area => { const top = area.scrollTop; area.scrollTop = 1e9; return area.scrollTop > top; })(bench.editor.area)"):
-            page.value("new Promise(done => requestAnimationFrame(() => setTimeout(done)))")
+            page.value(frame)
         tried.need(page.value("bench.editor.numbers.textContent.endsWith(String(bench.text.split('\\n').length))"), f"{name}: the last line's number")
         page.key("a", 2, ["selectAll"])
         page.type("x")
@@ -455,6 +477,10 @@ def sights(tried):
         page.until(f"bench.text === {quoted(text_of(name).decode())} && bench.said")
         page.send("Emulation.setDeviceMetricsOverride", width=360, height=740, deviceScaleFactor=1, mobile=True)
         tried.same(page.value("document.documentElement.scrollWidth"), 360, f"{name}: the width of a narrow window")
+    # What is like HTML in a text stays text.
+    page.value("bench.load('<img src=x onerror=alert(1)> <b>').then(() => 0)")
+    page.value("bench.load('symbol A : `<img>`+;').then(() => 0)")
+    tried.same(page.value("document.querySelectorAll('img, b').length"), 0, "elements that a text makes")
     page.value("bench.load('type v; symbol v1 : v+; symbol E : v-; rule v1[] >< E[]; net () { v1 ~ E; }').then(() => bench.panels.run.work).then(() => 0)")
     tried.need("tell them apart" in page.value("bench.panels.run.picture.textContent"), "a symbol with the name of a variable")
 
@@ -512,20 +538,20 @@ NUMBERS = [(5000, 4096), (7, 65536), (5000, 16), (0, 16), (10**12, 16), (10**12 
 FEW_PAGES = 60
 
 
-def changed(texts, count):
-    """Texts with some changes by chance, the same each time."""
+def changed(accepted, others):
+    """Texts with some changes by chance, the same each time. In a third of them a number becomes larger, so that many stay accepted."""
     chance = random.Random(7)
-    for _ in range(count):
-        text = bytearray(chance.choice(texts))
+    for turn in range(CHANGED):
+        text = bytearray(chance.choice(accepted if turn % 4 else others))
         for _ in range(chance.randint(1, 3)):
             place = chance.randrange(len(text) + 1)
-            kind = chance.randrange(3)
+            kind = chance.randrange(3) if turn % 3 else 2
             if kind == 0:
                 text[place : place + chance.randint(1, 6)] = b""
             elif kind == 1:
                 text[place:place] = chance.choice(TOKENS)
             else:
-                text = text.replace(b"Z", b"S(Z)", chance.randint(1, 4))
+                text = text.replace(b"S(Z)", b"S(S(Z))", chance.randint(1, 4))
         yield bytes(text)
 
 
@@ -586,14 +612,16 @@ def all_examples():
     return [name.removesuffix(".inet") for name in sorted(os.listdir(EXAMPLES)) if name.endswith(".inet")]
 
 
-def wrong_module(module, shared):
+def wrong_module(module, native):
     """What is wrong with the module's answers beside the library's."""
-    native = Native(shared)
     examples = [text_of(name) for name in all_examples()]
     limits = [b"", b"\xff\xfe", b"\xed\xa0\x80", b"net () { }", b"net () { " + b"S(" * 300 + b"x" + b")" * 300 + b" ~ y; }"]
+    # An answer that is longer than the room that is lent at first.
+    many = range(40)
+    limits.append(("type t; " + "".join(f"symbol C{i} : t+; symbol D{i} : t-; " for i in many) + "".join(f"rule C{i}[] >< D{j}[]; " for i in many for j in many) + "net () { }").encode())
     limits += [text_of("sum").ljust(size) for size in (MOST_BYTES, MOST_BYTES + 1)]
     cases = [(text, list(calls_on(native, text, NUMBERS[:3]))) for text in [*examples, *limits]]
-    cases += [(text, list(calls_on(native, text, NUMBERS[:1]))) for text in changed(examples, CHANGED)]
+    cases += [(text, list(calls_on(native, text, NUMBERS[:1]))) for text in changed([text for text in examples if native.inet.check(text).status == ACCEPTED], examples)]
     cases.append((text_of("factorial"), [["version"], *calls_on(native, text_of("factorial"), NUMBERS)]))
     wanted = [native.answer(text, *call) for text, calls in cases for call in calls]
     found = by_module(module, cases)
@@ -602,9 +630,9 @@ def wrong_module(module, shared):
     return "; ".join(wrong[:5]) or (None if len(found) == len(wanted) else f"{len(found)} answers to {len(wanted)} calls")
 
 
-def wrong_in_little_memory(module, shared):
+def wrong_in_little_memory(module, native):
     """What is wrong where the memory can't grow: each answer is the library's, or says that memory ran out; and later ones are as ever."""
-    native, cases = Native(shared), []
+    cases = []
     for name in ("sum", "waits_for_itself", "factorial"):
         text = text_of(name)
         for cells in (16, 4096, 1048576, 16, 65536, 16):
@@ -667,22 +695,22 @@ def web(program):
     subprocess.run([os.path.join(WEB, "build"), site, "--module", module], check=True)
     playground = f"file://{site}/index.html"
     exporter = program_at(EXPORTER, room)
+    shared = built([LIBRARY, "make", os.path.join(room, "library")], os.path.join(room, "library", "lib", "libinet.so.0"))
+    native = Native(shared)
     names = all_examples()
     for part in range(4):
-        yield f"Chromium: examples, part {part}", partial(wrong_page, Chromium, room, playground, partial(by_name, program=program, exporter=exporter, names=names[part::4]))
+        yield f"Chromium: examples, part {part}", partial(wrong_page, Chromium, room, playground, partial(by_name, program=program, exporter=exporter, native=native, names=names[part::4]))
     yield "Chromium: long texts", partial(wrong_page, Chromium, room, playground, partial(long_texts, program=program))
     for does in (typed, remedied, panels, addressed, sights):
         yield f"Chromium: {does.__name__}", partial(wrong_page, Chromium, room, playground, does)
     if os.path.exists(os.path.join(site, "tutorial.html")):
         yield "Chromium: lessons", partial(wrong_page, Chromium, room, f"file://{site}/tutorial.html", lessons)
     if shutil.which("firefox-esr"):
-        yield "Firefox: examples", partial(wrong_page, Firefox, room, playground, partial(by_name, program=program, exporter=exporter, names=names[::12]))
+        yield "Firefox: examples", partial(wrong_page, Firefox, room, playground, partial(by_name, program=program, exporter=exporter, native=native, names=names[::12]))
         yield "Firefox: panels", partial(wrong_page, Firefox, room, playground, panels)
     if shutil.which("node"):
-        built([LIBRARY, "make", os.path.join(room, "library")], os.path.join(room, "library", "lib", "libinet.so.0"))
-        shared = os.path.join(room, "library", "lib", "libinet.so.0")
-        yield "the module beside the library", partial(wrong_module, module, shared)
-        yield "the module in little memory", partial(wrong_in_little_memory, module, shared)
+        yield "the module beside the library", partial(wrong_module, module, native)
+        yield "the module in little memory", partial(wrong_in_little_memory, module, native)
     sanitizers = ["-fsanitize=address,undefined", "-fno-sanitize-recover=all"] if has_sanitizers(room) else []
     for seed in range(1, 4):
         yield f"the heap with seed {seed}", partial(wrong_heap, room, seed, *sanitizers)

@@ -23,12 +23,13 @@ export class Bench {
     this.program = null;
     this.name = `bench${++benches}`;
     place.classList.add("bench");
-    place.innerHTML = `<section class="left" aria-label="program"><div class="editor"></div><div class="verdict" role="status"></div><div class="diagnosis" hidden></div></section>
+    place.innerHTML = `<section class="left" aria-label="program"><div class="editor"></div><div class="verdict" role="status" id="${this.name}-verdict"></div><div class="diagnosis" hidden></div></section>
 <section class="right" aria-label="what it does">${panels.length > 1 ? `<div class="tabs" role="tablist">${panels.map(it => `<button role="tab" id="${this.name}-${it}-tab" data-tab="${it}" aria-controls="${this.name}-${it}">${PANELS[it][0]}</button>`).join("")}</div>` : ""}
 ${panels.map(it => `<div class="panel" id="${this.name}-${it}" data-panel="${it}"${panels.length > 1 ? ` role="tabpanel" aria-labelledby="${this.name}-${it}-tab"` : ""}></div>`).join("")}</section>`;
     this.place = place;
     this.editor = new Editor(place.querySelector(".editor"), label, () => this.changed());
     this.verdict = place.querySelector(".verdict");
+    this.editor.area.setAttribute("aria-describedby", this.verdict.id);
     this.diagnosis = new Diagnosis(place.querySelector(".diagnosis"), this.editor);
     this.panels = Object.fromEntries(panels.map(it => [it, new PANELS[it][1](place.querySelector(`[data-panel=${it}]`), this)]));
     this.newest = new Newest(text => this.look(text));
@@ -63,6 +64,7 @@ ${panels.map(it => `<div class="panel" id="${this.name}-${it}" data-panel="${it}
     this.program = said.exported ? new Program(JSON.parse(said.exported)) : null;
     this.verdict.textContent = said.check?.text.split("\n")[0] ?? `The module broke off: ${said.failed}`;
     this.verdict.className = `verdict ${this.program ? "good" : "bad"}`;
+    this.editor.area.setAttribute("aria-invalid", !this.program);
     this.diagnosis.show(text, said.data);
     for (const panel of Object.values(this.panels)) panel.begin(text, said);
     this.looked(text, said);

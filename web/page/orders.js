@@ -8,7 +8,7 @@ const ORDERS = 100, WORKERS = [1, 2, 4, 8, 64], ROUNDS = 200;
 export class OrdersPanel {
   constructor(place, bench) {
     this.bench = bench;
-    place.innerHTML = `<p>All orders of interactions come to the same net, by the same count: that is proved of every accepted program. Here some are tried.</p>
+    place.innerHTML = `<p>All orders of interactions that end come to the same net, by the same count: that is proved of every accepted program. Here some are tried.</p>
 <div class="controls">${buttons([["try", `try ${ORDERS} random orders`, "each takes one active pair after another, by chance"]])}<span class="progress" role="status"></span></div><div class="ends"></div>
 <p>Several workers take pairs at once. Here each round gives each worker one pair, from the front of the queue.</p>
 <div class="controls">${buttons(WORKERS.map(count => [`workers${count}`, `${count} worker${count > 1 ? "s" : ""}`, `the rounds of ${count}`]))}<span class="rounds-count" role="status"></span></div><div class="rounds"></div>`;
@@ -28,20 +28,20 @@ export class OrdersPanel {
     if (!this.bench.program) return;
     for (let tried = 1; tried <= ORDERS; tried++) {
       const said = await this.bench.caller.ask("order", { text });
-      if (text !== this.text) return;
+      if (said.overtaken || text !== this.text) return;
       const end = said.status === STATUS.LIMIT ? `not ended after ${said.choices} interactions` : `${said.text}interactions: ${said.choices}`;
       ends.set(end, (ends.get(end) ?? 0) + 1);
       this.progress.textContent = `${tried} order${tried > 1 ? "s" : ""}: ${ends.size === 1 ? "one end" : `${ends.size} ends`}`;
       if (said.status === STATUS.LIMIT) break;
     }
-    this.ends.innerHTML = [...ends].map(([end, times]) => `<p>${times} came to</p><pre class="box">${escaped(end)}</pre>`).join("");
+    this.ends.innerHTML = [...ends].map(([end, times]) => `<p>${times} order${times > 1 ? "s" : ""} came to</p><pre class="box">${escaped(end)}</pre>`).join("");
   }
 
   async story(workers) {
     const { text } = this;
     if (!this.bench.program) return;
-    const { rounds, count, status } = await this.bench.caller.ask("rounds", { text, workers });
-    if (text !== this.text) return;
+    const { overtaken, rounds, count, status } = await this.bench.caller.ask("rounds", { text, workers });
+    if (overtaken || text !== this.text) return;
     const shown = rounds.slice(0, ROUNDS), most = Math.max(1, ...shown.map(it => it.length));
     this.roundsCount.textContent = `${count} interaction${count === 1 ? "" : "s"} in ${rounds.length} round${rounds.length === 1 ? "" : "s"}${status === STATUS.LIMIT ? ", and it goes on" : ""}`;
     const heads = line => line.split(" ~ ").map(term => escaped(term.split("(")[0])).join(" &gt;&lt; ");

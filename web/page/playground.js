@@ -5,38 +5,69 @@ import { escaped } from "./picture.js";
 import { examples, startCaller } from "./within.js";
 
 const find = id => document.getElementById(id);
+const list = find("examples"), note = find("note");
 const FIRST = "sum";
 
-async function begin() {
-  const bench = new Bench(find("bench"), startCaller(), { looked: () => performance.mark("looked") });
-  const list = find("examples");
-  const exampleOf = name => examples.find(it => it.name === name);
-  list.innerHTML = `<option value="">your own</option>${["accepted", "refused"].map(kind => `<optgroup label="${kind}">${examples.filter(it => it.kind === kind).map(it => `<option value="${it.name}">${escaped(it.name.replaceAll("_", " "))}</option>`).join("")}</optgroup>`).join("")}`;
-  const loadExample = name => {
-    list.value = name;
-    return bench.load(exampleOf(name).text);
-  };
-  const loadAddress = async () => {
-    const found = await named(location.hash);
-    find("note").textContent = found?.wrong ?? (found?.example && !exampleOf(found.example) ? `There is no example ${found.example}.` : "");
-    if (found?.text !== undefined) {
-      list.value = "";
-      return bench.load(found.text);
+const textOf = name => examples.find(it => it.name === name)?.text;
+
+// The reader's own text, which is there again after another program was looked at, or the page was loaded anew; a browser may refuse to keep it.
+const own = {
+  text: "",
+  keep(text) {
+    this.text = text;
+    try {
+      sessionStorage.setItem("own", text);
+    } catch {
+      // It is kept as long as the page is.
     }
-    return loadExample(exampleOf(found?.example) ? found.example : FIRST);
-  };
+  },
+  kept() {
+    try {
+      return sessionStorage.getItem("own");
+    } catch {
+      return null;
+    }
+  },
+};
+
+function looked(text) {
+  performance.mark("looked");
+  if (!list.value) own.keep(text);
+}
+
+const bench = new Bench(find("bench"), startCaller(), { looked });
+
+function load(text, name = "") {
+  list.value = name;
+  return bench.load(text);
+}
+
+// What the address names; else the reader's own text, else an example.
+async function loadAddress() {
+  const found = await named(location.hash), example = textOf(found?.example);
+  note.textContent = found?.wrong ?? (found?.example && example === undefined ? `There is no example ${found.example}.` : "");
+  if (found?.text !== undefined) return load(found.text);
+  if (example !== undefined) return load(example, found.example);
+  const kept = own.kept();
+  return kept && !found ? load(kept) : load(textOf(FIRST), FIRST);
+}
+
+function begin() {
+  const group = kind => `<optgroup label="${kind}">${examples.filter(it => it.kind === kind).map(it => `<option value="${it.name}">${escaped(it.name.replaceAll("_", " "))}</option>`).join("")}</optgroup>`;
+  list.innerHTML = `<option value="">your own</option>${group("accepted")}${group("refused")}`;
+  const setAddress = hash => history.replaceState(null, "", hash || location.pathname + location.search);
   list.addEventListener("change", () => {
-    if (!list.value) return;
-    history.replaceState(null, "", `#example=${list.value}`);
-    loadExample(list.value);
+    setAddress(list.value && `#example=${list.value}`);
+    load(list.value ? textOf(list.value) : own.text, list.value);
   });
   bench.editor.area.addEventListener("input", () => {
-    if (list.value && bench.text !== exampleOf(list.value).text) list.value = "";
+    if (list.value || location.hash) setAddress("");
+    list.value = note.textContent = "";
   });
   find("link").addEventListener("click", async () => {
-    history.replaceState(null, "", list.value ? `#example=${list.value}` : await addressOf(bench.text));
+    setAddress(list.value ? `#example=${list.value}` : await addressOf(bench.text));
     const copied = await navigator.clipboard?.writeText(location.href).then(() => true, () => false);
-    find("note").textContent = `The program is in the address of this page${copied ? ", which is copied" : ""}.`;
+    note.textContent = `The program is in the address of this page${copied ? ", which is copied" : ""}.`;
   });
   addEventListener("hashchange", loadAddress);
   // Arrow keys belong to the run where nothing else has them.
@@ -45,7 +76,7 @@ async function begin() {
   });
   // For the browser's console, and the tests.
   window.bench = bench;
-  await loadAddress();
+  loadAddress();
 }
 
 begin();

@@ -13,13 +13,27 @@ const CHOSEN_AT_ONCE = 8;
 // The engine, and what has to end before it can be asked.
 let engine, begun;
 
+// The last message that brought another text. What takes several calls breathes in between, and ends where such a message came since: then
+// nobody needs it.
+let newest = 0, breathed = 0;
+const BREATH = 50;
+
+async function isOvertaken(id) {
+  if (performance.now() - breathed > BREATH) {
+    await new Promise(done => setTimeout(done));
+    breathed = performance.now();
+  }
+  return newest > id;
+}
+
 const run = (text, choices, further) => engine.ask("run_by", text, choices, further, CELLS);
 const shown = ({ status, text, state }) => ({ status, text, state });
 
 // A random order: choices are made blindly where the number of pairs isn't known, and the last is made again where it names no pair.
-async function randomOrder(text) {
+async function randomOrder(id, text) {
   const choices = [];
   for (;;) {
+    if (await isOvertaken(id)) return { overtaken: true };
     const said = await run(text, choices, 0), { chosen = 0, pairs = 0 } = said.state;
     choices.length = chosen;
     if ((said.status !== STATUS.LIMIT && said.status !== STATUS.WRONG_NUMBERS) || choices.length >= MOST_TRIED) return { ...shown(said), choices: choices.length };
@@ -29,9 +43,10 @@ async function randomOrder(text) {
 }
 
 // Rounds of several workers, each of whom takes one of the pairs at the front of the queue.
-async function rounds(text, workers) {
+async function rounds(id, text, workers) {
   const choices = [], made = [];
   for (;;) {
+    if (await isOvertaken(id)) return { overtaken: true };
     const said = await run(text, choices, 0);
     const taken = Math.min(workers, said.state.pairs ?? 0);
     if (said.status !== STATUS.LIMIT || !taken || choices.length + taken > MOST_TRIED) return { status: said.status, rounds: made, count: choices.length };
@@ -52,14 +67,15 @@ const calls = {
     return { check: shown(check), exported: (await engine.ask("export", text)).text, end: shown(await run(text, [], MOST_INTERACTIONS)) };
   },
   net: async ({ text, choices, further = MOST_INTERACTIONS }) => shown(await run(text, choices, further)),
-  order: ({ text }) => randomOrder(text),
-  rounds: ({ text, workers }) => rounds(text, workers),
+  order: ({ id, text }) => randomOrder(id, text),
+  rounds: ({ id, text, workers }) => rounds(id, text, workers),
   verify: ({ text, number, steps }) => engine.ask("verify", text, number, steps),
   call: ({ name, text, rest }) => engine.ask(name, text, ...rest),
 };
 
 self.onmessage = async ({ data }) => {
   let said;
+  if (data.what === "look") newest = data.id;
   try {
     if (data.module) begun = Engine.of(data.module).then(made => (engine = made));
     await begun;
