@@ -23,9 +23,17 @@ export class Bench {
     this.program = null;
     this.name = `bench${++benches}`;
     place.classList.add("bench");
-    place.innerHTML = `<section class="left" aria-label="program"><div class="editor"></div><div class="verdict" role="status" id="${this.name}-verdict"></div><div class="diagnosis" hidden></div></section>
-<section class="right" aria-label="what it does">${panels.length > 1 ? `<div class="tabs" role="tablist">${panels.map(it => `<button role="tab" id="${this.name}-${it}-tab" data-tab="${it}" aria-controls="${this.name}-${it}">${PANELS[it][0]}</button>`).join("")}</div>` : ""}
-${panels.map(it => `<div class="panel" id="${this.name}-${it}" data-panel="${it}"${panels.length > 1 ? ` role="tabpanel" aria-labelledby="${this.name}-${it}-tab"` : ""}></div>`).join("")}</section>`;
+    const tab = it => `<button role="tab" id="${this.name}-${it}-tab" data-tab="${it}" aria-controls="${this.name}-${it}">${PANELS[it][0]}</button>`;
+    const isTabbed = panels.length > 1, role = it => (isTabbed ? ` role="tabpanel" aria-labelledby="${this.name}-${it}-tab"` : "");
+    place.innerHTML = `<section class="left" aria-label="program">
+<div class="editor"></div>
+<div class="verdict" role="status" id="${this.name}-verdict"></div>
+<div class="diagnosis" hidden></div>
+</section>
+<section class="right" aria-label="what it does">
+${isTabbed ? `<div class="tabs" role="tablist">${panels.map(tab).join("")}</div>` : ""}
+${panels.map(it => `<div class="panel" id="${this.name}-${it}" data-panel="${it}"${role(it)}></div>`).join("")}
+</section>`;
     this.place = place;
     this.editor = new Editor(place.querySelector(".editor"), label, () => this.changed());
     this.verdict = place.querySelector(".verdict");

@@ -6,7 +6,9 @@ const SHOWN = 100_000;
 export class DataPanel {
   constructor(place, bench) {
     this.bench = bench;
-    place.innerHTML = `<p>The accepted program as one line of JSON, as <code>inet_export</code> writes it.</p><div class="controls">${buttons([["copy", "copy", "to the clipboard"]])}<span role="status"></span></div><pre class="box data" tabindex="0" aria-label="the program as data"></pre>`;
+    place.innerHTML = `<p>The accepted program as one line of JSON, as <code>inet_export</code> writes it.</p>
+<div class="controls">${buttons([["copy", "copy", "to the clipboard"]])}<span role="status"></span></div>
+<pre class="box data" tabindex="0" aria-label="the program as data"></pre>`;
     [this.line, this.done] = ["pre", "span"].map(it => place.querySelector(it));
     place.querySelector("button").addEventListener("click", async () => {
       await navigator.clipboard?.writeText(this.exported).then(() => (this.done.textContent = "copied"), () => (this.done.textContent = "the browser doesn't allow that"));

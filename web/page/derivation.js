@@ -24,7 +24,10 @@ export class DerivationPanel {
     this.bench = bench;
     place.innerHTML = `<p>How each right member, and the net, is built. What is built by such steps has no vicious circle.</p>
 <div class="controls"><select aria-label="rule or net"></select>${buttons([["back", "◀ back", "one step back"], ["next", "next ▶", "the next step"]])}<span class="verified" role="status"></span></div>
-<div class="picture" role="img" aria-label="what the step builds"></div><p class="legend dim">Red: what the step adds. Blue, green: the steps that it joins. Dashed: wires that are open. Pale: what is built later. Boxes: ports of the heads.</p><p class="step" role="status"></p><ol class="steps" start="0"></ol>`;
+<div class="picture" role="img" aria-label="what the step builds"></div>
+<p class="legend dim">Red: what the step adds. Blue, green: the steps that it joins. Dashed: wires that are open. Pale: what is built later. Boxes: ports of the heads.</p>
+<p class="step" role="status"></p>
+<ol class="steps" start="0"></ol>`;
     [this.items, this.verified, this.picture, this.words, this.list] = ["select", ".verified", ".picture", ".step", ".steps"].map(it => place.querySelector(it));
     this.place = place;
     this.items.addEventListener("change", () => this.choose(Number(this.items.value)));
@@ -70,7 +73,9 @@ export class DerivationPanel {
   wordsOf(step) {
     const { kind, parts, own } = this.built[step], { name, head, places = [] } = own.nodes.length ? this.net.symbol(own.nodes[0]) : {};
     const named = parts.map(it => `step ${it}`).join(" and ");
-    return { empty: "nothing", link: "a wire by itself", given: places.length === 1 ? `port ${places[0]} of the head ${head}` : `ports ${places.join(", ")} of the head ${head}, which one net outside has`, graft: parts.length ? `an agent ${name} over ${named}` : `an agent ${name}`, cut: `${named}, joined by one wire`, mix: `${named}, side by side` }[kind];
+    const given = places.length === 1 ? `port ${places[0]} of the head ${head}` : `ports ${places.join(", ")} of the head ${head}, which one net outside has`;
+    const graft = parts.length ? `an agent ${name} over ${named}` : `an agent ${name}`;
+    return { empty: "nothing", link: "a wire by itself", given, graft, cut: `${named}, joined by one wire`, mix: `${named}, side by side` }[kind];
   }
 
   go(step) {

@@ -33,7 +33,8 @@ function paintedLine(line, from, marks, symbols) {
 
 export class Editor {
   constructor(place, label, changed) {
-    place.innerHTML = `<pre class="numbers" aria-hidden="true"></pre><div class="layers"><pre class="shown" aria-hidden="true"></pre><textarea spellcheck="false" autocapitalize="off" autocomplete="off" autocorrect="off" wrap="off" aria-label="${escaped(label)}"></textarea></div>`;
+    place.innerHTML = `<pre class="numbers" aria-hidden="true"></pre>
+<div class="layers"><pre class="shown" aria-hidden="true"></pre><textarea spellcheck="false" autocapitalize="off" autocomplete="off" autocorrect="off" wrap="off" aria-label="${escaped(label)}"></textarea></div>`;
     [this.numbers, this.shown, this.area] = [".numbers", ".shown", "textarea"].map(it => place.querySelector(it));
     this.whole = new LongText(this.area, LINE, () => this.refresh());
     this.marks = [];

@@ -8,7 +8,7 @@ const ORDERS = 100, WORKERS = [1, 2, 4, 8, 64], ROUNDS = 200;
 export class OrdersPanel {
   constructor(place, bench) {
     this.bench = bench;
-    place.innerHTML = `<p>All orders of interactions that end come to the same net, by the same count: that is proved of every accepted program. Here some are tried.</p>
+    place.innerHTML = `<p>All orders of interactions that end have the same net at the end, and the same count: that is proved of each accepted program. Here some are tried.</p>
 <div class="controls">${buttons([["try", `try ${ORDERS} random orders`, "each takes one active pair after another, by chance"]])}<span class="progress" role="status"></span></div><div class="ends"></div>
 <p>Several workers take pairs at once. Here each round gives each worker one pair, from the front of the queue.</p>
 <div class="controls">${buttons(WORKERS.map(count => [`workers${count}`, `${count} worker${count > 1 ? "s" : ""}`, `the rounds of ${count}`]))}<span class="rounds-count" role="status"></span></div><div class="rounds"></div>`;
@@ -34,7 +34,7 @@ export class OrdersPanel {
       this.progress.textContent = `${tried} order${tried > 1 ? "s" : ""}: ${ends.size === 1 ? "one end" : `${ends.size} ends`}`;
       if (said.status === STATUS.LIMIT) break;
     }
-    this.ends.innerHTML = [...ends].map(([end, times]) => `<p>${times} order${times > 1 ? "s" : ""} came to</p><pre class="box">${escaped(end)}</pre>`).join("");
+    this.ends.innerHTML = [...ends].map(([end, times]) => `<p>${times} order${times > 1 ? "s" : ""} ended with</p><pre class="box">${escaped(end)}</pre>`).join("");
   }
 
   async story(workers) {
@@ -45,6 +45,9 @@ export class OrdersPanel {
     const shown = rounds.slice(0, ROUNDS), most = Math.max(1, ...shown.map(it => it.length));
     this.roundsCount.textContent = `${count} interaction${count === 1 ? "" : "s"} in ${rounds.length} round${rounds.length === 1 ? "" : "s"}${status === STATUS.LIMIT ? ", and it goes on" : ""}`;
     const heads = line => line.split(" ~ ").map(term => escaped(term.split("(")[0])).join(" &gt;&lt; ");
-    this.rounds.innerHTML = `<table><thead><tr><th scope="col">round</th>${Array.from({ length: most }, (_, it) => `<th scope="col">worker ${it + 1}</th>`).join("")}</tr></thead><tbody>${shown.map((pairs, number) => `<tr><th scope="row">${number + 1}</th>${pairs.map(line => `<td>${heads(line)}</td>`).join("")}</tr>`).join("")}</tbody></table>${rounds.length > ROUNDS ? `<p class="dim">and ${rounds.length - ROUNDS} rounds more</p>` : ""}`;
+    const titles = Array.from({ length: most }, (_, it) => `<th scope="col">worker ${it + 1}</th>`).join("");
+    const rows = shown.map((pairs, number) => `<tr><th scope="row">${number + 1}</th>${pairs.map(line => `<td>${heads(line)}</td>`).join("")}</tr>`).join("");
+    const further = rounds.length > ROUNDS ? `<p class="dim">and ${rounds.length - ROUNDS} rounds more</p>` : "";
+    this.rounds.innerHTML = `<table><thead><tr><th scope="col">round</th>${titles}</tr></thead><tbody>${rows}</tbody></table>${further}`;
   }
 }

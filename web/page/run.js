@@ -20,7 +20,11 @@ export class RunPanel {
       ["start", "start", "to the start (Home)"], ["back", "◀ back", "one interaction back (arrow left)"], ["next", "next ▶", "the first pair of the queue, as inet run takes it (arrow right)"],
       ["any", "any pair", "one of the active pairs, by chance"], ["play", "play", "one interaction after another"], ["end", "end", "to the end (End)"],
     ])}<input type="range" min="0" max="0" value="0" aria-label="how many interactions are done"><span class="count" role="status"></span></div>
-<div class="picture" role="img"></div><p class="legend dim">Blue: constructors. Yellow: destructors. Red: active pairs; click one, and it interacts.</p><div class="pairs" role="group" aria-label="active pairs: choose one to interact"></div><p class="rule"></p><pre class="net box" tabindex="0" aria-label="the net as text"></pre>`;
+<div class="picture" role="img"></div>
+<p class="legend dim">Blue: constructors. Yellow: destructors. Red: active pairs; click one, and it interacts.</p>
+<div class="pairs" role="group" aria-label="active pairs: choose one to interact"></div>
+<p class="rule"></p>
+<pre class="net box" tabindex="0" aria-label="the net as text"></pre>`;
     const find = it => place.querySelector(it);
     [this.picture, this.pairs, this.rule, this.lines, this.count, this.slider] = [".picture", ".pairs", ".rule", ".net", ".count", "input"].map(find);
     this.buttons = Object.fromEntries([...place.querySelectorAll("[data-do]")].map(it => [it.dataset.do, it]));
@@ -45,10 +49,11 @@ export class RunPanel {
   do(name) {
     if (name !== "play") this.stop();
     if (this.buttons[name].disabled) return;
-    return { start: () => this.go(0), back: () => this.go(this.at - 1), next: () => this.next(), any: () => this.take(Math.floor(Math.random() * this.state.pairs)), play: () => this.play(), end: () => this.go(this.total) }[name]();
+    const any = () => this.take(Math.floor(Math.random() * this.state.pairs));
+    return { start: () => this.go(0), back: () => this.go(this.at - 1), next: () => this.next(), any, play: () => this.play(), end: () => this.go(this.total) }[name]();
   }
 
-  // A new text: at its start, with what its run comes to.
+  // A new text: the start of its run, whose end is known.
   begin(text, said) {
     this.stop();
     this.text = text;
@@ -158,13 +163,15 @@ export class RunPanel {
     this.count.textContent = `${this.at} ${further} interaction${this.total === 1 ? "" : "s"}`;
     this.lines.textContent = said.text;
     const pairs = said.text.split("\n").filter(line => line.includes(" ~ ")).slice(0, LISTED).map(line => line.split(" ~ ").map(term => term.split("(")[0]));
-    this.pairs.innerHTML = pairs.map((names, number) => `<button data-pair="${number}"${number ? "" : ' class="next"'}>${names.map(escaped).join(" &gt;&lt; ")}</button>`).join("") + (this.state.pairs > LISTED ? ` and ${this.state.pairs - LISTED} more` : "");
+    const more = this.state.pairs > LISTED ? ` and ${this.state.pairs - LISTED} more` : "";
+    this.pairs.innerHTML = pairs.map((names, number) => `<button data-pair="${number}"${number ? "" : ' class="next"'}>${names.map(escaped).join(" &gt;&lt; ")}</button>`).join("") + more;
     this.heads = pairs;
     this.titles = pairs.map(names => ruleText(this.program, this.program.rules[this.program.byHeads.get(names.join(" "))]));
     this.rule.textContent = this.titles[0] ?? "No active pair is left: this is the end.";
     if (!net) {
       cancelAnimationFrame(this.frame);
-      this.picture.innerHTML = `<p class="dim">${said.state.agents > DRAWN ? `A net of ${said.state.agents} agents is too large for a picture.` : "A symbol has the name of a variable, v and a number: the picture can't tell them apart."}</p>`;
+      const why = said.state.agents > DRAWN ? `A net of ${said.state.agents} agents is too large for a picture.` : "A symbol has the name of a variable, v and a number: the picture can't tell them apart.";
+      this.picture.innerHTML = `<p class="dim">${why}</p>`;
       return;
     }
     this.picture.setAttribute("aria-label", `${said.state.agents} agents, ${said.state.pairs} active pairs`);

@@ -1,8 +1,9 @@
-// The lessons: one section is seen at a time, its programs are workbenches, and its exercises check what is typed. Not proved.
+// The lessons: one section is seen at a time, its programs can be changed and run, and its exercises check what is typed. Not proved.
 import { addressOf } from "./address.js";
 import { Bench } from "./bench.js";
 import { checked, EXERCISES } from "./exercises.js";
 import { examples, startCaller } from "./within.js";
+import { buttons } from "./parts.js";
 import { escaped } from "./picture.js";
 
 const LIMIT = 100_000, CELLS = 65_536;
@@ -33,7 +34,11 @@ function program(place, text, looked) {
 
 function exercise(place) {
   const own = EXERCISES[Number(place.dataset.exercise)];
-  place.innerHTML = `<h3>Exercise: ${escaped(own.title)}</h3><p>${escaped(own.task)}</p><div class="work"></div><div class="controls"><button data-do="again">begin again</button><button data-do="solution">show a solution</button><span class="result" role="status"></span></div><ul class="checks"></ul>`;
+  place.innerHTML = `<h3>Exercise: ${escaped(own.title)}</h3>
+<p>${escaped(own.task)}</p>
+<div class="work"></div>
+<div class="controls">${buttons([["again", "begin again", "the text of the start"], ["solution", "show a solution", "in the place of the text"]])}<span class="result" role="status"></span></div>
+<ul class="checks"></ul>`;
   const [result, list] = [".result", ".checks"].map(it => place.querySelector(it));
   const run = async text => (await caller.ask("call", { name: "run", text, rest: [LIMIT, CELLS] })).text;
   const bench = program(place.querySelector(".work"), own.start, async text => {
