@@ -43,6 +43,9 @@ class Page:
     def value(self, expression):
         raise NotImplementedError
 
+    def leave_out_motion(self):
+        pass
+
     def until(self, condition):
         begun = time.monotonic()
         while not self.value(f"Boolean({condition})"):
@@ -116,6 +119,10 @@ class Chromium(Page):
         if "exceptionDetails" in said:
             raise RuntimeError(f"{expression[:200]}: {said['exceptionDetails'].get('exception', {}).get('description')}")
         return said["result"].get("value")
+
+    def leave_out_motion(self):
+        """As readers may ask for: pictures don't move, which takes less time."""
+        self.send("Emulation.setEmulatedMedia", features=[{"name": "prefers-reduced-motion", "value": "reduce"}])
 
     def key(self, key, modifiers=0, commands=()):
         """A key that is pressed and released: a letter, or one with a name."""
@@ -248,14 +255,14 @@ SEEN = """(() => { const it = bench.said; return { verdict: bench.verdict.textCo
   data: it.data ? JSON.parse(it.data) : null, parts: [...bench.place.querySelectorAll(".diagnosis li")].map(li => li.textContent), remedies: bench.place.querySelectorAll("[data-remedy]").length,
   marks: bench.editor.marks.map(mark => bench.text.slice(mark.from, mark.to)), total: bench.panels.run.total ?? null }; })()"""
 # The net at a number of interactions: its text, what the picture is drawn from, as text, and how many agents are drawn.
-NET = """(async number => { const run = bench.panels.run; await run.go(number); const net = run.nets.get(number).net;
+NET = """(async number => { const run = bench.panels.run; await run.go(() => number); const net = run.nets.get(number).net;
   return { text: run.lines.textContent, drawn: net && module_nets.printed(net), agents: run.picture.querySelectorAll("g.agent").length, wanted: net ? run.state.agents : 0, count: run.at, pairs: run.state.pairs }; })"""
 # An order by chance, step by step as by clicks: which pairs were asked for, the net after each, and where the run ends after that.
-WALK = """(async () => { const run = bench.panels.run, asked = [], texts = []; await run.go(0); let wrong = 0;
+WALK = """(async () => { const run = bench.panels.run, asked = [], texts = []; await run.go(() => 0); let wrong = 0;
   while (run.state.pairs && run.at < 40) { const before = run.at, pair = Math.floor(Math.random() * run.state.pairs); await run.take(pair);
     if (run.at === before) return { wrong: "no step", asked, texts };
     const { net, said } = run.nets.get(run.at); asked.push(pair); texts.push(run.lines.textContent); wrong += net ? module_nets.printed(net) !== said.text : 0; }
-  await run.go(run.total); return { wrong, asked, texts, text: run.lines.textContent, count: run.total }; })()"""
+  await run.go(() => run.total); return { wrong, asked, texts, text: run.lines.textContent, count: run.total }; })()"""
 
 
 def wrong_refused(tried, seen, check):
@@ -319,6 +326,7 @@ def wrong_example(tried, program, exporter, native, name):
 
 
 def by_name(tried, program, exporter, native, names):
+    tried.page.leave_out_motion()
     for name in names:
         before = len(tried.wrong)
         wrong_example(tried, program, exporter, native, name)
@@ -375,7 +383,11 @@ def panels(tried):
     """Tabs by keys, random orders, workers, the derivation and the data by clicks."""
     page = tried.page
     page.value("location.hash = '#example=factorial'")
-    page.until("bench.said.exported && document.getElementById('examples').value === 'factorial'")
+    page.until(f"bench.panels.run.text === {quoted(text_of('factorial').decode())} && bench.panels.run.at === 0")
+    page.value("(() => { for (let turn = 0; turn < 5; turn++) bench.panels.run.do('next'); })()")
+    page.until("bench.panels.run.at === 5")
+    page.value("(slider => { for (const value of [7, 30, 20]) { slider.value = value; slider.dispatchEvent(new Event('input')); } })(bench.panels.run.slider)")
+    page.until("bench.panels.run.at === 20")
     page.click("bench.place.querySelector('[role=tab]')")
     page.key("ArrowRight")
     page.until("bench.shown === 'orders' && document.activeElement.getAttribute('aria-selected') === 'true'")
@@ -447,10 +459,12 @@ def long_texts(tried, program):
         # Twenty lines further each time, whichever part of the text is held; and to the end.
         page.value("bench.editor.select(0, 0)")
         first, frame = "Number(bench.editor.numbers.textContent.split('\\n')[0])", "new Promise(done => requestAnimationFrame(() => setTimeout(done)))"
-        for turn in range(1, 201 if name == "lines" else 1):
+        for turn in range(1, 101 if name == "lines" else 1):
             page.value(f"bench.editor.area.scrollTop += 400, {frame}")
             tried.same(page.value(first), 20 * turn, f"{name}: the first line that is seen")
-        while page.value("(area => { const top = area.scrollTop; area.scrollTop = 1e9; return area.scrollTop > top; })(bench.editor.area)"):
+        for _ in range(500):
+            if not page.value("(area => { const top = area.scrollTop; area.scrollTop = 1e9; return area.scrollTop > top; })(bench.editor.area)"):
+                break
             page.value(frame)
         tried.need(page.value("bench.editor.numbers.textContent.endsWith(String(bench.text.split('\\n').length))"), f"{name}: the last line's number")
         page.key("a", 2, ["selectAll"])

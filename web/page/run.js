@@ -1,4 +1,5 @@
 // The run, step by step: forward and back, any pair next, to the end. Each net is the runner's, for a list of chosen pairs. Not proved.
+import { Newest } from "./caller.js";
 import { buttons, refusedNote } from "./parts.js";
 import { between, layOut } from "./layout.js";
 import { follow, readNet, ruleText } from "./nets.js";
@@ -29,7 +30,8 @@ export class RunPanel {
     [this.picture, this.pairs, this.rule, this.lines, this.count, this.slider] = [".picture", ".pairs", ".rule", ".net", ".count", "input"].map(find);
     this.buttons = Object.fromEntries([...place.querySelectorAll("[data-do]")].map(it => [it.dataset.do, it]));
     for (const [name, button] of Object.entries(this.buttons)) button.addEventListener("click", () => this.do(name));
-    this.slider.addEventListener("input", () => (this.stop(), this.go(Number(this.slider.value))));
+    const slid = new Newest(number => this.go(() => number));
+    this.slider.addEventListener("input", () => (this.stop(), slid.want(Number(this.slider.value))));
     for (const it of [this.picture, this.pairs]) {
       const chosen = event => event.target.closest("[data-pair]")?.dataset.pair;
       it.addEventListener("click", event => chosen(event) !== undefined && (this.stop(), this.take(Number(chosen(event)))));
@@ -50,7 +52,8 @@ export class RunPanel {
     if (name !== "play") this.stop();
     if (this.buttons[name].disabled) return;
     const any = () => this.take(Math.floor(Math.random() * this.state.pairs));
-    return { start: () => this.go(0), back: () => this.go(this.at - 1), next: () => this.next(), any, play: () => this.play(), end: () => this.go(this.total) }[name]();
+    const places = { start: () => 0, back: () => this.at - 1, next: () => this.at + 1, end: () => this.total };
+    return places[name] ? this.go(places[name]) : { any, play: () => this.play() }[name]();
   }
 
   // A new text: the start of its run, whose end is known.
@@ -70,7 +73,7 @@ export class RunPanel {
       return;
     }
     this.finish(said.end);
-    return this.go(0);
+    return this.go(() => 0);
   }
 
   // How far the run goes with these choices.
@@ -96,9 +99,9 @@ export class RunPanel {
     return found;
   }
 
-  // Goes there, one call after another.
-  go(number) {
-    this.work = this.work.then(() => this.moveTo(Math.max(0, Math.min(this.total, number)))).catch(error => console.error(error));
+  // Goes to a place that is asked for after all that was begun before.
+  go(place) {
+    this.work = this.work.then(() => this.moveTo(Math.max(0, Math.min(this.total, place())))).catch(error => console.error(error));
     return this.work;
   }
 
@@ -109,10 +112,6 @@ export class RunPanel {
     this.at = number;
     this.state = found.state;
     this.show(found, from, before);
-  }
-
-  next() {
-    return this.go(this.at + 1);
   }
 
   // This pair next, whatever was chosen before to come after here.
@@ -134,7 +133,7 @@ export class RunPanel {
     if (this.playing) return this.stop();
     this.buttons.play.textContent = "pause";
     const step = async () => {
-      await this.next();
+      await this.go(() => this.at + 1);
       if (!this.playing) return;
       if (this.at >= this.total) return this.stop();
       this.playing = setTimeout(step, SEEN);
