@@ -359,6 +359,10 @@ def typed(tried):
     page.until("bench.panels.run.at === 1")
     page.click("bench.place.querySelector('[data-do=start]')")
     page.until("bench.panels.run.at === 0")
+    page.value("bench.place.querySelector('.pairs button').focus()")
+    page.key("Enter")
+    page.until("bench.panels.run.at === 1")
+    tried.need(page.value("Boolean(document.activeElement.closest('.pairs'))"), "the focus after a pair was chosen by a key")
     page.click("bench.place.querySelector('[data-do=play]')")
     page.until("bench.panels.run.at === 2 && bench.panels.run.buttons.play.textContent === 'play'")
 

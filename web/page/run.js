@@ -77,8 +77,8 @@ export class RunPanel {
   }
 
   // How far the run goes with these choices.
-  finish({ status, state }) {
-    this.total = state.chosen + state.further;
+  finish({ status, state: { chosen = 0, further = 0 } }) {
+    this.total = chosen + further;
     this.ended = status;
   }
 
@@ -162,9 +162,11 @@ export class RunPanel {
     this.count.textContent = `${this.at} ${further} interaction${this.total === 1 ? "" : "s"}`;
     this.lines.textContent = said.text;
     const pairs = said.text.split("\n").filter(line => line.includes(" ~ ")).slice(0, LISTED).map(line => line.split(" ~ ").map(term => term.split("(")[0]));
+    const hadFocus = this.pairs.contains(document.activeElement);
     const more = this.state.pairs > LISTED ? ` and ${this.state.pairs - LISTED} more` : "";
     this.pairs.innerHTML = pairs.map((names, number) => `<button data-pair="${number}"${number ? "" : ' class="next"'}>${names.map(escaped).join(" &gt;&lt; ")}</button>`).join("") + more;
-    this.heads = pairs;
+    // Who chooses pairs by keys goes on at the first one.
+    if (hadFocus) (this.pairs.querySelector("button") ?? this.lines).focus();
     this.titles = pairs.map(names => ruleText(this.program, this.program.rules[this.program.byHeads.get(names.join(" "))]));
     this.rule.textContent = this.titles[0] ?? "No active pair is left: this is the end.";
     if (!net) {
