@@ -9,6 +9,7 @@ HERE = os.path.dirname(os.path.abspath(__file__))
 TOP = os.path.join(HERE, "..", "..")
 CRATES = os.path.join(TOP, "crates")
 sys.path.insert(0, os.path.join(TOP, "tools"))
+import layers
 import libraries
 # The lemmas on lists and graphs are for everybody: this crate has them by subject, in no module Public.
 FOR_EVERYBODY = {"in_base"}
@@ -76,6 +77,11 @@ def wrong_libraries():
     return "; ".join(f"{crate}: too many {' '.join(unnamed) or 'none'}, lacking {' '.join(lacking) or 'none'}" for crate, (unnamed, lacking) in libraries.wrong().items())
 
 
+def wrong_layers():
+    """Which picture of the crates isn't as crates.txt has it."""
+    return ", ".join(os.path.relpath(path, TOP) for path, text in layers.made().items() if layers.read(path) != text)
+
+
 def prose():
     """What people read: each file of the crates, the documents, the tests and the measurements, as one line without the marks of comments."""
     patterns = ["README.md", "crates.txt", "docs/**/*.md", "tests/**/*", "bench/**/*", "tools/*", "include/*"]
@@ -104,4 +110,5 @@ def house(_program):
     yield "one name, one home", wrong_homes
     yield "one name, one crate", wrong_exports
     yield "crates.txt lists what each crate names", wrong_libraries
+    yield "the layers of the crates are as crates.txt has them", wrong_layers
     yield "words of the field", retired_words
