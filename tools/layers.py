@@ -1,6 +1,7 @@
 #!/usr/bin/env python3
 """The crates in layers, from crates.txt: a crate is one higher than the highest that it rests on. As text in docs/work/ARCHITECTURE.md, and as a
-picture, docs/work/pictures/crates.svg. Not proved; `tests/run --only house` calls it.
+picture, docs/work/pictures/crates.svg. Beside it, the lines of the calls that ARCHITECTURE names on the way of a text. Not proved;
+`tests/run --only house` calls it.
 
 usage: tools/layers.py            says which of the two isn't as crates.txt has it; status 1 if any isn't
        tools/layers.py --write    writes both anew
@@ -16,6 +17,8 @@ import streams
 PAGE, PICTURE = (os.path.join(libraries.TOP, "docs", "work", *names) for names in (("ARCHITECTURE.md",), ("pictures", "crates.svg")))
 # The text stands between these lines of the page.
 MARKED = re.compile(r"(<!-- tools/layers.py -->\n```text\n)(.*?)(```\n)", re.DOTALL)
+# A call, and the place of its definition.
+CALL = re.compile(r"`(?:\w+::)?(\w+)` \| \[[\w/.]+(?::\d+)?\]\(\.\./\.\./(crates/([\w/.]+))\)")
 # Of the picture, in pixels.
 WIDTH, ROW, BOX, MARGIN, LETTER = 1280, 62, 26, 16, 6.6
 COLOURS = ("#dbe9f6", "#fdebd0", "#d8f0e0", "#f6dede", "#e8e0f4", "#f4f0d0", "#d6eef0", "#eadfd6", "#e4e4e4")
@@ -108,11 +111,19 @@ def read(path):
         return file.read()
 
 
+def with_line(found):
+    """A call with the place of its definition, as it is now."""
+    name, path, shown = found.groups()
+    lines = read(os.path.join(libraries.TOP, path)).splitlines()
+    line = next((number for number, text in enumerate(lines, 1) if re.search(rf"\bfn {name}\b", text)), 0)
+    return re.sub(r"\[[^\]]*\]", f"[{shown}:{line}]", found[0])
+
+
 def made():
     """The page and the picture, each with what it should have."""
     under = below()
     found = heights(under)
-    page = MARKED.sub(lambda at: at[1] + as_text(found) + at[3], read(PAGE))
+    page = MARKED.sub(lambda at: at[1] + as_text(found) + at[3], CALL.sub(with_line, read(PAGE)))
     return {PAGE: page, PICTURE: as_picture(found, under)}
 
 
