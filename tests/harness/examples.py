@@ -3,22 +3,17 @@ NAME.diagnosis. All but NAME.check may be missing, but that a refused program ha
 accepted one build its rules and its net, by `verify`.
 """
 import os
+import sys
 from functools import partial
 
 from harness.asked import harness_program, status_of
-from harness.programs import EXAMPLES, REFUSED, differing, shortened, text_of
+from harness.programs import EXAMPLES, HERE, REFUSED, differing, shortened, text_of
+
+sys.path.insert(0, os.path.join(HERE, "..", "..", "tools"))
+import corpus  # noqa: E402  (the tools stand beside the tests)
 
 # The words that are tried, and the ending of the file that has what is printed.
 COMMANDS = [(["check"], ".check"), (["derive"], ".derive"), (["run", "--workers", "1"], ".run"), (["run", "--workers", "2"], ".run")]
-
-
-def bytes_of(name):
-    """The bytes of a file of examples/; None where it isn't there."""
-    path = os.path.join(EXAMPLES, name)
-    if not os.path.exists(path):
-        return None
-    with open(path, "rb") as file:
-        return file.read()
 
 
 def wrong_answer(program, words, name, wanted):
@@ -36,7 +31,7 @@ def wrong_steps(harness, name):
 def wrong_diagnosis(program, name):
     """What is wrong with what people are told of an example."""
     answer = program.run(["check"], text_of(name))
-    wanted = bytes_of(f"{name}.diagnosis")
+    wanted = corpus.read(f"{name}.diagnosis")
     if answer.status == REFUSED and wanted is None:
         return "refused, and has no diagnosis"
     return None if answer.errors == (wanted or b"") else f"told: {shortened(answer.errors)}; wanted: {shortened(wanted or b'nothing')}"
@@ -49,9 +44,9 @@ def examples(program):
         if ending != ".inet":
             continue
         yield f"{name}: diagnosis", partial(wrong_diagnosis, program, name)
-        if bytes_of(f"{name}.diagnosis") is None:
+        if corpus.read(f"{name}.diagnosis") is None:
             yield f"{name}: steps", partial(wrong_steps, harness, name)
         for words, ending in COMMANDS:
-            wanted = bytes_of(name + ending)
+            wanted = corpus.read(name + ending)
             if wanted is not None or ending == ".check":
                 yield f"{name}: {' '.join(words)}", partial(wrong_answer, program, words, name, wanted or b"")
