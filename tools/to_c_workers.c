@@ -2,26 +2,29 @@
 
 #ifdef STRESS
 enum { FIRST_ALONE = 0, LEAST_ALONE = 40, MOST_ALONE = 400, WINDOW = 30, ACCOUNTED = 1, LOOKED_AT = 2, SPIN = 10, SPARE_WORDS = 1 };
-enum { LEAST_PAIRS = 1, MOST_GIVEN = 3, MOST_IN_GIFT = 9, FIRST_PAIRS = 8, REFUSED_TIMES = 1, LEAST_WORTH = -1 };
+enum { LEAST_PAIRS = 1, MOST_GIVEN = 3, MOST_IN_GIFT = 9, FIRST_PAIRS = 8, REFUSED_TIMES = 1, MOST_PATIENCE = 2, LEAST_WORTH = -1, MOST_REVERSED = 32 };
 #else
 // In interactions: a run begins with one worker; where within a window of all together it doesn't pay, one goes on alone, for three times as long
 // each time.
-enum { FIRST_ALONE = 400000, LEAST_ALONE = 2000000, MOST_ALONE = 64000000, WINDOW = 200000, ACCOUNTED = 8192 };
+enum { FIRST_ALONE = 150000, LEAST_ALONE = 2000000, MOST_ALONE = 64000000, WINDOW = 200000, ACCOUNTED = 8192 };
 // Between two slices a worker looks at so many stubs. It gives pairs away where it has so many, and so many at a time at most, until so many
 // agents go with them.
 enum { LOOKED_AT = 64, LEAST_PAIRS = 2, MOST_GIVEN = 256, MOST_IN_GIFT = 4096 };
-// Of so many of the oldest pairs one is to be worth it; after so many times that none was, what is known of that is forgotten.
-enum { FIRST_PAIRS = 128, REFUSED_TIMES = 64, LEAST_WORTH = 0 };
+// Of so many of the oldest pairs one is to be worth it; after so many times that none was, what is known of that is forgotten, and after twice as
+// many the next time, up to so many times as many, until a gift lasts again.
+enum { FIRST_PAIRS = 128, REFUSED_TIMES = 64, MOST_PATIENCE = 256, LEAST_WORTH = 0 };
+// Where a slice made more pairs than that, their order stays.
+enum { MOST_REVERSED = 32 };
 // How often a worker that has nothing to do looks for letters before it waits. And how many words of memory it has before it takes free cells of
 // others.
 enum { SPIN = 500, SPARE_WORDS = 1 << 20 };
 #endif
-// What it costs to wait, in interactions, of the first worker, who would have something to do if it were alone, before it ever paid and later, and of
-// another. All together have to do so many times as much as letters and waiting cost.
-enum { EARLY_WAITING_COSTS = 5000, FIRST_WAITING_COSTS = 1500, WAITING_COSTS = 200, PAYS = 4 };
+// What it costs to wait, in interactions, of the first worker, who would have something to do if it were alone, before it ever paid and later, of
+// another, and of all at once, while a letter goes from one to another. All together have to do so many times as much as letters and waiting cost.
+enum { EARLY_WAITING_COSTS = 5000, FIRST_WAITING_COSTS = 1500, WAITING_COSTS = 200, ALL_WAITING_COSTS = 10000, PAYS = 4 };
 // Who comes back for pairs sooner than after so many interactions gets more of them. Pairs were worth it where they lasted for some interactions,
-// and for some more for each agent that came with them.
-enum { LASTS = 5000, PAIR_LASTS = 500, AGENT_LASTS = 4 };
+// and for some more for each agent that came with them. Gifts that last so long say that there is work to be shared.
+enum { LASTS = 5000, PAIR_LASTS = 500, AGENT_LASTS = 12, LASTS_LONG = 20000 };
 
 static struct {
   pthread_mutex_t lock;
@@ -33,7 +36,7 @@ static struct {
   struct lists { word **items; size_t count, room; } cells[MOST_ARITY + 1];
   // How many workers there are, are to work, wait for letters, and are parked.
   int size, active, idle, parked;
-  bool is_done, has_paid;
+  bool is_done, has_paid, paid_before;
   // Since the last judgement interactions of all, those of all but the first worker, and what letters and waiting cost; and the number of those of
   // the first worker at which others begin, and for how many it is alone.
   int64_t done, by_others, cost, begin_at, alone_for;
@@ -45,6 +48,9 @@ static _Atomic bool is_parting;
 static _Atomic size_t lists, lacking;
 // What pairs with a destructor were worth to who got them, by its tag: below 0, no more of them are given away, until others are none either.
 static _Atomic int worth[SYMBOLS + 1];
+static _Atomic int patience = 1;
+// Whether workers take the oldest one first of the pairs that a slice made, where they are several.
+static _Atomic bool is_reversed = true;
 #define LOOK_AT(what) atomic_load_explicit(&(what), memory_order_relaxed)
 #define SET(what, value) atomic_store_explicit(&(what), (value), memory_order_relaxed)
 
@@ -164,7 +170,18 @@ static void give_pairs(struct worker *w) {
     first = k;
   }
   if (best < LEAST_WORTH) {
-    if (++w->refused % REFUSED_TIMES == 0) forget_worth();
+    if (++w->refused >= REFUSED_TIMES * LOOK_AT(patience)) {
+      forget_worth();
+      w->refused = 0;
+      if (LOOK_AT(patience) < MOST_PATIENCE) SET(patience, 2 * LOOK_AT(patience));
+    }
+    // They are done now, so that others are the oldest ones.
+    if (pairs > FIRST_PAIRS) {
+      need_pairs(w, FIRST_PAIRS);
+      memcpy(w->sp, w->bottom, 2 * FIRST_PAIRS * sizeof(word));
+      w->bottom += 2 * FIRST_PAIRS;
+      w->sp += 2 * FIRST_PAIRS;
+    }
     return;
   }
   uint16_t tag = TAG(w->bottom[2 * first + 1]);
@@ -204,6 +221,7 @@ static void judge_gift(struct worker *w) {
   // What it cost to bring them counts now, with what they were worth.
   w->cost += AGENT_COSTS * w->gift_agents;
   int value = LOOK_AT(worth[w->gift]);
+  if (lasted >= LASTS_LONG) SET(patience, 1);
   bool was_worth = lasted >= PAIR_LASTS + AGENT_LASTS * w->gift_agents;
   SET(worth[w->gift], was_worth ? value < 3 ? value + 2 : 4 : value > -1 ? value - 1 : -1);
   w->portion = lasted >= LASTS ? (w->portion + 1) / 2 : w->portion < MOST_GIVEN ? 2 * w->portion : MOST_GIVEN;
@@ -245,6 +263,7 @@ static void judge(void) {
     team.by_others /= 2;
     team.cost /= 2;
     if (!team.has_paid) return;
+    team.paid_before = true;
     team.alone_for = LEAST_ALONE;
     if (team.active < worker_count) begin(worker_count);
     return;
@@ -326,7 +345,7 @@ static void begin_others(struct worker *w) {
     w->is_alone = false;
     w->looked = w->done;
     w->cost = team.done = team.by_others = team.cost = 0;
-    team.has_paid = false;
+    team.has_paid = team.paid_before = false;
   }
   pthread_mutex_unlock(&team.lock);
 }
@@ -334,6 +353,8 @@ static void begin_others(struct worker *w) {
 // The first worker goes on alone.
 static void begin_alone(struct worker *w) { // (locked)
   come_together(w);
+  // Where it never paid in this order, the next time it is the other one.
+  if (!team.paid_before) SET(is_reversed, !LOOK_AT(is_reversed));
   team.begin_at = w->done + team.alone_for;
   team.alone_for = 3 * team.alone_for < MOST_ALONE ? 3 * team.alone_for : MOST_ALONE;
 }
@@ -407,6 +428,7 @@ static bool find_work(struct worker *w) {
     if (team.idle + team.parked == team.size) {
       // Nobody does anything: is there someone who could?
       bool is_over = true;
+      w->cost += ALL_WAITING_COSTS;
       for (int k = 0; k < team.size; k++) {
         bool has_any = workers[k].in_count || (has_pairs(&workers[k]) && team.left);
         if (has_any) pthread_cond_signal(&workers[k].called);
@@ -441,6 +463,19 @@ static bool find_work(struct worker *w) {
   return found;
 }
 
+// The pairs beyond so many words are put into the opposite order, if they are few.
+static void reverse(struct worker *w, ptrdiff_t words) {
+  ptrdiff_t made = w->sp - w->bottom - words;
+  if (IS_QUEUE || made < 4 || made > 2 * MOST_REVERSED) return;
+  for (word *low = w->bottom + words, *high = w->sp - 2; low < high; low += 2, high -= 2) {
+    word one = low[0], other = low[1];
+    low[0] = high[0];
+    low[1] = high[1];
+    high[0] = one;
+    high[1] = other;
+  }
+}
+
 static void *work(void *given) {
   struct worker *w = given;
   while (find_work(w)) {
@@ -452,7 +487,10 @@ static void *work(void *given) {
       new_chunk(w, words);
     }
     need_pairs(w, (size_t)(slice + 1) * PUSHES);
+    // All but the newest pair stay as they are while there are others.
+    ptrdiff_t others = w->sp - w->bottom - 2;
     int64_t done = slice - reduce(w, slice);
+    if (!w->is_alone && LOOK_AT(is_reversed)) reverse(w, others);
     w->fuel -= done;
     w->done += done;
     look_around(w);
