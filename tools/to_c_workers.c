@@ -1,17 +1,17 @@
 // ---- Several workers, each a thread. They give pairs to who has none, and letters about wires go between them (to_c_wires.c).
 
 #ifdef STRESS
-enum { FIRST_ALONE = 0, LEAST_ALONE = 40, MOST_ALONE = 400, WINDOW = 30, ACCOUNTED = 1, LOOKED_AT = 2, SPIN = 10, SPARE_WORDS = 1 };
+enum { FIRST_ALONE = 0, LEAST_ALONE = 40, AGAIN_ALONE = 40, MOST_ALONE = 400, WINDOW = 30, ACCOUNTED = 1, LOOKED_AT = 2, SPIN = 10, SPARE_WORDS = 1 };
 enum { LEAST_PAIRS = 1, MOST_GIVEN = 3, MOST_IN_GIFT = 9, FIRST_PAIRS = 8, REFUSED_TIMES = 1, MOST_PATIENCE = 2, LEAST_WORTH = -1, MOST_REVERSED = 32 };
 #else
 // In interactions: a run begins with one worker; where within a window of all together it doesn't pay, one goes on alone, for three times as long
-// each time.
-enum { FIRST_ALONE = 150000, LEAST_ALONE = 2000000, MOST_ALONE = 64000000, WINDOW = 200000, ACCOUNTED = 8192 };
+// each time, but only for a little where it paid before.
+enum { FIRST_ALONE = 150000, LEAST_ALONE = 2000000, AGAIN_ALONE = 400000, MOST_ALONE = 64000000, WINDOW = 200000, ACCOUNTED = 8192 };
 // Between two slices a worker looks at so many stubs. It gives pairs away where it has so many, and so many at a time at most, until so many
 // agents go with them.
 enum { LOOKED_AT = 64, LEAST_PAIRS = 2, MOST_GIVEN = 256, MOST_IN_GIFT = 4096 };
-// Of so many of the oldest pairs one is to be worth it; after so many times that none was, what is known of that is forgotten, and after twice as
-// many the next time, up to so many times as many, until a gift lasts again.
+// Of so many of the oldest pairs one is to be worth it; after so many times that none was, what is known of that is forgotten, and each further
+// time after twice as many, up to so many times as many, until a gift lasts long.
 enum { FIRST_PAIRS = 128, REFUSED_TIMES = 64, MOST_PATIENCE = 256, LEAST_WORTH = 0 };
 // Where a slice made more pairs than that, their order stays.
 enum { MOST_REVERSED = 32 };
@@ -48,6 +48,7 @@ static _Atomic bool is_parting;
 static _Atomic size_t lists, lacking;
 // What pairs with a destructor were worth to who got them, by its tag: below 0, no more of them are given away, until others are none either.
 static _Atomic int worth[SYMBOLS + 1];
+// After how many times as many refusals as the first time that is forgotten.
 static _Atomic int patience = 1;
 // Whether workers take the oldest one first of the pairs that a slice made, where they are several.
 static _Atomic bool is_reversed = true;
@@ -264,7 +265,7 @@ static void judge(void) {
     team.cost /= 2;
     if (!team.has_paid) return;
     team.paid_before = true;
-    team.alone_for = LEAST_ALONE;
+    team.alone_for = AGAIN_ALONE;
     if (team.active < worker_count) begin(worker_count);
     return;
   }
@@ -487,7 +488,7 @@ static void *work(void *given) {
       new_chunk(w, words);
     }
     need_pairs(w, (size_t)(slice + 1) * PUSHES);
-    // All but the newest pair stay as they are while there are others.
+    // A slice takes the newest pair at least, so what it leaves comes behind the others.
     ptrdiff_t others = w->sp - w->bottom - 2;
     int64_t done = slice - reduce(w, slice);
     if (!w->is_alone && LOOK_AT(is_reversed)) reverse(w, others);
