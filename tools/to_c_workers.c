@@ -1,12 +1,12 @@
 // ---- Several workers, each a thread. They give pairs to who has none, and letters about wires go between them (to_c_wires.c).
 
 #ifdef STRESS
-enum { FIRST_ALONE = 0, LEAST_ALONE = 40, AGAIN_ALONE = 40, MOST_ALONE = 400, WINDOW = 30, ACCOUNTED = 1, LOOKED_AT = 2, SPIN = 10, SPARE_WORDS = 1 };
+enum { FIRST_ALONE = 0, LEAST_ALONE = 40, MOST_ALONE = 400, WINDOW = 30, ACCOUNTED = 1, LOOKED_AT = 2, SPIN = 10, SPARE_WORDS = 1 };
 enum { LEAST_PAIRS = 1, MOST_GIVEN = 3, MOST_IN_GIFT = 9, FIRST_PAIRS = 8, REFUSED_TIMES = 1, MOST_PATIENCE = 2, LEAST_WORTH = -1, MOST_REVERSED = 32 };
 #else
 // In interactions: a run begins with one worker; where within a window of all together it doesn't pay, one goes on alone, for three times as long
-// each time, but only for a little where it paid before.
-enum { FIRST_ALONE = 150000, LEAST_ALONE = 2000000, AGAIN_ALONE = 400000, MOST_ALONE = 64000000, WINDOW = 200000, ACCOUNTED = 8192 };
+// each time.
+enum { FIRST_ALONE = 400000, LEAST_ALONE = 2000000, MOST_ALONE = 64000000, WINDOW = 200000, ACCOUNTED = 8192 };
 // Between two slices a worker looks at so many stubs. It gives pairs away where it has so many, and so many at a time at most, until so many
 // agents go with them.
 enum { LOOKED_AT = 64, LEAST_PAIRS = 2, MOST_GIVEN = 256, MOST_IN_GIFT = 4096 };
@@ -265,7 +265,7 @@ static void judge(void) {
     team.cost /= 2;
     if (!team.has_paid) return;
     team.paid_before = true;
-    team.alone_for = AGAIN_ALONE;
+    team.alone_for = LEAST_ALONE;
     if (team.active < worker_count) begin(worker_count);
     return;
   }
