@@ -2,3 +2,4 @@ pub mod Members
 pub mod OfNets
 pub mod OfRules
 pub mod Places
+pub mod Signed

@@ -1,5 +1,5 @@
 -- The open net of a typed net in usual braces.
-use Rattle.std.proofs.Common.{◌≡◌, ◌≢◌, ◌↔◌, ◌<◌, ◌≤◌, ℕ, not, Option, Some, None, length, slice_get, get_or, refl, sym, ap, inl, inr, ◌∙◌, arith}
+use Rattle.std.proofs.Common.{◌≡◌, ◌≢◌, ◌<◌, ◌≤◌, ℕ, not, Option, Some, None, length, slice_get, get_or, refl, sym, ap, inl, inr, ◌∙◌, arith}
 use Rattle.std.specs.Prelude.{option_map}
 use Rattle.std.proofs.lemmas.Option.{get_or_from_slice_get}
 use Rattle.in_symbols.specs.declared.symbols.SymbolNo.{SymbolNo}
@@ -14,16 +14,15 @@ use Rattle.in_open_nets.specs.declared.open_nets.Node.TheVariants.{AgentNode, Cl
 use Rattle.in_open_nets.specs.declared.open_nets.OpenNode.{OpenNode}
 use Rattle.in_open_nets.specs.declared.open_nets.OpenPoint.TheVariants.{Port}
 use Rattle.in_open_nets.specs.OpenNets as nets
-use Rattle.in_open_nets.specs.OpenNets.{OpenNet, IsOpenNet, IsDerivable, IsOpenPoint, class_in, open_graph}
+use Rattle.in_open_nets.specs.OpenNets.{OpenNet, IsOpenNet, IsOpenPoint, class_in}
 use Rattle.in_open_nets.proofs.Public.{port_place, some_of}
 use Rattle.in_open_nets_of_programs.specs.Opening.{AreNumbered, IsNodeOf, Opens, open_point, open_wire}
 use Rattle.in_open_nets_of_programs.proofs.Public.{is_open_net}
 use Rattle.in_base.proofs.Each.{at_index}
 use Rattle.in_base.proofs.Places.{some_same}
-use Rattle.in_usual_braces.specs.Directions.{AreSigned, HaveOutputsTogether, AreByThemselves, Crosses, DirectedCircle}
-use Rattle.in_usual_braces.specs.Laws.{CrossingDirectedCirclesDecide, UsualBracesDecide}
-use Rattle.in_usual_braces_of_programs.specs.Signs.{AreUsual, AreWide, is_output, place_of_class, sign_at, signs_of}
+use Rattle.in_usual_braces_of_programs.specs.Signs.{is_output, place_of_class, sign_at, signs_of}
 use Rattle.in_usual_braces_of_programs.proofs.Places.{signs_differ}
+use Rattle.in_usual_braces_of_programs.proofs.Signed.{AreListedSigned, FollowsSymbols, StayByThemselves, StayTogether}
 
 -- the sign of a node that is an agent
 pub agent_sign : (t : Tables) (o : OpenNet) (n i : ℕ) (m : OpenNode) (s : SymbolNo) → slice_get o.nodes n ≡ Some m → m.node ≡ AgentNode s → signs_of t o n i ≡ is_output t s.0 i
@@ -59,7 +58,7 @@ module _ (t : Tables) (n : Parts) (o : OpenNet) (numbered : AreNumbered t) (whol
       let m = some_of (λ (m : OpenNode). i < length m.class_of) (slice_get o.nodes x) h in
       (m.0, m.1, opens.nodes.1 x m.0 m.1)
 
-  together : AreWide t → HaveOutputsTogether o (signs_of t o)
+  together : StayTogether t o
   together wide x i j h k e f =
       let a = agent x i h in
       let s = a.2.symbol in
@@ -67,7 +66,7 @@ module _ (t : Tables) (n : Parts) (o : OpenNet) (numbered : AreNumbered t) (whol
       let d = agent_class t n o x j x a.0 a.1 a.2 k in
       c.1 ∙ (wide s.0).outputs i j c.0 d.0 (sym (agent_sign t o x i a.0 s a.1 a.2.node) ∙ e) (sym (agent_sign t o x j a.0 s a.1 a.2.node) ∙ f) ∙ sym d.1
 
-  alone : AreUsual t → AreByThemselves o (signs_of t o)
+  alone : StayByThemselves t o
   alone usual x i j h k e f same =
       let a = agent x i h in
       let s = a.2.symbol in
@@ -75,9 +74,8 @@ module _ (t : Tables) (n : Parts) (o : OpenNet) (numbered : AreNumbered t) (whol
       let d = agent_class t n o x j x a.0 a.1 a.2 k in
       (usual s.0).apart i j c.0 d.0 (sym (agent_sign t o x i a.0 s a.1 a.2.node) ∙ e) (sym (agent_sign t o x j a.0 s a.1 a.2.node) ∙ f) (sym c.1 ∙ same ∙ d.1)
 
-  -- a wire that is listed
-  from_listed : (w x i y j : ℕ) → slice_get o.wires w ≡ Some (Port x i, Port y j) → signs_of t o x i ≢ signs_of t o y j
-  from_listed w x i y j e = go (wire_in n w) refl (opens.wires.1 w (Port x i, Port y j) e)
+  listed : AreListedSigned t o
+  listed w x i y j e = go (wire_in n w) refl (opens.wires.1 w (Port x i, Port y j) e)
     where
       here : IsOpenPoint o (Port x i)
       here = net.points w (Port x i) (Port y j) (inl e)
@@ -100,13 +98,5 @@ module _ (t : Tables) (n : Parts) (o : OpenNet) (numbered : AreNumbered t) (whol
           (agent_sign t o x i a.0 a.2.symbol a.1 a.2.node)
           (agent_sign t o y j b.0 b.2.symbol b.1 b.2.node)
 
-  signed : AreSigned o (signs_of t o)
-  signed w x i y j (inl e) = from_listed w x i y j e
-  signed w x i y j (inr e) = λ same. from_listed w y j x i e (sym same)
-
-  -- what the general laws say of these signs
-  pub net_decided : UsualBracesDecide → AreUsual t → IsDerivable o ↔ (DirectedCircle (open_graph o) (signs_of t o) → ⊥)
-  net_decided law usual = law o (signs_of t o) net signed (together (λ s. (usual s).wide)) (alone usual)
-
-  pub net_crossing_decided : CrossingDirectedCirclesDecide → AreWide t → IsDerivable o ↔ ((c : DirectedCircle (open_graph o) (signs_of t o)) → Crosses (open_graph o) (signs_of t o) c → ⊥)
-  net_crossing_decided law wide = law o (signs_of t o) net signed (together wide)
+  pub net_follows : FollowsSymbols t o
+  net_follows = record { net = net; listed = listed; together = together; alone = alone }

@@ -1,5 +1,5 @@
 -- The open net of a typed rule in usual braces.
-use Rattle.std.proofs.Common.{◌≡◌, ◌≢◌, ◌⊎◌, ◌↔◌, ◌<◌, ◌≤◌, ◌+◌, ◌-◌, ℕ, suc, Bool, true, false, not, cond, nat_lt, List, [], ◌∷◌, Option, Some, None, IsSomeAnd, length, slice_get, get_or, refl, sym, subst, ap, inl, inr, ◌∙◌, arith, lt-ltb, le-ltb}
+use Rattle.std.proofs.Common.{◌≡◌, ◌≢◌, ◌⊎◌, ◌<◌, ◌≤◌, ◌+◌, ◌-◌, ℕ, suc, Bool, true, false, not, cond, nat_lt, List, [], ◌∷◌, Option, Some, None, IsSomeAnd, length, slice_get, get_or, refl, sym, subst, ap, inl, inr, ◌∙◌, arith, lt-ltb, le-ltb}
 use Rattle.std.specs.Prelude.{option_map}
 use Rattle.std.specs.List.{AllByRecursion}
 use Rattle.std.proofs.lemmas.List.Sums.{count_by-le-length}
@@ -24,7 +24,7 @@ use Rattle.in_open_nets.specs.declared.open_nets.OpenNode.{OpenNode}
 use Rattle.in_open_nets.specs.declared.open_nets.OpenPoint.{OpenPoint}
 use Rattle.in_open_nets.specs.declared.open_nets.OpenPoint.TheVariants.{Port}
 use Rattle.in_open_nets.specs.OpenNets as nets
-use Rattle.in_open_nets.specs.OpenNets.{OpenNet, IsAgent, IsAgentNode, IsOpenNet, IsDerivable, IsOpenPoint, class_in, open_graph}
+use Rattle.in_open_nets.specs.OpenNets.{OpenNet, IsAgent, IsAgentNode, IsOpenNet, IsOpenPoint, class_in, open_graph}
 use Rattle.in_open_nets.proofs.Public.{not_both, port_place, some_of}
 use Rattle.in_open_nets_of_programs.specs.Opening.{AreNumbered, IsNodeOf}
 use Rattle.in_open_nets_of_programs.specs.OpeningRules.{places_in, agents_before, agent_node, second_node, boundary_port, is_turned, rule_point, rule_wire, IsClassNodeOf, IsRuleWhole, OpensRule}
@@ -32,12 +32,12 @@ use Rattle.in_open_nets_of_programs.proofs.Public.OpenedRules.{is_open_net, is_e
 use Rattle.in_open_nets_of_programs.proofs.Public.{agent_within, kind_of, NodeKind, of_first, of_second, of_agent, place_there}
 use Rattle.in_base.proofs.Each.{all_map, at_index}
 use Rattle.in_base.proofs.Places.{some_same}
-use Rattle.in_usual_braces.specs.Directions.{AreSigned, HaveOutputsTogether, AreByThemselves, Crosses, IsAlong, DirectedCircle}
-use Rattle.in_usual_braces.specs.Laws.{CrossingDirectedCirclesDecide, UsualBracesDecide}
+use Rattle.in_usual_braces.specs.Directions.{IsAlong, DirectedCircle}
 use Rattle.in_usual_braces.proofs.Public.{begins, ends}
 use Rattle.in_usual_braces_of_programs.specs.Signs.{AreUsual, AreWide, is_output, place_of_class, sign_at, signs_of}
 use Rattle.in_usual_braces_of_programs.proofs.OfNets.{agent_class, agent_sign}
 use Rattle.in_usual_braces_of_programs.proofs.Places.{negated, place_found, signs_differ}
+use Rattle.in_usual_braces_of_programs.proofs.Signed.{AreListedSigned, FollowsSymbols, StayByThemselves, StayTogether}
 
 -- the sign of a class node's port: the opposite of that of its place
 class_sign : (t : Tables) (o : OpenNet) (n k : ℕ) (m : OpenNode) (s : SymbolNo) (c : ℕ) → slice_get o.nodes n ≡ Some m → m.node ≡ ClassNode s c → signs_of t o n k ≡ not (is_output t s.0 (place_of_class t s.0 c k (arity_of t s.0)))
@@ -170,7 +170,7 @@ module _ (t : Tables) (p : RuleParts) (o : OpenNet) (numbered : AreNumbered t) (
       let l = k.2 in
       omega arith
 
-  together : AreWide t → HaveOutputsTogether o (signs_of t o)
+  together : StayTogether t o
   together wide n i j h k e f =
       let m = node n i h in
       elim (kind n m.0 m.1) [
@@ -182,7 +182,7 @@ module _ (t : Tables) (p : RuleParts) (o : OpenNet) (numbered : AreNumbered t) (
             c.1 ∙ (wide s.0).outputs i j c.0 d.0 (sym (agent_sign t o n i m.0 s m.1 a.1.node) ∙ e) (sym (agent_sign t o n j m.0 s m.1 a.1.node) ∙ f) ∙ sym d.1
       ]
 
-  alone : AreUsual t → AreByThemselves o (signs_of t o)
+  alone : StayByThemselves t o
   alone usual n i j h k e f same =
       let m = node n i h in
       elim (kind n m.0 m.1) [
@@ -286,8 +286,8 @@ module _ (t : Tables) (p : RuleParts) (o : OpenNet) (numbered : AreNumbered t) (
                   ∙ class_has_sign p.written.1 p.head_places.1 (class_at t p.written.1.0 (suc j)) (class_at t p.written.1.0 (suc j) - 1 + 1) (second_node t p + (class_at t p.written.1.0 (suc j) - 1)) j m.0 m.1 ((opens.nodes.1 (second_node t p + (class_at t p.written.1.0 (suc j) - 1)) m.0 m.1).second (class_at t p.written.1.0 (suc j) - 1) (omega arith) refl) d l refl,
             )
 
-    from_listed : (w n i m j : ℕ) → slice_get o.wires w ≡ Some (Port n i, Port m j) → signs_of t o n i ≢ signs_of t o m j
-    from_listed w n i m j e = go (wire_in p.member w) refl (opens.wires.1 w (Port n i, Port m j) e)
+    listed : AreListedSigned t o
+    listed w n i m j e = go (wire_in p.member w) refl (opens.wires.1 w (Port n i, Port m j) e)
       where
         go : (v : Option (points.Point × points.Point)) → wire_in p.member w ≡ v → option_map (rule_wire t p (is_turned p)) v ≡ Some (Port n i, Port m j) → signs_of t o n i ≢ signs_of t o m j
         go None h k = cc
@@ -298,12 +298,5 @@ module _ (t : Tables) (p : RuleParts) (o : OpenNet) (numbered : AreNumbered t) (
             let b = point_sign r.1 m j (has_partner p.member r.1 r.0 (net.back r.0 r.1 there)) (ap (λ z. z.1) f) in
             signs_differ (signs_of t o n i) (signs_of t o m j) (type_at t p.member r.0) (type_at t p.member r.1) a.0 b.0 (typed w r.0 r.1 h) a.1 b.1 a.2 b.2
 
-    signed : AreSigned o (signs_of t o)
-    signed w n i m j (inl e) = from_listed w n i m j e
-    signed w n i m j (inr e) = λ same. from_listed w m j n i e (sym same)
-
-    pub rule_decided : UsualBracesDecide → AreUsual t → IsDerivable o ↔ (DirectedCircle (open_graph o) (signs_of t o) → ⊥)
-    rule_decided law usual = law o (signs_of t o) open_net signed (together (λ s. (usual s).wide)) (alone usual)
-
-    pub rule_crossing_decided : CrossingDirectedCirclesDecide → AreWide t → IsDerivable o ↔ ((c : DirectedCircle (open_graph o) (signs_of t o)) → Crosses (open_graph o) (signs_of t o) c → ⊥)
-    rule_crossing_decided law wide = law o (signs_of t o) open_net signed (together wide)
+    pub rule_follows : FollowsSymbols t o
+    rule_follows = record { net = open_net; listed = listed; together = together; alone = alone }

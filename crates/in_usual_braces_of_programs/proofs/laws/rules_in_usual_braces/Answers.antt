@@ -1,5 +1,6 @@
-use Rattle.in_usual_braces_of_programs.proofs.OfRules.{rule_decided}
+use Rattle.in_usual_braces_of_programs.proofs.OfRules.{rule_follows}
+use Rattle.in_usual_braces_of_programs.proofs.Signed.{decided}
 use Rattle.in_usual_braces_of_programs.proofs.laws.rules_in_usual_braces.Goals as goal
 
 pub returns : goal.returns
-returns c = λ t p o numbered whole net over heads typed opens usual. rule_decided t p o numbered whole net over.member over.built opens heads typed c.usual_braces_decide.ensures usual
+returns c = λ t p o numbered whole net over heads typed opens usual. decided t o (rule_follows t p o numbered whole net over.member over.built opens heads typed) c.usual_braces_decide.ensures usual
