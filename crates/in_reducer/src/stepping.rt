@@ -207,24 +207,24 @@ impl<'a> Reducer<'a> {
         self.step_by(template, number);
     }
 
-    /// The interaction of the first pair, up to numbers, where neither symbol of the pair is marked: its cells are free before the right member's
-    /// agents are begun, so that these stand there where they can.
+    /// The interaction of the pair of that number, up to numbers, where neither symbol of the pair is marked: its cells are free before the right
+    /// member's agents are begun, so that these stand there where they can.
     #[inline(always)]
-    fn step_anew(&mut self, template: &Template)
-        requires at { IsTemplateAt self.old 0 template.now }
-        requires room { HasRoomAt self.old 0 }
+    fn step_anew(&mut self, template: &Template, number: u32)
+        requires at { IsTemplateAt self.old number template.now }
+        requires room { HasRoomAt self.old number }
         requires unmarked { IsTrue template.now.unmarked }
-        ensures { StepsUpToNumbers self.old 0 self.new }
+        ensures { StepsUpToNumbers self.old number self.new }
     {
         let body = &mut self.body;
-        let (one, other) = body.queue[0];
+        let (one, other) = body.queue[number as usize];
         let pair = Pair {
             one: CellNo(one),
             other: CellNo(other),
             first_ends: template.first_ends(),
         };
         use_promise!(body.arena.cells());
-        take_out(&mut body.queue, 0);
+        take_out(&mut body.queue, number as usize);
         wire_anew(
             template,
             pair,
@@ -240,17 +240,17 @@ impl<'a> Reducer<'a> {
         );
     }
 
-    /// The interaction of the first pair, up to numbers.
+    /// The interaction of the pair of that number, up to numbers.
     #[inline(always)]
-    fn step_here(&mut self, template: &Template)
-        requires at { IsTemplateAt self.old 0 template.now }
-        requires room { HasRoomAt self.old 0 }
-        ensures { StepsUpToNumbers self.old 0 self.new }
+    pub(crate) fn step_here(&mut self, template: &Template, number: u32)
+        requires at { IsTemplateAt self.old number template.now }
+        requires room { HasRoomAt self.old number }
+        ensures { StepsUpToNumbers self.old number self.new }
     {
         if template.is_unmarked() {
-            self.step_anew(template);
+            self.step_anew(template, number);
         } else {
-            self.step_beside(template, 0);
+            self.step_beside(template, number);
         }
     }
 
@@ -265,7 +265,7 @@ impl<'a> Reducer<'a> {
         if !self.fits(template, 0) {
             return false;
         }
-        self.step_here(template);
+        self.step_here(template, 0);
         true
     }
 }

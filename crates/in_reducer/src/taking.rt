@@ -6,7 +6,7 @@ ghost use Rattle.in_compile.specs.Cells.{count_of};
 ghost use Rattle.in_compile.specs.Templates.{AreTemplatesOf};
 ghost use Rattle.in_reducer.specs.Parting.{ReducesTo};
 ghost use Rattle.in_reducer.specs.Same.{RunsUpToNumbers, StepsUpToNumbers};
-ghost use Rattle.in_reducer.specs.Steps.{HasRoomAt, StepsAt};
+ghost use Rattle.in_reducer.specs.Steps.{HasRoomAt};
 ghost use Rattle.in_reducer.specs.Taking.{HasRoomBesides, TakesNoLast, together};
 ghost use Rattle.in_reducer.specs.Templates.{HasHeadsAt, IsTemplateAt};
 
@@ -108,13 +108,13 @@ impl<'a> Reducer<'a> {
         Need::free_in(&self.body.arena).has_besides(template.need(), floor)
     }
 
-    /// The interaction of the last pair, as `step` says, where what it needs is free and `floor` cells of each class besides. Returns whether it
-    /// was done. There is a pair.
+    /// The interaction of the last pair, up to numbers, where what it needs is free and `floor` cells of each class besides. Returns whether it was
+    /// done. There is a pair.
     #[inline(always)]
     fn step_last(&mut self, templates: &Templates, floor: u32) -> bool
         requires templates { AreTemplatesOf self.old.program templates.now }
         requires pair { 0 < length self.old.queue }
-        ensures done { result ≡ true → StepsAt self.old (length self.old.queue - 1) self.new × HasRoomBesides self.old (length self.old.queue - 1) floor }
+        ensures done { result ≡ true → StepsUpToNumbers self.old (length self.old.queue - 1) self.new × HasRoomBesides self.old (length self.old.queue - 1) floor }
         ensures none { result ≡ false → (self.new ≡ self.old) × (HasRoomBesides self.old (length self.old.queue - 1) floor → ⊥) }
     {
         let number = self.pairs() - 1;
@@ -122,7 +122,7 @@ impl<'a> Reducer<'a> {
         if !self.fits_besides(template, number, floor) {
             return false;
         }
-        self.step_by(template, number);
+        self.step_here(template, number);
         true
     }
 
