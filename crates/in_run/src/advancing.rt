@@ -5,7 +5,7 @@ ghost use Rattle.in_run.specs.Advancing.{RunsAnyhow};
 ghost use Rattle.in_run.specs.Stops.{GoesOn};
 ghost use Rattle.in_reducer.specs.Same.{RunsUpToNumbers};
 
-use crate::pace::{PHASE_PAIRS, PHASES_FROM, Pace, sharing};
+use crate::pace::{PHASES_FROM, Pace, sharing};
 use in_limits::Limits;
 use in_machine::{Machine, phase};
 use std::alloc::Global;
@@ -14,19 +14,17 @@ use std::thread::Threads;
 /// How many pairs are taken before it is looked again whether a phase pays.
 const TURN: u64 = 1_024;
 
-/// Some interactions by this thread, at most `most`: of the newest pairs where there are many and half of the cells are free, so that the net stays
-/// small, else of the oldest ones, whose cells are used again. Returns how many they were.
+/// Some interactions by this thread, at most `most`: of the newest pairs while half of the cells are free, else of the oldest ones. Returns how many
+/// they were.
 fn take_alone(machine: &mut Machine, limits: Limits, most: u64) -> u64
     ensures goes { (m : MachineParts) (k : ℕ) → RunsAnyhow m k machine.old → RunsAnyhow m (result + k) machine.new }
     ensures most { result ≤ most }
 {
-    if machine.pairs() >= PHASE_PAIRS {
-        let count = machine.take_newest(limits.cells() / 2, most);
-        if count != 0 {
-            return count;
-        }
+    let count = machine.take_newest(limits.cells() / 2, most);
+    if count != 0 {
+        return count;
     }
-    machine.take_first(most)
+    count + machine.take_first(most)
 }
 
 /// Interactions of several workers' long run, of which `left` are left: a phase where it pays, else those of some pairs by this thread, the newest

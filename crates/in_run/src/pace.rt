@@ -12,7 +12,7 @@ use std::alloc::Global;
 pub(crate) const PHASES_FROM: u64 = 16_384;
 
 /// From how many pairs on.
-pub(crate) const PHASE_PAIRS: u32 = 512;
+const PHASE_PAIRS: u32 = 512;
 
 /// .. and how many for each part.
 const PART_PAIRS: u32 = 64;
