@@ -1,5 +1,6 @@
 """The documents: each link and path in README.md and docs/ leads to a file, each line of a file that is named with a call has the call, each
-crate named there is one, each command runs and prints what is shown, and each public call with a clause has its row in GUARANTEES.
+crate named there is one, each command runs and prints what is shown, each page says first whom it is for, and each public call with a clause
+has its row in GUARANTEES.
 
 A command in a block is `$ ./inet WORDS < FILE`, `$ cat FILE` or `$ tools/NAME.py WORDS < FILE`; the lines up to the next command are what it
 prints, those on standard error last. All other commands of a page run in turn in one folder, where the top of the repository is linked: each has
@@ -58,6 +59,12 @@ def anchors(path):
     """The anchors of a page's headings: in small letters, with a hyphen for each space, and without other signs."""
     for heading in re.findall(r"^#+ (.*)$", BLOCK.sub("", text_at(path)), re.MULTILINE):
         yield re.sub(r"[^\w\- ]", "", heading.lower()).replace(" ", "-")
+
+
+def wrong_beginning(page):
+    """What is wrong with how a page of docs/ begins: with whom it is for, and what one knows or can do after it."""
+    first = text_at(page).split("\n\n")[1]
+    return None if first.startswith("For ") and "after this page" in first.lower() else "doesn't say first whom it is for, and what one has after it"
 
 
 def wrong_link(page, target):
@@ -220,6 +227,8 @@ def documents(program):
     for page in pages():
         text = text_at(page)
         outside = BLOCK.sub("", text)
+        if page != "README.md":
+            yield f"{page}: its beginning", partial(wrong_beginning, page)
         for target in sorted(set(LINK.findall(outside))):
             if "://" not in target:
                 yield f"{page}: link to {target}", partial(wrong_link, page, target)
