@@ -3,9 +3,9 @@ crate named there is one, each command runs and prints what is shown, each page 
 has its row in GUARANTEES.
 
 A command in a block is `$ ./inet WORDS < FILE`, `$ cat FILE` or `$ tools/NAME.py WORDS < FILE`; the lines up to the next command are what it
-prints, those on standard error last. All other commands of a page run in turn in one folder, where the top of the repository is linked: each has
-to end with status 0, and print what is shown, if it is shown. Not tried are those that build the library or the pages, prove, measure, or need
-other machines or an editor (`OTHERS`).
+prints, those on standard error last. All other commands of a page run in turn in one folder, where the top of the repository is linked and the
+library lies in out/inet: each has to end with status 0, and print what is shown, if it is shown; so have the sessions of Python. Not tried are
+those that build the library or the pages, prove, measure, or need other machines or an editor (`OTHERS`).
 """
 import glob
 import os
@@ -38,7 +38,7 @@ COMMAND = re.compile(r"\$ (?:\./)?(inet|cat|tools/\w+\.py)\b(?: ([^>|]*?))?(?: ?
 LINE = re.compile(r"(?:\./|\.ci/|tools/|cc |mpicc |mpirun |python3 |bindings/|web/|bench/|code |cd |PREFIX=|\(cd ).*")
 REMARK = re.compile(r" +#.*$|  +\S.*$")
 # What other groups try (library, web, machines), what a gate does, and what only a person can.
-OTHERS = re.compile(r"\.ci/|bindings/|out/inet/|web/|bench/|rt_once|mpi|\bcode |npm ")
+OTHERS = re.compile(r"\.ci/|bindings/(?:library|rust)|web/|bench/|rt_once|mpi|\bcode |npm ")
 # A call and the line that has it, in a row.
 PLACE = re.compile(r"\| `(?:\w+::)?(\w+)` \| \[([\w/]+\.rt):(\d+)\]\(")
 
@@ -126,8 +126,11 @@ def wrong_print(program, name, words, file, shown):
 
 
 def further_commands(text):
-    """The other commands of a page, in their order, each with what it prints, None where that isn't shown."""
+    """The other commands of a page, in their order, each with what it prints, None where that isn't shown; a session of Python as `>>>`."""
     for block in BLOCK.findall(text):
+        if block.startswith(">>> "):
+            yield ">>>", block
+            continue
         for part in re.split(r"^(?=\$ )", block, flags=re.MULTILINE):
             line, _, shown = part.partition("\n")
             if line.startswith("$ "):
@@ -137,9 +140,16 @@ def further_commands(text):
                 yield from ((REMARK.sub("", line), None) for line in part.split("\n") if LINE.fullmatch(line))
 
 
+def needs_library(line):
+    """Whether a command takes the library."""
+    return line == ">>>" or "out/inet" in line or "bindings/python" in line
+
+
 def lacking(line):
-    """Whether a command calls a program that isn't on this machine."""
-    return "--svg" in line and not shutil.which("dot") or line.startswith("cc ") and not shutil.which("cc")
+    """Whether a command needs a program that isn't on this machine."""
+    # What isn't a script of the project was compiled by a line before.
+    needs_compiler = needs_library(line) or re.match(r"cc |\./(?!inet(?:_export)? )", line)
+    return "--svg" in line and not shutil.which("dot") or needs_compiler and not shutil.which("cc")
 
 
 def wrong_commands(lines):
@@ -151,12 +161,26 @@ def wrong_commands(lines):
         # The programs that a reader writes.
         os.makedirs(os.path.join(room, "mine"))
         shutil.copy(os.path.join(TOP, "examples", "greater_of_two.inet"), os.path.join(room, "mine", "max.inet"))
-        kept = {**os.environ, "INET_C_KEPT": os.path.join(room, "kept"), "PYTHONDONTWRITEBYTECODE": "1"}
+        made = os.path.join(room, "out", "inet")
+        if any(needs_library(line) for line, _ in lines):
+            subprocess.run([os.path.join(TOP, "bindings", "library"), "make", made], capture_output=True, timeout=LONGEST, check=True)
+        around = {
+            **os.environ,
+            "INET_C_KEPT": os.path.join(room, "kept"),
+            "INET_LIBRARY": os.path.join(made, "lib", "libinet.so"),
+            "PYTHONPATH": os.path.join(TOP, "bindings", "python"),
+            "PYTHONDONTWRITEBYTECODE": "1",
+        }
         for line, shown in lines:
             command = ["bash", "-o", "pipefail", "-c", line]
-            ran = subprocess.run(command, cwd=room, env=kept, stdin=subprocess.DEVNULL, capture_output=True, timeout=LONGEST, check=False)
+            if line == ">>>":
+                with open(os.path.join(room, "session.txt"), "w", encoding="utf-8") as file:
+                    file.write(shown)
+                # It prints what differs.
+                command, shown = [sys.executable, "-m", "doctest", "session.txt"], ""
+            ran = subprocess.run(command, cwd=room, env=around, stdin=subprocess.DEVNULL, capture_output=True, timeout=LONGEST, check=False)
             if ran.returncode:
-                return f"{line}: status {ran.returncode}, {shortened(ran.stderr)}"
+                return f"{line}: status {ran.returncode}, {shortened(ran.stderr or ran.stdout)}"
             if shown is not None and ran.stdout != shown.encode():
                 return f"{line}: prints {shortened(ran.stdout)}; shown: {shortened(shown.encode())}"
     return None
