@@ -1,14 +1,19 @@
-"""The documents: each link and path in README.md and docs/ leads to a file, each crate named there is one, each command on an example
-prints what is shown, and each public call with a clause has its row in GUARANTEES.
+"""The documents: each link and path in README.md and docs/ leads to a file, each line of a file that is named with a call has the call, each
+crate named there is one, each command runs and prints what is shown, each page says first whom it is for, and each public call with a clause
+has its row in GUARANTEES.
 
-A command stands in a block as `$ ./inet WORDS < FILE`, `$ cat FILE` or `$ tools/NAME.py WORDS < FILE`, and the lines up to the next command are
-what it prints, those on standard error last. Other commands, and those with pipes and files that are written, aren't tried.
+A command in a block is `$ ./inet WORDS < FILE`, `$ cat FILE` or `$ tools/NAME.py WORDS < FILE`; the lines up to the next command are what it
+prints, those on standard error last. All other commands of a page run in turn in one folder, where the top of the repository is linked and the
+library lies in out/inet: each has to end with status 0, and print what is shown, if it is shown; so have the sessions of Python. Not tried are
+those that build the library or the pages, prove, measure, or need other machines or an editor (`OTHERS`).
 """
 import glob
 import os
 import re
+import shutil
 import subprocess
 import sys
+import tempfile
 from functools import lru_cache, partial
 
 from harness.programs import HERE, LONGEST, shortened
@@ -29,6 +34,13 @@ CRATE = re.compile(r"`(in_\w+)(?:::[^`\n]*)?`")
 # A call in the first cell of a row, which may be a link.
 CALL = re.compile(r"`([\w:]+)`(?:\]\(([^)]+)\))?")
 COMMAND = re.compile(r"\$ (?:\./)?(inet|cat|tools/\w+\.py)\b(?: ([^>|]*?))?(?: ?< (\S+))?$")
+# A line that is a command without a sign before it, and the words after it that only say what it is.
+LINE = re.compile(r"(?:\./|\.ci/|tools/|cc |mpicc |mpirun |python3 |bindings/|web/|bench/|code |cd |PREFIX=|\(cd ).*")
+REMARK = re.compile(r" +#.*$|  +\S.*$")
+# What other groups try (library, web, machines), what a gate does, and what only a person can.
+OTHERS = re.compile(r"\.ci/|bindings/(?:library|rust)|web/|bench/|rt_once|mpi|\bcode |npm ")
+# A call and the line that has it, in a row.
+PLACE = re.compile(r"\| `(?:\w+::)?(\w+)` \| \[([\w/]+\.rt):(\d+)\]\(")
 
 
 def pages():
@@ -47,6 +59,12 @@ def anchors(path):
     """The anchors of a page's headings: in small letters, with a hyphen for each space, and without other signs."""
     for heading in re.findall(r"^#+ (.*)$", BLOCK.sub("", text_at(path)), re.MULTILINE):
         yield re.sub(r"[^\w\- ]", "", heading.lower()).replace(" ", "-")
+
+
+def wrong_beginning(page):
+    """What is wrong with how a page of docs/ begins: with whom it is for, and what one knows or can do after it."""
+    first = text_at(page).split("\n\n")[1]
+    return None if first.startswith("For ") and "after this page" in first.lower() else "doesn't say first whom it is for, and what one has after it"
 
 
 def wrong_link(page, target):
@@ -107,6 +125,74 @@ def wrong_print(program, name, words, file, shown):
     return None if printed == shown.encode() else f"prints {shortened(printed)}; shown: {shortened(shown.encode())}"
 
 
+def further_commands(text):
+    """The other commands of a page, in their order, each with what it prints, None where that isn't shown; a session of Python as `>>>`."""
+    for block in BLOCK.findall(text):
+        if block.startswith(">>> "):
+            yield ">>>", block
+            continue
+        for part in re.split(r"^(?=\$ )", block, flags=re.MULTILINE):
+            line, _, shown = part.partition("\n")
+            if line.startswith("$ "):
+                if not COMMAND.fullmatch(REMARK.sub("", line)):
+                    yield REMARK.sub("", line[2:]), shown
+            else:
+                yield from ((REMARK.sub("", line), None) for line in part.split("\n") if LINE.fullmatch(line))
+
+
+def needs_library(line):
+    """Whether a command takes the library."""
+    return line == ">>>" or "out/inet" in line or "bindings/python" in line
+
+
+def lacking(line):
+    """Whether a command needs a program that isn't on this machine."""
+    # What isn't a script of the project was compiled by a line before.
+    needs_compiler = needs_library(line) or re.match(r"cc |\./(?!inet(?:_export)? )", line)
+    return "--svg" in line and not shutil.which("dot") or needs_compiler and not shutil.which("cc")
+
+
+def wrong_commands(lines):
+    """What is wrong with the first of a page's further commands that fails or prints something else."""
+    with tempfile.TemporaryDirectory(prefix="inet-documents-") as room:
+        for name in os.listdir(TOP):
+            if not name.startswith(".") and name != "out":
+                os.symlink(os.path.join(TOP, name), os.path.join(room, name))
+        # The programs that a reader writes.
+        os.makedirs(os.path.join(room, "mine"))
+        shutil.copy(os.path.join(TOP, "examples", "greater_of_two.inet"), os.path.join(room, "mine", "max.inet"))
+        made = os.path.join(room, "out", "inet")
+        if any(needs_library(line) for line, _ in lines):
+            subprocess.run([os.path.join(TOP, "bindings", "library"), "make", made], capture_output=True, timeout=LONGEST, check=True)
+        around = {
+            **os.environ,
+            "INET_C_KEPT": os.path.join(room, "kept"),
+            "INET_LIBRARY": os.path.join(made, "lib", "libinet.so"),
+            "PYTHONPATH": os.path.join(TOP, "bindings", "python"),
+            "PYTHONDONTWRITEBYTECODE": "1",
+        }
+        for line, shown in lines:
+            command = ["bash", "-o", "pipefail", "-c", line]
+            if line == ">>>":
+                with open(os.path.join(room, "session.txt"), "w", encoding="utf-8") as file:
+                    file.write(shown)
+                # It prints what differs.
+                command, shown = [sys.executable, "-m", "doctest", "session.txt"], ""
+            ran = subprocess.run(command, cwd=room, env=around, stdin=subprocess.DEVNULL, capture_output=True, timeout=LONGEST, check=False)
+            if ran.returncode:
+                return f"{line}: status {ran.returncode}, {shortened(ran.stderr or ran.stdout)}"
+            if shown is not None and ran.stdout != shown.encode():
+                return f"{line}: prints {shortened(ran.stdout)}; shown: {shortened(shown.encode())}"
+    return None
+
+
+def wrong_place(call, path, number):
+    """What is wrong with a line that is to declare a call."""
+    lines = text_at(os.path.join("crates", path)).split("\n")
+    declares = number <= len(lines) and re.search(rf"\bfn {call}\b", lines[number - 1])
+    return None if declares else f"no `fn {call}` there"
+
+
 @lru_cache(maxsize=None)
 def public_calls():
     return guarantees.all_calls()
@@ -165,6 +251,8 @@ def documents(program):
     for page in pages():
         text = text_at(page)
         outside = BLOCK.sub("", text)
+        if page != "README.md":
+            yield f"{page}: its beginning", partial(wrong_beginning, page)
         for target in sorted(set(LINK.findall(outside))):
             if "://" not in target:
                 yield f"{page}: link to {target}", partial(wrong_link, page, target)
@@ -172,6 +260,11 @@ def documents(program):
             yield f"{page}: {path}", partial(wrong_path, path)
         for name in sorted(set(CRATE.findall(outside))):
             yield f"{page}: {name}", partial(wrong_crate, name)
+        for call, path, number in PLACE.findall(outside):
+            yield f"{page}: {path}:{number}", partial(wrong_place, call, path, int(number))
         for line, name, words, file, shown in commands(text):
             if file or name != "inet":
                 yield f"{page}: {line}", partial(wrong_print, program, name, words, file, shown)
+        lines = [(line, shown) for line, shown in further_commands(text) if not OTHERS.search(line) and not lacking(line)]
+        if lines:
+            yield f"{page}: further commands", partial(wrong_commands, lines)
