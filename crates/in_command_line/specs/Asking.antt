@@ -42,7 +42,7 @@ unless_input file = if bytes_eq file (codes "-") then None else Some file
 abbrev pub file_in : List Row → Option Text
 file_in options = option_and_then unless_input (first_of (codes "file") options)
 
--- what is asked for: an action on a file, or on standard input, and whether figures of it are wanted
+-- a request: an action on a file, or on standard input, and whether figures of it are wanted
 pub record Asked : Type 0 where
   pub action : Action
   pub file : Option Text
@@ -85,7 +85,7 @@ AreWordsRefused words Memory = Unit {0}
 
 -- ---- words of the inner contracts
 
--- an error of this kind is told so
+-- the refusal for an error of this kind
 abbrev pub IsErrorTold : ErrorKind → Usage → Type 0
 IsErrorTold kind (Help text) = kind ≡ DisplayHelp
 IsErrorTold kind Version = kind ≡ DisplayVersion

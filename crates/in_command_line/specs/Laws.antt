@@ -7,11 +7,11 @@ use Rattle.in_limits.specs.declared.limits.Limits.{Limits}
 use Rattle.in_command_line.specs.Asking.{Asked, AsksFor, Spells, faults, on_file_of, on_input}
 use Rattle.in_command_line.specs.declared.action.Action.TheVariants.{Check, Derive, Run, Count}
 
--- words ask for one thing at most
+-- words make one request at most
 abbrev pub WordsAskForOneAction : Type 0
 WordsAskForOneAction = (words : List Text) (a b : Asked) → AsksFor words a → AsksFor words b → a ≡ b
 
--- words in which `clap` finds no error ask for something
+-- words in which `clap` finds no error make a request
 abbrev pub FaultlessWordsAsk : Type 0
 FaultlessWordsAsk = (words : List Text) → faults words ≡ [] → (a : Asked) × AsksFor words a
 

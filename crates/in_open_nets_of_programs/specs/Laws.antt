@@ -16,7 +16,7 @@ use Rattle.in_open_nets.specs.OpenNets.{OpenNet, IsOpenNet, IsDerivable, open_gr
 use Rattle.in_open_nets_of_programs.specs.Opening.{AreAllThere, AreNumbered, Opens}
 use Rattle.in_open_nets_of_programs.specs.OpeningRules.{IsRuleWhole, OpensRule}
 
--- the net of a text has an agent at each of its numbers, which is what its open net asks for
+-- the net of a text has an agent at each of its numbers, as `open_net` requires
 abbrev pub TextNetsAreAllThere : Type 0
 TextNetsAreAllThere = (t : Tables) (text : SourceNet) (n : Parts) → IsNetOf t text n → AreAllThere n
 
