@@ -1,4 +1,4 @@
--- Laws over what the words of a command line ask for.
+-- Laws over the requests that the words of a command line make.
 use Rattle.std.specs.Prelude.{◌≡◌, ◌<◌, ◌⊎◌, ◌++◌, ℕ, true, List, [], ◌∷◌, Some, None, codes}
 use Rattle.clap.specs.Words.{Text}
 use Rattle.clap.specs.declared.error.kind.ErrorKind.TheVariants.{ArgumentConflict, DisplayHelp, DisplayVersion, MissingSubcommand, UnknownArgument, ValueValidation}

@@ -20,7 +20,7 @@ use Rattle.in_open_nets_of_programs.specs.OpeningRules.{IsRuleWhole, OpensRule}
 abbrev pub TextNetsAreAllThere : Type 0
 TextNetsAreAllThere = (t : Tables) (text : SourceNet) (n : Parts) → IsNetOf t text n → AreAllThere n
 
--- the rule of a text is whole, which is what its open net asks for
+-- the rule of a text is whole, as `open_rule` requires
 abbrev pub TextRulesAreWhole : Type 0
 TextRulesAreWhole = (t : Tables) (text : SourceRule) (p : RuleParts) → BuildsRuleOf t text (Ok p) → IsRuleWhole t p
 
