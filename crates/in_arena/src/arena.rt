@@ -120,7 +120,7 @@ impl Arena {
         })
     }
 
-    /// The cell of the lease is live with what is written in it.
+    /// The cell of the lease is live with its content.
     #[inline(always)]
     pub fn settle(&mut self, lease: Lease)
         requires of_this_arena { IsOf lease self.old }
@@ -314,7 +314,7 @@ impl Arena {
         Some(CellNo(number))
     }
 
-    /// The cell of the bag is live with what is written in it.
+    /// The cell of the bag is live with its content.
     #[inline(always)]
     pub fn settle_from(&mut self, bag: &mut Bag, cell: CellNo)
         requires of_this_arena { IsBagOf bag.old self.old }

@@ -69,7 +69,7 @@ impl Bag {
         self.sacks.put(held);
     }
 
-    /// Moves a cell to another bag of the same arena, with what is written in it.
+    /// Moves a cell, with its content, to another bag of the same arena.
     #[inline(always)]
     pub fn move_to(&mut self, cell: CellNo, other: &mut Bag)
         requires is_in { IsInBag self.old cell.0 }

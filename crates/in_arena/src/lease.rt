@@ -10,8 +10,8 @@ use crate::word::EndWord;
 use std::marker::Model;
 
 /// Owns one cell of an arena, which no other part of the program reads or writes meanwhile; it may be moved to another thread. To be
-/// spent by `Arena::settle` or `Arena::give_back`: an arena with a cell on lease can't be dropped. Contracts see its class and number,
-/// of which memory it is, and what is written in it.
+/// spent by `Arena::settle` or `Arena::give_back`: an arena with a cell on lease can't be dropped. Contracts see its class and number, its
+/// memory, and its content.
 #[derive(Drop)]
 pub struct Lease {
     pub(crate) number: u32,

@@ -18,9 +18,9 @@ const TOP: u64 = 140737488355328;
 // What the low bits have for a free end. A place is less.
 const FREE: u64 = 65535;
 
-/// An end in one word, so that it is read, tested and written as a whole. Contracts see the end. Above its low 16 bits, which have the place,
-/// stands the number of its cell, or a number that no cell has and its own where it is a free end: so one test tells whether it is a place of
-/// one of the first cells. That form is this project's own choice.
+/// An end in one word, so that it is read, tested and written as a whole. Contracts see the end. For a place of a cell the low 16 bits have the
+/// place, and the bits above them the number of the cell; for a free end the bits above have its own number and a bit that no cell's number has:
+/// so one test finds the places of the first cells. That form is this project's own choice.
 #[derive(Clone, Copy)]
 pub struct EndWord {
     bits: u64,

@@ -32,7 +32,7 @@ abbrev pub IsRunSaid : ℕ → ℕ → List ℕ → List ℕ → Status → Type
 IsRunSaid limit cells text lines s =
     ((l : Limits) × AreLimits 1 limit cells (Some l) × IsSaid (Run l) text lines s) ⊎ (AreLimits 1 limit cells None × (lines ≡ []) × (s ≡ status 2))
 
--- what is told of the text, which is refused; nothing, where it is accepted; or nothing, when out of memory
+-- the diagnosis of a refused text; nothing for an accepted one; or nothing, when out of memory
 pub data IsDiagnosis (text words : List ℕ) (s : Status) : Type 0 where
   refused : IsToldOfText text true → s ≡ status 1 → IsDiagnosis text words s
   accepted : IsToldOfText text false → words ≡ [] → s ≡ status 0 → IsDiagnosis text words s

@@ -13,8 +13,8 @@ use in_run::{Limits, Machine, StartFault};
 use in_syntax::Fault;
 use std::alloc::{AllocError, Global};
 
-/// Where a run stands: how many of the choices were done, how many interactions came after them, how many active pairs are left, and how many
-/// agents there are.
+/// The counts of a run: how many of the choices were done, how many interactions came after them, how many active pairs are left, and how
+/// many agents there are.
 #[repr(C)]
 #[derive(Clone, Copy, Debug, PartialEq, Eq)]
 pub struct RunNumbers {

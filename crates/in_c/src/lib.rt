@@ -143,10 +143,10 @@ pub extern "C" fn inet_verify(
 }
 
 /// A run in which first the pairs of these numbers in the queue interact, one after another, and then at most `limit` pairs first in, first
-/// out, with `cells` cells of each class: the net as `inet run` writes it, and where the run stands. It breaks off at a choice of which there is
-/// no pair, or whose pair needs more cells than are free. Answers 0 where no pair is left, 3 where as many came as are allowed, 4 where cells are
-/// too few, and that of wrong words for a choice without a pair; nothing is written, and all numbers are 0, where the text is refused, a number
-/// is out of range, the net doesn't fit the cells, or memory runs out.
+/// out, with `cells` cells of each class: the net as `inet run` writes it, and its counts. It breaks off at a choice of which there is no pair,
+/// or whose pair needs more cells than are free. Returns 0 if no pair is left, 3 at the limit, 4 if cells are too few, and the status of wrong
+/// words for a choice without a pair; nothing is written, and all numbers are 0, if the text is refused, a number is out of range, the net
+/// doesn't fit the cells, or memory runs out.
 #[unsafe(no_mangle)]
 pub extern "C" fn inet_run_by(
     alloc: Global,

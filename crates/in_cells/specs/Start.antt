@@ -1,4 +1,4 @@
--- Where joining begins: the cells showed a net, the right member stands in cells of its own, and the pair is retired.
+-- Where joining begins: the cells showed a net, the right member is in cells of its own, and the pair is retired.
 use Rattle.std.specs.Prelude.{◌≡◌, ◌≢◌, ◌⊎◌, ◌+◌, ◌<◌, ◌≤◌, ℕ, suc, List, length, slice_get, take, Some}
 use Rattle.in_arena.specs.Arenas.{ArenaView, state_at}
 use Rattle.in_arena.specs.States.{Vacant, word_of, places, end_at}

@@ -37,10 +37,10 @@ fn join(
 }
 
 /// Joins all boundary ends of an interaction, from the highest to the lowest, over the cells of a net that is taken apart: the pair is
-/// retired, and the right member stands in cells of its own. No memory is taken.
+/// retired, and the right member is in cells of its own. No memory is taken.
 ///
-/// The list of ends has first what each of the net's `own` free ends leads to, then what stands at the outer side of each of the `many`
-/// boundary ends, and then what stands at their inner sides. Afterwards the cells and the list's first `own` ends show the net after the
+/// The list of ends has first the partner of each of the net's `own` free ends, then the partner at the outer side of each of the `many`
+/// boundary ends, and then those at their inner sides. Afterwards the cells and the list's first `own` ends show the net after the
 /// interaction; of cells only what their places lead to has changed. Pairs that it makes over boundary ends are added to `made`, the one
 /// with the highest lowest end first; there is to be room for `many`. Each live cell has the number of one of the `Symbols`. The order is
 /// this project's own choice.

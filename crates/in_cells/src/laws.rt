@@ -4,8 +4,8 @@ ghost use Rattle.in_cells.specs.Between.{PairsAreAddedOnce};
 ghost use Rattle.in_cells.specs.Start.{SetHasSymbols, SetIsReady, ShownIsStep};
 ghost use Rattle.in_cells.specs.Laws.{CopiesAreShown, NoneIsLeased, AllAreClosed, CopiesStandBeside, PartStandsBeside};
 
-/// Where the cells showed a net, the right member stands in cells of its own, the pair is retired and the sides of the boundary ends are
-/// set, joining can begin.
+/// If the cells showed a net, and the right member is in cells of its own, the pair is retired and the sides of the boundary ends are set,
+/// then joining can begin.
 pub fn set_is_ready()
     ensures { SetIsReady }
 {}
@@ -40,7 +40,7 @@ pub fn all_are_closed()
     ensures { AllAreClosed }
 {}
 
-/// Where all agents of a net are copied to the cells of another one, both nets stand side by side, whatever the order of their free ends.
+/// If all agents of a net are copied to the cells of another one, both nets are side by side, for any order of their free ends.
 pub fn copies_stand_beside()
     ensures { CopiesStandBeside }
 {}

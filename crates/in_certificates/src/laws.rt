@@ -2,7 +2,7 @@
 
 ghost use Rattle.in_certificates.specs.Laws.{StepsAreJudgedOnce};
 
-/// A text, an item of it and steps have one answer: yes, no, or the text's one refusal. Nothing is said where memory ran out.
+/// A text, an item of it and steps have one answer: yes, no, or the text's one refusal. The law doesn't cover running out of memory.
 pub fn steps_are_judged_once()
     ensures { StepsAreJudgedOnce }
 {}

@@ -56,10 +56,10 @@ fn builds_item(
 }
 
 /// Whether these steps build the open net of a rule of a text's program, or of its net, where the text is accepted: each names earlier steps
-/// that fit it, each but the last is named once, each node stands in one step, and what is open at the last one leads to the free ends.
-/// `number` is the rule's, from 0 in the order of the text, or the number of rules for the net; no steps build what has another number. The
-/// nodes and wires are numbered as `in_export` writes them, and `parts` has the steps that agents are grafted to. Whoever found the steps,
-/// this answers by `in_simple::verify` alone.
+/// that fit it, each but the last is named once, each node is in one step, and the open ends of the last one lead to the free ends. `number`
+/// is the rule's, from 0 in the order of the text, or the number of rules for the net; no steps build what has another number. The nodes and
+/// wires are numbered as `in_export` writes them, and `parts` has the steps that agents are grafted to. The answer is that of
+/// `in_simple::verify`, wherever the steps are from.
 ///
 /// Else the text is refused as `check` refuses it, or memory runs out.
 pub fn verify_given(

@@ -97,8 +97,8 @@ ChecksRules s t = Then (BuildsRules s t) (ChecksNet s t)
 abbrev pub ChecksNames : Source → Result Program Fault → Type 0
 ChecksNames s = Then (Tabulates s) (ChecksRules s)
 
--- the tree, and the rest: the program that all passes accept, or the refusal of the first that refuses. (Whoever only holds a program need
--- not look inside.)
+-- the tree, and the rest: the program that all passes accept, or the refusal of the first that refuses. (A proof that only has a program
+-- need not look inside.)
 unfoldable pub IsChecked : List ℕ → Result Program Fault → Type 0
 IsChecked text = Then (Parses text) ChecksNames
 

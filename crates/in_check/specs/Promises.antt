@@ -65,8 +65,8 @@ pub record IsAsPromised (p : System) (n : Net ℕ) : Type 0 where
   pub leads_on : LeadsOn n
   pub written_whole : IsWrittenWhole p n
 
--- of every net that the program reaches, by interactions in any order and under any names. (Whoever only holds a program need not
--- look inside.)
+-- of every net that the program reaches, by interactions in any order and under any names. (A proof that only has a program need not look
+-- inside.)
 unfoldable pub ReachesAsPromised : System → Type 0
 ReachesAsPromised p = (k : ℕ) (n : Net ℕ) → Reached p k n → IsAsPromised p n
 

@@ -24,7 +24,7 @@ pub struct StuckPart {
     pub stuck: Stuck,
 }
 
-/// What was at hand when a program was refused: for who tells why, who need not look for it again.
+/// The parts of a refused program that explain the refusal, so that a diagnosis need not search for them again.
 #[derive(Drop)]
 pub enum Evidence {
     /// The ends of the first wire whose types don't fit.

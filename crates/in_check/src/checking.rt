@@ -297,11 +297,11 @@ fn check_tree(alloc: Global, text: &[u8], evidence: &mut Option<Evidence>) -> Re
 
 /// Checks a program's text: its tokens and its tree, then its names, then rule by rule and the net at last its agents, variables
 /// and wires, then in the same order the types of wires, then that every two matching symbols have one rule, then rule by rule and
-/// the net at last whether it is semi-simple. What is accepted is kept.
+/// the net at last whether it is semi-simple. Returns the parts of an accepted program.
 ///
-/// The first fault of the first pass that finds one is answered: E01 to E03, E04 to E06, E03 and E07 to E09, E10 and E11, E14 and
-/// E15, E12, E13; or that memory ran out. Lafont 1990 asks for types that fit, for one rule for each pair and for semi-simple nets; the
-/// order of the passes is this project's own choice.
+/// Returns the first fault of the first pass that finds one: E01 to E03, E04 to E06, E03 and E07 to E09, E10 and E11, E14 and E15, E12, E13;
+/// or that memory ran out. Lafont 1990 asks for types that fit, for one rule for each pair and for semi-simple nets; the order of the passes
+/// is this project's own choice.
 ///
 /// Every net that an accepted program reaches, by any number of interactions in any order, is typed; has exactly one rule for each
 /// active pair; has no crossing circle, and so no vicious one; lets each interaction end, with no closed alternating path left;
@@ -315,9 +315,9 @@ pub fn check(alloc: Global, text: &[u8]) -> Result<Checked, Fault>
     Ok(Checked { passed })
 }
 
-/// Why a program is refused, of which the tree is given: as `check` refuses a text of that tree; nothing where it is accepted. What was at
-/// hand then is put into `evidence`: the two ends of a wire whose types don't fit, or the open net that no steps build, with its first part
-/// in which no node splits. The only error is running out of memory, and then `evidence` is as it was.
+/// Why a program is refused, of which the tree is given: as `check` refuses a text of that tree; nothing where it is accepted. `evidence`
+/// gets the parts that explain E10, E12 or E13: the two ends of a wire whose types don't fit, or the open net that no steps build, with its
+/// first part in which no node splits. The only error is running out of memory, and then `evidence` is as it was.
 pub fn refusal_of(
     alloc: Global,
     source: &Source,

@@ -5,7 +5,7 @@ ghost use Rattle.in_check.specs.Plain.{PairsHaveTheirRule, PlainAsPromised, Plai
 ghost use Rattle.in_check.specs.Promises.{AcceptedIsSound, RenamedStepsAreRenamed, RenamingChangesNothing, SoundReachesAsPromised, StepsReach};
 
 /// A text has one answer: it is accepted or refused, never both; two refusals are equal, and two accepted programs have equal tables,
-/// rules, nets, numbers of rules, open nets and steps. Nothing is said where memory ran out.
+/// rules, nets, numbers of rules, open nets and steps. The law doesn't cover running out of memory.
 pub fn texts_are_checked_once()
     ensures { TextsAreCheckedOnce }
 {}

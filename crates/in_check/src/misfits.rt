@@ -3,17 +3,17 @@ use in_net::{AgentNo, Net, Point, Rule};
 use in_symbols::{SymbolNo, Symbols};
 use in_syntax::Place;
 
-/// What stands at an end of a wire.
+/// An end of a wire.
 #[derive(Clone, Copy, Debug, PartialEq, Eq)]
 pub enum WireEnd {
-    /// A port of an agent: its symbol, the number of the port, of which 0 is the principal one, and where the agent's name stands.
+    /// A port of an agent: its symbol, the number of the port, 0 for the principal one, and the place of the agent's name.
     Agent {
         symbol: SymbolNo,
         port: usize,
         place: Place,
     },
-    /// In a right member, the end that replaces an auxiliary port of a head: the head's symbol, the number of the port, from 1, and where the
-    /// head's name stands.
+    /// In a right member, the end that replaces an auxiliary port of a head: the head's symbol, the number of the port, from 1, and the place
+    /// of the head's name.
     Head {
         symbol: SymbolNo,
         port: usize,

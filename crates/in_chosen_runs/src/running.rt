@@ -8,7 +8,7 @@ use in_check::Checked;
 use in_machine::{Machine, StartFault};
 use std::alloc::Global;
 
-/// What such a run came to: its machine, how many of the choices it did, and how many interactions came after them.
+/// The outcome of such a run: its machine, how many of the choices it did, and how many further interactions.
 #[derive(Drop)]
 pub struct Chosen<'a> {
     pub machine: Machine<'a>,

@@ -1,4 +1,4 @@
--- What follows for whoever claims: no number twice, and none left out once a seat is done.
+-- The laws of claims: no number is claimed twice, and none is left out once a seat is done.
 use Rattle.std.specs.Prelude.{◌≡◌, ℕ, ◌<◌, ◌⊎◌, true, List, [], ◌∷◌, map, replicate, slice_index_or, Contains, Some, slice_get}
 use Rattle.in_claims.specs.declared.hands.Hand.{Hand}
 use Rattle.in_claims.specs.Rule.{AreClaims}

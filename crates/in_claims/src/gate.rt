@@ -6,7 +6,7 @@ pub trait Gate {
     fn reached(&self, job: u32);
 }
 
-/// The gate that stands open: it returns at once.
+/// The open gate: it returns at once.
 #[derive(Clone, Copy, Debug)]
 pub struct NoGate;
 

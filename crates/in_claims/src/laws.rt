@@ -11,7 +11,7 @@ ghost use Rattle.in_claims.specs.declared.hands.Size.{Size};
 use crate::hands;
 use atomic_table::TableRule;
 
-/// Whatever the table of a board comes to, its word and its seats make the claims of the board.
+/// In each state of a board's table its word and its seats make the claims of the board.
 pub fn boards_keep_claims()
     ensures { (size : Size) (s : State (Unit {0}) (List Hand)) → ⟦<hands::Claims as TableRule<(), hands::Hands, hands::Size>>⟧.holds size s → AreClaims size.limit (slice_index s.words 0) (all_hands s.views) }
 {}

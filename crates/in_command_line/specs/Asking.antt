@@ -1,4 +1,4 @@
--- What the words of a command line ask for.
+-- The request that the words of a command line make.
 use Rattle.std.specs.Prelude.{◌≡◌, ◌≢◌, ◌<◌, ◌^◌, ℕ, Bool, true, false, List, [], Option, Some, None, codes, option_map, option_and_then, if◌then◌else◌}
 use Rattle.std.specs.Option.{option_map_or}
 use Rattle.std.specs.Str.{bytes_eq}
@@ -30,7 +30,7 @@ IsNumber name options n = (text : Text) × (one_of name options ≡ Some text) �
 abbrev pub HasLimits : List Row → Limits → Type 0
 HasLimits options l = IsNumber (codes "workers") options l.workers × IsNumber (codes "limit") options l.limit × IsNumber (codes "cells") options l.cells
 
--- the flag of this name stands
+-- the flag of this name is set
 abbrev pub is_set : Text → List Row → Bool
 is_set name options = option_map_or (λ text. bytes_eq text (codes "true")) (first_of name options) false
 
@@ -42,7 +42,7 @@ unless_input file = if bytes_eq file (codes "-") then None else Some file
 abbrev pub file_in : List Row → Option Text
 file_in options = option_and_then unless_input (first_of (codes "file") options)
 
--- what is asked for: an action on a file, or on standard input, and whether figures of it are wanted
+-- a request: an action on a file, or on standard input, and whether figures of it are wanted
 pub record Asked : Type 0 where
   pub action : Action
   pub file : Option Text
@@ -66,7 +66,7 @@ Names name options Derive = name ≡ codes "derive"
 Names name options (Run l) = (name ≡ codes "run") × HasLimits options l × (is_set (codes "no-net") options ≡ false)
 Names name options (Count l) = (name ≡ codes "run") × HasLimits options l × (is_set (codes "no-net") options ≡ true)
 
--- the words ask for this: `clap` finds no error in them, and gives a subcommand that names it
+-- the words make this request: `clap` finds no error in them, and gives a subcommand that names it
 pub record AsksFor (words : List Text) (a : Asked) : Type 0 where
   pub name : Text
   pub options : List Row
@@ -85,7 +85,7 @@ AreWordsRefused words Memory = Unit {0}
 
 -- ---- words of the inner contracts
 
--- an error of this kind is told so
+-- the refusal for an error of this kind
 abbrev pub IsErrorTold : ErrorKind → Usage → Type 0
 IsErrorTold kind (Help text) = kind ≡ DisplayHelp
 IsErrorTold kind Version = kind ≡ DisplayVersion
@@ -112,7 +112,7 @@ abbrev pub IsNamed : Text → List Row → Option Action → Type 0
 IsNamed name options (Some a) = Names name options a
 IsNamed name options None = (a : Action) → Names name options a → ⊥
 
--- what a match asks for, if its subcommand names an action
+-- the request of a match, if its subcommand names an action
 abbrev pub IsRequested : Option (Text × List Row) → Option Request → Type 0
 IsRequested found (Some r) = (name : Text) × (options : List Row) × (found ≡ Some (name, options)) × Names name options r.action
     × (option_map (λ s. s.now) r.file ≡ file_in options) × (r.stats ≡ is_set (codes "stats") options)

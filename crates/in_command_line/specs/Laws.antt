@@ -1,4 +1,4 @@
--- Laws over what the words of a command line ask for.
+-- Laws over the requests that the words of a command line make.
 use Rattle.std.specs.Prelude.{◌≡◌, ◌<◌, ◌⊎◌, ◌++◌, ℕ, true, List, [], ◌∷◌, Some, None, codes}
 use Rattle.clap.specs.Words.{Text}
 use Rattle.clap.specs.declared.error.kind.ErrorKind.TheVariants.{ArgumentConflict, DisplayHelp, DisplayVersion, MissingSubcommand, UnknownArgument, ValueValidation}
@@ -7,11 +7,11 @@ use Rattle.in_limits.specs.declared.limits.Limits.{Limits}
 use Rattle.in_command_line.specs.Asking.{Asked, AsksFor, Spells, faults, on_file_of, on_input}
 use Rattle.in_command_line.specs.declared.action.Action.TheVariants.{Check, Derive, Run, Count}
 
--- words ask for one thing at most
+-- words make one request at most
 abbrev pub WordsAskForOneAction : Type 0
 WordsAskForOneAction = (words : List Text) (a b : Asked) → AsksFor words a → AsksFor words b → a ≡ b
 
--- words in which `clap` finds no error ask for something
+-- words in which `clap` finds no error make a request
 abbrev pub FaultlessWordsAsk : Type 0
 FaultlessWordsAsk = (words : List Text) → faults words ≡ [] → (a : Asked) × AsksFor words a
 

@@ -16,7 +16,7 @@ use thiserror::Error;
 pub enum Action {
     /// Says whether a program's text is accepted.
     Check,
-    /// Says by which steps the rules and the net of an accepted program are built.
+    /// Prints the steps that build the rules and the net of an accepted program.
     Derive,
     /// Reduces the net of an accepted program within these limits, and prints it.
     Run(Limits),
@@ -24,10 +24,10 @@ pub enum Action {
     Count(Limits),
 }
 
-/// What the words ask for.
+/// The request that the words make.
 #[derive(Clone, Copy, Debug, PartialEq, Eq)]
 pub struct Request<'a> {
-    /// What is to be done.
+    /// The action.
     pub action: Action,
     /// The file that the program's text is in; nothing where it comes on standard input: where no file is named, or `-`.
     pub file: Option<&'a str>,
@@ -329,12 +329,12 @@ fn request_in<'a>(matches: &ArgMatches<'a>) -> Option<Request<'a>>
     })
 }
 
-/// What the words ask for; the first is the program's name. That is the subcommand which `clap` gives for them, with the numbers of the
-/// texts of its options, or the usual ones where an option is missing; the file that is named, if it isn't `-`; and whether the flags stand.
+/// The request that the words make; the first is the program's name. That is the subcommand which `clap` gives for them, with the numbers of the
+/// texts of its options, or the usual ones where an option is missing; the file that is named, if it isn't `-`; and which flags are set.
 ///
-/// Refused with the text of `clap` where it finds an error in the words, and a line more where a file's name stands for the command: as `Help` where
-/// `-h`, `--help` or `help` stands, as `Version` where `-V` or `--version` does, and else as `Wrong`, as where they name no command, have more than one needs, or give a number that is
-/// out of range. Refused as `Memory` when out of memory.
+/// Refused with the text of `clap` if it finds an error in the words, and one line more if a file's name is in the place of the command: as
+/// `Help` for `-h`, `--help` or `help`, as `Version` for `-V` or `--version`, else as `Wrong`, such as for no command, a word too many, or a
+/// number that is out of range. Refused as `Memory` when out of memory.
 pub fn action_of<'a>(alloc: Global, words: &'a [&'a str]) -> Result<Request<'a>, Usage>
     ensures ok { IfOk result (λ r. AsksFor (texts words.now) (asked_of r)) }
     ensures err { IfErr result (AreWordsRefused (texts words.now)) }

@@ -39,12 +39,12 @@ GivingBackKeepsAll = (a b a' : ArenaView) (c : CellClass) → HasAllCells a → 
 abbrev pub AllGoBack : Type 0
 AllGoBack = (count : CellClass → ℕ) (a a' b' a'' : ArenaView) → HasAllCells a → Adds count a (empty_bag a) a' b' → Regains (λ _. Vacant) a' b' a'' → a'' ≡ a
 
--- what is placed and what is left of the stock go back to where the stock would have
+-- giving back the rest of the stock and the placed cells leaves the arena as giving back the stock would
 abbrev pub PlacingLosesNone : Type 0
 PlacingLosesNone = (need : Need) (s s' : StockParts) (p : PlacedParts) (a a' a'' : ArenaView) → TakesCells need p.cells s s' → AreCellsOf p.bag p.cells
     → Regains (λ _. Vacant) a s'.bag a' → Regains (λ _. Vacant) a' p.bag a'' → Regains (λ _. Vacant) a s.bag a''
 
--- .. and where what is placed is settled in the end, its cells are live, and the arena is else as it was before the stock was filled
+-- .. and if the placed cells are settled in the end, they are live, and the arena is else as it was before the stock was filled
 abbrev pub SettlingLosesNone : Type 0
 SettlingLosesNone = (count : CellClass → ℕ) (a a1 : ArenaView) (s : StockParts) → HasAllCells a → Adds count a (empty_bag a) a1 s.bag
     → (need : Need) (s' : StockParts) (p : PlacedParts) (a2 a3 : ArenaView) → TakesCells need p.cells s s' → AreCellsOf p.bag p.cells
@@ -54,12 +54,12 @@ SettlingLosesNone = (count : CellClass → ℕ) (a a1 : ArenaView) (s : StockPar
 abbrev pub HaveNoneInCommon : ArenaView → ArenaView → Type 0
 HaveNoneInCommon b d = (n : ℕ) → IsInBag b n → IsInBag d n → ⊥
 
--- what is placed and what is left of a stock are of the stock's arena, and have no cell in common
+-- the placed cells and the rest of a stock are of the stock's arena, and have no cell in common
 abbrev pub PlacingSharesOut : Type 0
 PlacingSharesOut = (need : Need) (s s' : StockParts) (p : PlacedParts) (a : ArenaView) → IsStockOf s a → TakesCells need p.cells s s' → AreCellsOf p.bag p.cells → AreOfOne s.bag p.bag
     → IsStockOf s' a × IsBagOf p.bag a × HaveNoneInCommon s'.bag p.bag
 
--- a bag stays one of its arena where that regains the cells of another
+-- a bag stays one of its arena if that regains the cells of another that has none in common with it
 abbrev pub OtherBagsStay : Type 0
 OtherBagsStay = (f : State → State) (a b d a' : ArenaView) → Regains f a b a' → IsBagOf d a → HaveNoneInCommon d b → IsBagOf d a'
 

@@ -73,7 +73,7 @@ IsSmallJoint (ToBoundary e) = e < first_agent_slot
 
 -- ---- what compiling adds
 
--- this agent stands for that one, and its joints lead where the ends do
+-- this agent of a member is that one, and its joints lead where the ends do
 pub record IsAgentOf (t : Tables) (joints : List Joint) (c : Cell) (a : MemberAgent) : Type 0 where
   pub symbol : a.symbol ≡ c.symbol
   pub class : is_of t a.class c.symbol.0 ≡ true

@@ -38,7 +38,7 @@ pub fn wires_within_are_listed()
     ensures { WiresWithinAreListed }
 {}
 
-/// No point of a net stands in two of the wires that its member lists.
+/// No point of a net is in two of the wires that its member lists.
 pub fn wires_are_listed_once()
     ensures { WiresAreListedOnce }
 {}
@@ -63,23 +63,23 @@ pub fn all_go_back()
     ensures { AllGoBack }
 {}
 
-/// Placing loses no cell: what is placed and what is left of the stock go back to where the stock would have.
+/// Placing loses no cell: giving back the rest of the stock and the placed cells leaves the arena as giving back the stock would.
 pub fn placing_loses_none()
     ensures { PlacingLosesNone }
 {}
 
-/// Nor does settling: where the rest of the stock is spent and what is placed is settled, the arena has these agents, and is else as it was
+/// Nor does settling: once the rest of the stock is spent and the placed cells are settled, the arena has the placed agents, and is else as
 /// before the stock was filled.
 pub fn settling_loses_none()
     ensures { SettlingLosesNone }
 {}
 
-/// What is placed and what is left of a stock are of the stock's arena, and have no cell in common.
+/// The placed cells and the rest of a stock are of the stock's arena, and have no cell in common.
 pub fn placing_shares_out()
     ensures { PlacingSharesOut }
 {}
 
-/// A bag, as a stock's or that of what is placed, stays one of its arena where that regains the cells of another.
+/// A bag of a stock or of placed cells stays one of its arena if that regains the cells of a bag that has none in common with it.
 pub fn other_bags_stay()
     ensures { OtherBagsStay }
 {}

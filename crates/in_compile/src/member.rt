@@ -24,7 +24,7 @@ pub(crate) struct MemberAgent {
 /// net, where the wires at their places and at the boundary ends lead, and the active pairs among them. Boundary ends are the net's free
 /// ends, by their numbers from 0.
 ///
-/// What a machine reads of it at each interaction stands in the first 64 bytes.
+/// Its first 64 bytes have all that a machine reads of it at each interaction.
 #[derive(Drop)]
 pub struct Member {
     pub(crate) agents: Items<MemberAgent>,

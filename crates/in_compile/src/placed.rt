@@ -85,8 +85,7 @@ impl Placed {
         self.numbers[agent as usize]
     }
 
-    /// Its cells are the arena's, live with what is written in them. It has none from then on, and tells still which they were. It takes no
-    /// memory.
+    /// Its cells become the arena's, live with their content. From then on it has none, but still their numbers. It takes no memory.
     pub fn settle(&mut self, arena: &mut Arena)
         requires of { IsBagOf self.old.bag arena.old }
         requires written { AreWritten self.old.bag self.old.cells }

@@ -19,7 +19,7 @@ use in_base::use_invariant;
 use std::marker::Model;
 
 /// A template with its right member in leased cells, all of it and nothing else, so that no caller has to show that the two belong together.
-/// It is to be settled or spent, as what is placed is: both give back the room that it was placed in.
+/// It must be settled or spent, as `Placed` must: both give back the room that it was placed in.
 #[derive(Drop)]
 pub struct PlacedTemplate<'a> {
     template: &'a Template,
@@ -93,8 +93,8 @@ impl<'a> PlacedTemplate<'a> {
         self.template.joint(end)
     }
 
-    /// Its cells are the arena's, live with what is written in them. What is left has no cells, tells still which they were, and may be placed
-    /// into again. It takes no memory.
+    /// Its cells become the arena's, live with their content. The returned room has no cells, but still their numbers, and can be placed into
+    /// again. It takes no memory.
     pub fn settle(self, arena: &mut Arena) -> Placed
         requires { IsBagOf self.placed.bag arena.old }
         ensures arena { Regains (λ x. x) arena.old self.entry.placed.bag arena.new }
@@ -109,7 +109,7 @@ impl<'a> PlacedTemplate<'a> {
         placed
     }
 
-    /// Its cells are free. What is left is as after `settle`. It takes no memory.
+    /// Its cells become free. The returned room is as after `settle`. It takes no memory.
     pub fn spend(self, arena: &mut Arena) -> Placed
         requires { IsBagOf self.placed.bag arena.old }
         ensures arena { Regains (λ _. Vacant) arena.old self.entry.placed.bag arena.new }

@@ -1,4 +1,4 @@
--- Of which texts something is told.
+-- Which texts have a diagnosis.
 use Rattle.std.specs.Prelude.{Bool, true, false, List, ℕ, Ok, Err, Option, Some, None}
 use Rattle.in_syntax.specs.declared.faults.Refusal.{Refusal}
 use Rattle.in_syntax.specs.declared.faults.Fault.TheVariants.{Refused}
@@ -6,7 +6,7 @@ use Rattle.in_syntax.specs.declared.tree.Source.{Source}
 use Rattle.in_check.specs.Checking.{ChecksNames, IsAccepted, IsRefused}
 use Rattle.in_check.specs.Programs.{Program}
 
--- something is told of a text that is refused, and nothing of one that is accepted
+-- a text that is refused has a diagnosis, and one that is accepted has none
 abbrev pub IsToldOfText : List ℕ → Bool → Type 0
 IsToldOfText text true = (r : Refusal) × IsRefused text r
 IsToldOfText text false = (p : Program) × IsAccepted text p

@@ -99,9 +99,8 @@ fn add_first_fault(report: &mut Report, text: &[u8]) -> Result<Option<Refusal>, 
     }
 }
 
-/// What is wrong with a program's text, in words for people: the line of the text with a mark under the place of the fault, a sentence on
-/// what is wrong, lines on what belongs to it, and what helps. Nothing where `in_check::check` accepts the text. Its only error is running
-/// out of memory.
+/// The diagnosis of a program's text, in words for people: the fault in one sentence, the line of the text with a mark under its place, notes
+/// and help. None if `in_check::check` accepts the text. Its only error is running out of memory.
 ///
 /// The fault is the one that `in_check::check` refuses the text for. The words are this project's own choice: a clause says
 /// that there are some exactly when the text is refused, and none says which.

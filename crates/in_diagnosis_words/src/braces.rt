@@ -17,7 +17,7 @@ pub enum Braces {
 }
 
 /// Braces with which a circle no longer passes a node by two ports, by their numbers at the node: those of an agent are put together, those of
-/// a class of a head apart. Nothing where one of them is a principal port, which stands in no braces.
+/// a class of a head apart. None if one of them is a principal port, which is in no braces.
 pub fn changed_braces(
     symbol: &SourceSymbol,
     class: Option<usize>,
@@ -124,8 +124,7 @@ fn say_declaration(words: &mut Words, symbol: &SourceSymbol, braces: Braces) {
     words.say(if ports > 0 { "}" } else { "" });
 }
 
-/// What is changed in a text: the braces of one symbol, or those of all symbols that are declared in other braces than the usual ones and
-/// have such.
+/// A change of a text: of the braces of one symbol, or of all symbols that could have usual braces and have others.
 #[derive(Clone, Copy)]
 pub enum Change<'a> {
     One(&'a SourceSymbol, Braces),
@@ -245,7 +244,7 @@ impl Changed {
         self.text.as_slice()
     }
 
-    /// Where the byte that stands at this one, in nothing that was replaced, stood before.
+    /// The former offset of the byte at this offset, which no change replaced.
     pub fn before(&self, at: usize) -> usize {
         let mut found = at;
         for shift in self.shifts.as_slice() {

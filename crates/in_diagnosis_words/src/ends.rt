@@ -17,7 +17,7 @@ enum Owner<'a> {
     Free(&'a str),
 }
 
-/// An end of a wire: where it stands, what it is, and which type a wire to it has there.
+/// An end of a wire: its place, its owner, and the type that a wire to it has there.
 #[derive(Clone, Copy)]
 pub struct ToldEnd<'a> {
     place: Place,
@@ -26,7 +26,7 @@ pub struct ToldEnd<'a> {
     output: bool,
 }
 
-/// The end of a wire at the port of that number of an agent, which stands at a place of the text. Nothing where the symbol has no such port.
+/// The end of a wire at the port of that number of the agent at a place of the text. None if the symbol has no such port.
 pub fn agent_end(symbol: &SourceSymbol, number: usize, place: Place) -> Option<ToldEnd<'_>> {
     let (_, port) = port(symbol, number)?;
     Some(ToldEnd {
@@ -377,8 +377,8 @@ fn are_of_one_type(one: &ToldEnd, other: &ToldEnd) -> bool {
     one.port.kind.text.as_str() == other.port.kind.text.as_str()
 }
 
-/// Adds that the two ends of the wire at a place of the text don't fit: their types differ, or both are outputs or both inputs. Then what
-/// stands at each end, and what helps.
+/// Adds that the two ends of the wire at a place of the text don't fit: their types differ, or both are outputs or both inputs. Then a note on
+/// each end, and help.
 pub fn say_ends(report: &mut Report, place: Place, one: &ToldEnd, other: &ToldEnd) {
     add_misfit(report, place, one, other);
     add_end(report, one);

@@ -6,7 +6,7 @@ use crate::slots::Value;
 use crate::words::Words;
 use in_syntax::{Place, SourceSymbol};
 
-/// Says what a node is, and where it stands: an agent of the symbol, or the class of that number of a head with the symbol.
+/// Says what a node is, and its place: an agent of the symbol, or the class of that number of a head with the symbol.
 pub fn say_node_at(words: &mut Words, symbol: &SourceSymbol, class: Option<usize>, place: Place) {
     let sentence = match class {
         Some(_) => sentences::CLASS_AT,
@@ -29,7 +29,7 @@ pub fn port_of(symbol: &SourceSymbol, class: Option<usize>, number: u8) -> Value
 }
 
 /// Adds where the symbol of a node is declared, whose braces keep two auxiliary ports of an agent apart, or ports of a class of a head
-/// together. Of a principal port, which stands in no braces, nothing is said.
+/// together. A principal port, which is in no braces, gets no note.
 pub fn add_braces(
     report: &mut Report,
     symbol: &SourceSymbol,

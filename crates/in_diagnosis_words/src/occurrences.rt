@@ -14,8 +14,7 @@ fn net_start(net: &SourceNet) -> usize {
     }
 }
 
-/// The number, from 0, of the rule in which a byte of the program's text stands; nothing where it stands before the first rule or in the
-/// net.
+/// The number, from 0, of the rule that contains a byte of the program's text; none if the byte is before the first rule or in the net.
 pub fn rule_at(source: &Source, at: usize) -> Option<usize> {
     if at >= net_start(&source.net) {
         return None;

@@ -20,7 +20,7 @@ fn add_limit_of_text(report: &mut Report, place: Place, expected: Expected) {
     }
 }
 
-/// Adds what is wrong with a text that has no tree, and what helps: what the tokens or the grammar refuse, where this is expected.
+/// Adds the fault of a text without a tree, and help: a fault of the tokens, or of the grammar, which expects `expected` there.
 pub fn add_text_fault(report: &mut Report, refusal: Refusal, expected: Expected) {
     match refusal.code {
         Code::E01 => add_no_token(report, refusal.place),
@@ -51,9 +51,9 @@ fn add_pair_fault(report: &mut Report, source: &Source, refusal: Refusal) {
     }
 }
 
-/// Adds what is wrong with a program that has a tree, and what helps, where the tree tells it: names (E04 to E08), closed wires (E09), and
-/// pairs of symbols (E11, E14, E15). Nothing is added for the other codes: those of a text without a tree, and those that take a look at
-/// numbers of agents (E03), types of wires (E10) or steps (E12, E13).
+/// Adds the fault of a program with a tree, and help, if the tree shows it: names (E04 to E08), closed wires (E09), and pairs of symbols
+/// (E11, E14, E15). It adds nothing for the other codes: those of a text without a tree, and those that need numbers of agents (E03),
+/// types of wires (E10) or steps (E12, E13).
 pub fn add_tree_fault(report: &mut Report, source: &Source, refusal: Refusal) {
     match refusal.code {
         Code::E04 | Code::E05 | Code::E06 | Code::E07 | Code::E08 => {

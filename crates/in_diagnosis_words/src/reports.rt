@@ -7,7 +7,7 @@ use crate::words::Words;
 use in_syntax::Place;
 use std::alloc::{AllocError, Global};
 
-/// What a part of a diagnosis has: what is wrong, what belongs to it, or what helps.
+/// The kind of a part of a diagnosis: an error, a note or help.
 #[derive(Clone, Copy, PartialEq, Eq)]
 pub enum Kind {
     Error,
@@ -116,7 +116,7 @@ impl<'a> Report<'a> {
         self.add(kind, place, words);
     }
 
-    /// Adds what is wrong at a place of the text: a sentence without a slot.
+    /// Adds an error at a place of the text: a sentence without a slot.
     pub fn wrong(&mut self, place: Place, sentence: &str) {
         self.add_plain(Kind::Error, Some(place), sentence);
     }

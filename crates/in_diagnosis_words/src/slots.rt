@@ -2,7 +2,7 @@
 use crate::ends::Giving;
 use in_syntax::{Place, SourcePort, SourceSymbol};
 
-/// What stands in a slot of a sentence.
+/// The value of a slot of a sentence.
 #[derive(Clone, Copy)]
 pub enum Value<'v> {
     /// A text, as it is.
@@ -27,11 +27,11 @@ pub enum Value<'v> {
     Outputs(Giving<'v>),
     /// The letters of these ports.
     OutputLetters(Giving<'v>),
-    /// Where something stands, as `12:15`.
+    /// A place, as `12:15`.
     Spot(Place),
 }
 
-/// The name of a slot, and what stands in it.
+/// The name of a slot, and its value.
 pub type Slot<'v> = (&'static str, Value<'v>);
 
 /// The value of the slot of this name.

@@ -32,7 +32,7 @@ RenamedExists = (sig : Signature) (n : Net ℕ) (f : ℕ → ℕ) → IsNet sig 
 abbrev pub NamesExist : Type 0
 NamesExist = (name : ℕ → ℕ → ℕ) × AreAllApart name
 
--- what is glued from the same parts is one net, up to the names of its agents
+-- the same parts, glued along the same cuts, are one net, up to the names of its agents
 abbrev pub GluedOnce : Type 0
 GluedOnce = (sig : Signature) (parts : ℕ → Net ℕ) (cuts : Cuts) (a b : ℕ → ℕ → ℕ) (n m : Net ℕ) → ((i : ℕ) → IsNet sig (parts i)) →
     KeepsApart parts a → KeepsApart parts b → IsGlued parts a cuts n → IsGlued parts b cuts m → (f : ℕ → ℕ) × IsRenamed f n m

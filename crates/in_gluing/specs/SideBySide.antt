@@ -35,8 +35,8 @@ abbrev pub BesidePartsAreNets : Type 0
 BesidePartsAreNets = (sig : Signature) (one two n : Net ℕ) (name : ℕ → ℕ) (ends : List (ℕ × ℕ)) → IsNet sig n → IsWiredWithin one → IsWiredWithin two →
     StandBeside one two name ends n → IsNet sig one × IsNet sig two
 
--- which nets stand side by side in a net is determined by the symbols of the first one, but for the numbers that agents of the second
--- have by themselves
+-- the symbols of the first part determine which nets are side by side in a net, but for the numbers that agents of the second have by
+-- themselves
 abbrev pub BesidePartsAreAlike : Type 0
 BesidePartsAreAlike = (one two one_too two_too n : Net ℕ) (name name_too : ℕ → ℕ) (ends : List (ℕ × ℕ)) →
     IsWiredWithin one → IsWiredWithin two → IsWiredWithin one_too → IsWiredWithin two_too →

@@ -23,8 +23,8 @@ pub fn orders_are_both_at_once()
     ensures { OrdersAreBothAtOnce }
 {}
 
-/// An interaction of one part is an interaction of the whole: what is glued from the parts after it is the whole after it. The names of
-/// different agents are to be different.
+/// An interaction of one part is an interaction of the whole: the parts after it, glued, are the whole after it. Different agents must have
+/// different names.
 pub fn frames_step()
     ensures { FramesStep }
 {}
@@ -39,7 +39,7 @@ pub fn pairs_are_of_parts_or_made()
     ensures { PairsAreOfPartsOrMade }
 {}
 
-/// There are names by part and agent, by which no two agents have one name.
+/// There are names by part and agent that differ for different agents.
 pub fn names_exist()
     ensures { NamesExist }
 {}
@@ -49,12 +49,12 @@ pub fn renamed_exists()
     ensures { RenamedExists }
 {}
 
-/// What is glued from the same parts along the same cuts is one net, up to the names of its agents.
+/// The same parts, glued along the same cuts, are one net, up to the names of its agents.
 pub fn glued_once()
     ensures { GluedOnce }
 {}
 
-/// Parts that stand side by side in one net are joined by no joint.
+/// A net in which parts are side by side is these parts joined by no joint.
 pub fn beside_joins_none()
     ensures { BesideJoinsNone }
 {}
@@ -90,32 +90,32 @@ pub fn rest_exists()
     ensures { RestExists }
 {}
 
-/// What is left of a net without an active pair is a net.
+/// A net without one of its active pairs is a net.
 pub fn rest_is_net()
     ensures { RestIsNet }
 {}
 
-/// What is left of a net without an active pair is cut from the right member at free ends of opposite types, and the net's own free ends stay.
+/// A net without one of its active pairs is cut from the right member at free ends of opposite types, and the net's own free ends stay.
 pub fn boundary_is_cut()
     ensures { BoundaryIsCut }
 {}
 
-/// An interaction is a gluing: the net after it is what is left of the net without the pair, glued to the right member along the boundary ends.
+/// An interaction is a gluing: the net after it is the net without the pair, glued to the right member along the boundary ends.
 pub fn interactions_are_gluings()
     ensures { InteractionsAreGluings }
 {}
 
-/// There is a net in which the pair is taken out and the right member stands beside what is left.
+/// There is a net without the pair, with the right member beside it.
 pub fn taken_apart_exists()
     ensures { TakenApartExists }
 {}
 
-/// Where the pair is taken out of the net and the right member stands beside it, no boundary end is joined.
+/// In the net without the pair, with the right member beside it, no boundary end is joined.
 pub fn taken_apart_has_joined_none()
     ensures { TakenApartHasJoinedNone }
 {}
 
-/// Where what is left of the net and the right member stand side by side, no boundary end is joined.
+/// If the rest of the net and the right member are side by side, no boundary end is joined.
 pub fn beside_has_joined_none()
     ensures { BesideHasJoinedNone }
 {}
@@ -140,7 +140,7 @@ pub fn all_joined_is_step()
     ensures { AllJoinedIsStep }
 {}
 
-/// The net taken apart, and joined at the boundary ends one after another in any order, comes to the net after the interaction.
+/// The net taken apart, and joined at the boundary ends one after another in any order, is the net after the interaction.
 pub fn any_order_is_step()
     ensures { AnyOrderIsStep }
 {}
@@ -176,12 +176,12 @@ pub fn all_made_are_over_ends()
     ensures { AllMadeAreOverEnds }
 {}
 
-/// What stands side by side in a net is a net, if it has finitely many agents, and its wires lead back and from points that are there.
+/// Two parts side by side in a net are nets, if both have finitely many agents, and wires that lead both ways between their own points.
 pub fn beside_parts_are_nets()
     ensures { BesidePartsAreNets }
 {}
 
-/// Which nets stand side by side in a net is determined by the symbols of the first one, but for the numbers that agents of the second have by
+/// The symbols of the first part determine which nets are side by side in a net, but for the numbers that agents of the second have by
 /// themselves.
 pub fn beside_parts_are_alike()
     ensures { BesidePartsAreAlike }

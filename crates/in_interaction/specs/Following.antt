@@ -57,7 +57,7 @@ abbrev pub OnEnd : SiteParts → (Point → Type 0) → Point → Point → Opti
 OnEnd s Rest at v None = at ≡ v
 OnEnd s Rest at v (Some e) = (q : Point) × (partner_in s.rule.member (Free e) ≡ Some q) × OnInner s Rest v q
 
--- within a given number of turns, each of which goes through the right member, the path that arrived here comes to that point
+-- within a given number of turns, each of which goes through the right member, the path that arrived here reaches that point
 unfoldable pub Lands : SiteParts → ℕ → Point → Point → Type 0
 Lands s zero at v = ⊥
 Lands s (suc k) at v = OnEnd s (λ r. Lands s k r v) at v (end_of s.one s.two s.first at)

@@ -1,5 +1,5 @@
 -- The active pairs that an interaction makes. Lafont 1990: the right member takes the place of the active pair on the same boundary ends;
--- where two principal ports come to one wire by this, a new active pair stands. Which of the two stands first, and the order of the new
+-- where this joins two principal ports by one wire, there is a new active pair. Which of the two is first, and the order of the new
 -- pairs, is this project's own choice. All this is under any names of the new agents.
 use Rattle.std.specs.Prelude.{◌≡◌, ◌≢◌, ◌⊎◌, ◌<◌, ◌≤◌, ◌++◌, ℕ, List, map, slice_get, Some}
 use Rattle.in_base.specs.Lists.{IsAmong}

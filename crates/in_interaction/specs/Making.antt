@@ -53,7 +53,7 @@ NoneLower t s e es = (d : ℕ) → IsAmong (end_point t s d) es → e ≤ d
 abbrev pub LandsAt : SiteParts → Side → ℕ → coded.Point → Type 0
 LandsAt s side e p = (t : Tables) → Over s t → (es : List (Point ℕ)) × Leaves t s side e es (point_of p) × NoneLower t s e es
 
--- a path has one wire more than it goes through ends, and comes to each boundary end at most once from each side
+-- a path has one wire more than it goes through ends, and reaches each boundary end at most once from each side
 abbrev pub most_wires : ℕ
 most_wires = 4 * max_ports + 2
 

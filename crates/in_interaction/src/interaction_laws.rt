@@ -19,7 +19,7 @@ pub fn outer_pieces_are_passages()
     ensures { OuterPiecesArePassages }
 {}
 
-/// Where each outer piece of a cycle is such a passage, what is left of the cycle is a closed walk of the open right member.
+/// If each outer piece of a cycle is such a passage, the cycle leaves a closed walk of the open right member.
 pub fn cycles_leave_walks()
     ensures { CyclesLeaveWalks }
 {}

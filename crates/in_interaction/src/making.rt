@@ -146,12 +146,12 @@ impl<'a> Site<'a> {
     }
 }
 
-/// The active pairs that `interact` would make of this net, rule, `a` and `b`: two agents whose principal ports come to one wire by it.
+/// The active pairs that `interact` would make of this net, rule, `a` and `b`: two agents whose principal ports it joins by one wire.
 ///
 /// First come the pairs whose wires go through ports of `a` and `b`, by the lowest boundary end on each, and then those that the right
-/// member holds itself, in the order of their wires, which is that of the text. The constructor stands first; of two constructors or two
-/// destructors the one with the lower number, which may be that of a new agent. Both orders are this project's own choice. The
-/// `Symbols` are those of the net; the other conditions are those of `interact`. Refused only when out of memory.
+/// member holds itself, in the order of their wires, which is that of the text. The constructor is first; of two constructors or two
+/// destructors the one with the lower number, which may be that of a new agent. Both orders are this project's own choice. The `Symbols`
+/// are those of the net; the other conditions are those of `interact`. Refused only when out of memory.
 pub fn made(
     alloc: Global,
     symbols: &Symbols,

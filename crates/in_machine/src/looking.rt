@@ -115,8 +115,8 @@ impl<'a> Machine<'a> {
         self.reducer.free_name(number)
     }
 
-    /// How many cells of each class the interaction of the pair of that number needs: the agents of its rule's right member. They have to
-    /// be free while the pair still stands.
+    /// How many cells of each class the interaction of the pair of that number needs: the agents of its rule's right member. They must be
+    /// free while the pair is still there.
     pub fn need_of(&self, number: u32) -> Need
         requires { number < length self.now.queue }
         ensures { NeedsAt self.now number result }

@@ -21,7 +21,7 @@ use std::marker::Model;
 /// The state of a run over a number of cells: the active pairs of its net are in a queue, and for each class of agents a number of cells is
 /// free. Its program reaches the net.
 ///
-/// A round lends the cells of its reducer to workers; so both fields can be named outside. Whoever changes one proves again what is kept.
+/// A round lends the cells of its reducer to workers; so both fields can be named outside. Code that changes one proves the invariant again.
 #[derive(Drop)]
 pub struct Machine<'a> {
     pub templates: Templates,
@@ -68,8 +68,8 @@ impl<'a> Machine<'a> {
 
     /// The interaction of the pair of that number, by the rule of its symbols: Lafont 1990's, as `in_check`'s `Plain::step` says. The pair
     /// leaves the queue, and the new pairs come last, by the lowest-numbered boundary end on the path that made each, and then the right
-    /// member's own; the cells of the pair are free, and those of the new agents aren't. What the pair needs has to be free while it still
-    /// stands. It takes no memory.
+    /// member's own; the cells of the pair are free, and those of the new agents aren't. The cells that the pair needs must be free while it is
+    /// still there. It takes no memory.
     pub fn step(&mut self, number: u32)
         requires pair { number < length self.old.queue }
         requires room { HasRoomAt self.old number }
@@ -90,10 +90,10 @@ impl<'a> Machine<'a> {
         self.reducer.take_first(&self.templates, most)
     }
 
-    /// Interactions of the last pair of the queue, one after another, at most `most`, the newest pair first: what was made last is still in the
-    /// cache, and a net that is reduced from there stays small. Fewer only where no pair is left, or what the last one needs isn't free with
-    /// `floor` cells of each class besides. Returns how many they were. The net is one that the program reaches by as many interactions more.
-    /// It takes no memory.
+    /// Interactions of the last pair of the queue, one after another, at most `most`, the newest pair first: the newest agents are still in the
+    /// cache, and a net that is reduced so stays small. Fewer only if no pair is left, or the cells of the last one aren't free with `floor`
+    /// more of each class. Returns the number of interactions. The net is one that the program reaches by as many interactions more. It takes no
+    /// memory.
     pub fn take_newest(&mut self, floor: u32, most: u64) -> u64
         ensures phase { IsPhase self.old result self.new }
         ensures most { result ≤ most }

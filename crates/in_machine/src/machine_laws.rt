@@ -9,7 +9,7 @@ pub fn machines_as_promised()
     ensures { MachinesAsPromised }
 {}
 
-/// The queue of a machine holds each active pair of its net once, as the text of a net asks for.
+/// The queue of a machine has each active pair of its net once, as the text of a net requires.
 pub fn queues_are_queues()
     ensures { QueuesAreQueues }
 {}
@@ -24,12 +24,12 @@ pub fn steps_keep_machines()
     ensures { StepsKeepMachines }
 {}
 
-/// A machine is a reducer: the laws of `in_reducer` on what is the same up to the numbers of agents hold of machines.
+/// A machine is a reducer: the laws of `in_reducer` on reducers that are the same up to the numbers of agents hold of machines.
 pub fn machines_are_reducers()
     ensures { MachinesAreReducers }
 {}
 
-/// What is the same as a machine up to the numbers of its agents is one.
+/// A state that is the same as a machine up to the numbers of its agents is a machine.
 pub fn same_are_machines()
     ensures { SameAreMachines }
 {}
@@ -44,7 +44,7 @@ pub fn starts_are_same()
     ensures { StartsAreSame }
 {}
 
-/// A start of an accepted program is a machine: what is said of machines holds of it.
+/// A start of an accepted program is a machine: the laws on machines hold of it.
 pub fn starts_are_machines()
     ensures { StartsAreMachines }
 {}

@@ -12,7 +12,7 @@ use std::alloc::{AllocError, Allocator};
 use std::marker::{Model, PhantomData, Send, Sync};
 use std::mem::{align_of, size_of};
 
-/// Where a row begins. It owns nothing, and whoever has the right to cells of the row may hold it by value.
+/// Where a row begins. It owns nothing, and any owner of cells of the row may have a copy.
 pub struct Base<T> {
     pub ptr: *mut T,
 }
@@ -34,7 +34,7 @@ unsafe impl<T> Send for Base<T> {}
 unsafe impl<T> Sync for Base<T> {}
 
 /// Owns some cells of a row, and takes no space. Contracts see each cell of the row: it is another owner's (`None`), here and never written
-/// (`Some(None)`), or here with what stands in it.
+/// (`Some(None)`), or here with its content.
 #[derive(Drop)]
 pub struct Cells<T> {
     mark: PhantomData<*const T>,
@@ -95,7 +95,7 @@ pub fn allocate<T, A: Allocator>(
     }
 }
 
-/// Gives the block of a row back, with what stands in its cells. No cell is another owner's.
+/// Gives the block of a row back, with the content of its cells. No cell is another owner's.
 pub fn deallocate<T, A: Allocator>(
     alloc: &A,
     base: Base<T>,
@@ -124,7 +124,7 @@ impl<T> Cells<T> {
         unsafe { base.ptr.add(index).write(content) }
     }
 
-    /// What stands in a cell.
+    /// The content of a cell.
     #[inline(always)]
     pub fn get(&self, base: Base<T>, index: usize) -> &T
         requires { (base.ptr ≡ self.now.at) × IsFilled self.now.slots index }
@@ -133,7 +133,7 @@ impl<T> Cells<T> {
         unsafe { &*base.ptr.add(index) }
     }
 
-    /// What stands in a cell, to be written.
+    /// The content of a cell, which the caller may write.
     pub fn get_mut(&mut self, base: Base<T>, index: usize) -> &mut T
         requires { (base.ptr ≡ self.old.at) × IsFilled self.old.slots index }
         ensures* writes_back { sem 𝓛 (lends_cell T.row self.entry index result) }

@@ -10,7 +10,7 @@ use Rattle.in_net.specs.Parts.{Parts, symbol_in, partner_in, IsWireBetween}
 abbrev pub AreActive : Parts → AgentNo → AgentNo → Type 0
 AreActive n a b = partner_in n (Port a 0) ≡ Some (Port b 0)
 
--- the constructor stands first, and of two constructors or two destructors the one with the lower number
+-- the constructor is first, and of two constructors or two destructors the one with the lower number
 abbrev pub StandsFirst : Tables → SymbolNo → SymbolNo → AgentNo → AgentNo → Type 0
 StandsFirst t c d a b = ((is_constructor t c.0 ≡ true) × (is_constructor t d.0 ≡ false)) ⊎ ((is_constructor t c.0 ≡ is_constructor t d.0) × (a.0 < b.0))
 

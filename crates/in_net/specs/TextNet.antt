@@ -1,5 +1,5 @@
 -- The net that a text has. Lafont 1990 writes a net as equations between terms: a term stands for a point, an agent's for its
--- principal port, and two occurrences of one variable for one wire. Where a wire stands in the text is this project's own choice.
+-- principal port, and two occurrences of one variable for one wire. The place of a wire in the text is this project's own choice.
 use Rattle.std.specs.Prelude.{◌≡◌, ◌≢◌, ◌⊎◌, ℕ, suc, ◌+◌, ◌≤◌, true, List, [], ◌∷◌, ◌++◌, length, map, Option, Some, None, IsSome, slice_get, slice_index_or, ◌<◌}
 use Rattle.std.specs.List.{AllByRecursion, flat_map}
 use Rattle.in_base.specs.Lists.{IsAmong}

@@ -258,11 +258,11 @@ fn net_of(
 /// The initial net of a program.
 ///
 /// Refused for the first fault in the order of the text, at one place the lower code: E03 at the name of the agent that is one
-/// more than `MAX_AGENTS`; E07 at an agent's name, where its number of arguments isn't its symbol's arity; E08 where a variable
-/// doesn't stand twice or a free name once: at a variable's only occurrence or its third one, at the declaration of a free name
-/// that doesn't stand, or its second occurrence in the body. Only where none of these stands, E09 for a closed wire, the first
-/// by the place of the wire. Or when out of memory. Lafont 1990 writes a net as equations between terms, in which each variable
-/// stands twice; the codes and their places are this project's own choice.
+/// more than `MAX_AGENTS`; E07 at an agent's name, where its number of arguments isn't its symbol's arity; E08 if a variable
+/// doesn't occur twice or a free name once: at a variable's only occurrence or its third one, at the declaration of a free name
+/// that doesn't occur, or at its second occurrence in the body. Only without these faults, E09 for a closed wire, the first by
+/// the place of the wire. Or when out of memory. Lafont 1990 writes a net as equations between terms, in which each variable
+/// occurs twice; the codes and their places are this project's own choice.
 pub fn build_net(alloc: Global, source: &Source, symbols: &Symbols) -> Result<Net, Fault>
     requires { IsReadableNet source.now symbols.now }
     ensures { Builds source.now symbols.now result }

@@ -32,7 +32,7 @@ pub fn nets_are_renewed_once()
     ensures { NetsAreRenewedOnce }
 {}
 
-/// A wire joins at most one active pair, so that what is found on a wire is one. In any net, also one that no text has.
+/// A wire joins at most one active pair. This holds in any net, also in one that no text has.
 pub fn wires_join_one_pair()
     ensures { WiresJoinOnePair }
 {}

@@ -207,10 +207,10 @@ fn rule_of(alloc: Global, symbols: &Symbols, rule: &SourceRule) -> Result<Rule, 
 ///
 /// Refused for the first fault in the order of the text, at one place the lower code: E03 at the name of the agent that is one
 /// more than `MAX_MEMBER_AGENTS`, where the heads aren't counted; E07 at an agent's or a head's name, where its number of
-/// arguments or terms isn't its symbol's arity; E08 where a variable doesn't stand twice: at its only occurrence or its third one.
-/// Only where none of these stands, E09 for a closed wire, the first by the place of the wire. Or when out of memory. Lafont 1990
-/// writes a rule as two agents with terms at their auxiliary ports, in which each variable stands twice; the equations of a rule,
-/// the codes and their places are this project's own choice.
+/// arguments or terms isn't its symbol's arity; E08 if a variable doesn't occur twice: at its only occurrence or its third one.
+/// Only without these faults, E09 for a closed wire, the first by the place of the wire. Or when out of memory. Lafont 1990 writes
+/// a rule as two agents with terms at their auxiliary ports, in which each variable occurs twice; the equations of a rule, the
+/// codes and their places are this project's own choice.
 pub fn build_rule(
     alloc: Global,
     source: &Source,

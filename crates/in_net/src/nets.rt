@@ -48,7 +48,7 @@ pub(crate) struct FreeEnd {
     pub(crate) end: Point,
 }
 
-/// Two points that are joined, and where the last joint between them stands in the text.
+/// Two points that are joined, and the place of the last joint between them in the text.
 #[derive(Clone, Copy)]
 pub struct Wire {
     pub one: Point,
@@ -173,8 +173,8 @@ impl Net {
         (wire.one, wire.other)
     }
 
-    /// Where a wire stands in the text: the last in the text among the `~` and the first tokens of arguments that it
-    /// passes. That a wire stands at the last of them is this project's own choice.
+    /// The place of a wire in the text: the last one among the `~` and the first tokens of arguments that it passes. That it is the
+    /// last one is this project's own choice.
     pub fn wire_place(&self, number: u32) -> Place
         requires number { number < length self.now.wires }
         requires built { IsTrue self.now.built }
@@ -183,7 +183,7 @@ impl Net {
         self.wires.as_slice()[number as usize].place
     }
 
-    /// Where the agent's name stands in the text.
+    /// The place of the agent's name in the text.
     pub fn agent_place(&self, agent: AgentNo) -> Place
         requires agent { agent.0 < length self.now.cells }
         requires built { IsTrue self.now.built }

@@ -62,7 +62,7 @@ impl Net {
         Some(in_order(symbols, (one, first), (other, second)))
     }
 
-    /// The active pairs, each once: two agents whose principal ports are joined (Lafont 1990). The constructor stands first, and of two
+    /// The active pairs, each once: two agents whose principal ports are joined (Lafont 1990). The constructor is first, and of two
     /// constructors or two destructors the one with the lower number. The pairs are in the order of their lower numbers, which is this
     /// project's own choice. The `Symbols` are those of the net. Refused only when out of memory.
     pub fn active_pairs(

@@ -18,7 +18,7 @@ fn rejoin(free: &mut Vec<FreeEnd>, ends: &[Point])
 }
 
 impl Net {
-    /// Gives the net these agents and wires in place of its own, and each free end its partner out of `ends`, by number.
+    /// Replaces the net's agents and wires by these, and the partner of each free end by that in `ends`, by number.
     ///
     /// Free ends keep their names and types. The net is then no longer as built: its agents and wires have no places. There is an end
     /// for each free end, and agents, free ends and wires together are a net, each point in exactly one wire.

@@ -48,7 +48,7 @@ impl Rule {
         self.heads
     }
 
-    /// Where the name of a head stands: of the first one in the text, which is number 0, or of the second one.
+    /// The place of a head's name: of the first one in the text, which is number 0, or of the second one.
     pub fn head_place(&self, number: u8) -> Place
         requires { number < 2 }
         ensures { result ≡ place_of_head self.now number }

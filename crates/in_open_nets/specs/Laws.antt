@@ -18,7 +18,7 @@ SplitsWhereDerivable = (o : OpenNet) → IsOpenNet o → NetSplits o ↔ IsDeriv
 abbrev pub SplitsByBridges : Type 0
 SplitsByBridges = (o : OpenNet) → IsOpenNet o → (n : ℕ) (s : ℕ → Bool) → IsIn n s → SplitsAt (open_graph o) n s ↔ HubEdgesAreBridges (open_graph o) (HasClass o) n s
 
--- .. and, where the class graph stands as a list of edges, exactly when none of its hub edges is on a cycle
+-- .. and, for the class graph as a list of edges, exactly when none of its hub edges is on a cycle
 abbrev pub SplitsOffCycles : Type 0
 SplitsOffCycles = (o : OpenNet) → IsOpenNet o → (s : ℕ → Bool) (number : Vertex ℕ → ℕ) (hub_edge : ℕ → ℕ → ℕ) (es : List (ℕ × ℕ)) → IsClassGraph (open_graph o) (HasClass o) s number hub_edge es →
     (n : ℕ) → IsIn n s → SplitsAt (open_graph o) n s ↔ HubEdgesAreOffCycles (open_graph o) (HasClass o) hub_edge es n

@@ -16,7 +16,7 @@ use Rattle.in_open_nets.specs.Stuck.{Among, ports_of}
 abbrev pub IsLedTo : OpenNet → List Bool → ℕ → ℕ → ℕ → Type 0
 IsLedTo o part n c l = (i : ℕ) × (w : ℕ) × (m : ℕ) × (k : ℕ) × IsWire o w (Port n i) (Port m k) × (class_in o n i ≡ c) × Linked (open_graph o) (Without n (nodes_in part)) m l
 
--- the walk is at n still, or began in a class and has come to l
+-- the walk is still at n, or began in a class and has reached l
 abbrev pub IsWalked : OpenNet → List Bool → ℕ → Option ℕ → ℕ → Type 0
 IsWalked o part n begun l = MatchOption begun (l ≡ n) (λ c. IsLedTo o part n c l)
 

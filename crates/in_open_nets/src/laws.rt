@@ -14,7 +14,7 @@ pub fn splits_by_bridges()
     ensures { SplitsByBridges }
 {}
 
-/// Where the class graph stands as a list of edges, a node splits the set exactly when none of its hub edges is on a cycle.
+/// For the class graph as a list of edges, a node splits the set exactly when none of its hub edges is on a cycle.
 pub fn splits_off_cycles()
     ensures { SplitsOffCycles }
 {}

@@ -154,7 +154,7 @@ impl NodeSet {
         Ok(NodeSet { list, tests })
     }
 
-    /// What was lent.
+    /// The set that was lent.
     pub fn into_tests(self) -> Scratch
         ensures { result ≡ self }
     {

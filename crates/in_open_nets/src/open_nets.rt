@@ -24,7 +24,7 @@ pub enum OpenPoint {
     Free(u32),
 }
 
-/// A node, where it stands in the text, how many classes its auxiliary places are in, and the class of each place.
+/// A node, its place in the text, how many classes its auxiliary ports are in, and the class of each port.
 #[derive(Drop)]
 pub struct OpenNode {
     pub node: Node,
@@ -54,7 +54,7 @@ impl Model for OpenNet {
 
 impl OpenNet {
     /// The open net of these nodes, these wires and `free` free ends: each point is in exactly one wire, an agent's principal port is the
-    /// one place of class 0, and its other classes stand in order.
+    /// one place of class 0, and its other classes are in order.
     pub fn new(nodes: Items<OpenNode>, wires: Items<(OpenPoint, OpenPoint)>, free: u32) -> OpenNet
         requires { IsOrderly (open_of nodes wires free) }
         ensures { result ≡ open_of nodes wires free }
@@ -77,7 +77,7 @@ impl OpenNet {
         self.nodes.as_slice()[number as usize].node
     }
 
-    /// Where the node stands in the text: the name of the agent, or of the head whose class it is.
+    /// The place of the node in the text: the name of the agent, or of the head whose class it is.
     pub fn node_place(&self, number: u32) -> Place
         requires { number < length self.now.nodes }
         ensures { Some result ≡ node_place_in self.now number }

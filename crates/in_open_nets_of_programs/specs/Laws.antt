@@ -16,11 +16,11 @@ use Rattle.in_open_nets.specs.OpenNets.{OpenNet, IsOpenNet, IsDerivable, open_gr
 use Rattle.in_open_nets_of_programs.specs.Opening.{AreAllThere, AreNumbered, Opens}
 use Rattle.in_open_nets_of_programs.specs.OpeningRules.{IsRuleWhole, OpensRule}
 
--- the net of a text has an agent at each of its numbers, which is what its open net asks for
+-- the net of a text has an agent at each of its numbers, as `open_net` requires
 abbrev pub TextNetsAreAllThere : Type 0
 TextNetsAreAllThere = (t : Tables) (text : SourceNet) (n : Parts) → IsNetOf t text n → AreAllThere n
 
--- the rule of a text is whole, which is what its open net asks for
+-- the rule of a text is whole, as `open_rule` requires
 abbrev pub TextRulesAreWhole : Type 0
 TextRulesAreWhole = (t : Tables) (text : SourceRule) (p : RuleParts) → BuildsRuleOf t text (Ok p) → IsRuleWhole t p
 

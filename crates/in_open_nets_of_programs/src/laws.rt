@@ -2,12 +2,12 @@
 
 ghost use Rattle.in_open_nets_of_programs.specs.Laws.{DerivableRulesHaveNoCircle, NetCirclesAreOpen, NetsAreOpenedOnce, OpenNetsAreOpen, OpenRulesAreOpen, RuleCirclesAreOpen, RulesAreOpenedOnce, TablesAreNumbered, TextNetsAreAllThere, TextRulesAreWhole};
 
-/// The net of a text has an agent at each of its numbers, which is what `open_net` asks for.
+/// The net of a text has an agent at each of its numbers, as `open_net` requires.
 pub fn text_nets_are_all_there()
     ensures { TextNetsAreAllThere }
 {}
 
-/// The rule of a text is whole, which is what `open_rule` asks for.
+/// The rule of a text is whole, as `open_rule` requires.
 pub fn text_rules_are_whole()
     ensures { TextRulesAreWhole }
 {}

@@ -109,8 +109,8 @@ fn wires(alloc: Global, net: &Net) -> Result<Items<(OpenPoint, OpenPoint)>, Allo
 }
 
 /// The open net of an initial net, as built: a node for each agent, in order and with the classes of its symbol, a wire for each
-/// wire, by number, and the free ends. Refused only when out of memory. The tables are to number classes from 1, which those of a
-/// program do. Lafont 1990 asks of a net that it is semi-simple; the open net has what is needed to say so.
+/// wire, by number, and the free ends. Refused only when out of memory. The tables must number classes from 1, as those of a
+/// program do. Lafont 1990 requires a net to be semi-simple; that is a property of its open net.
 pub fn open_net(alloc: Global, symbols: &Symbols, net: &Net) -> Result<OpenNet, AllocError>
     requires over { IsOver symbols.now net.now }
     requires built { IsTrue net.now.built }

@@ -1,5 +1,5 @@
--- What an accepted program comes to, in whatever order its active pairs interact: by how many interactions, and with which text. The text
--- is this project's own choice.
+-- The end that an accepted program reaches, in whatever order its active pairs interact: by how many interactions, and with which text.
+-- The text is this project's own choice.
 use Rattle.std.specs.Prelude.{◌≡◌, ℕ, nat_eq, List, [], length, unwrap_or}
 use Rattle.in_symbols.specs.Names.{name_in}
 use Rattle.in_net.specs.Nets.{Net, signature_of}

@@ -155,12 +155,12 @@ pub fn cut_down_leads_are_joined_up()
     ensures { CutDownLeadsAreJoinedUp }
 {}
 
-/// Nets that stand side by side in a sound net are sound.
+/// Nets side by side in a sound net are sound.
 pub fn beside_parts_are_sound()
     ensures { BesidePartsAreSound }
 {}
 
-/// Sound nets that stand side by side are a sound net.
+/// Sound nets side by side are a sound net.
 pub fn beside_sound_is_sound()
     ensures { BesideSoundIsSound }
 {}

@@ -32,7 +32,7 @@ pub fn sides_are_apart()
     ensures { SidesAreApart }
 {}
 
-/// The wires of a right member may be written one after another, in any order and direction, whatever stands at their sides before.
+/// The wires of a right member may be written one after another, in any order and direction, whatever their sides held before.
 pub fn stored_are_overwritten()
     ensures { StoredAreOverwritten }
 {}
@@ -72,7 +72,7 @@ pub fn sides_have_types()
     ensures { SidesHaveTypes }
 {}
 
-/// So of two principal ports at the sides of a wire, the one at the output is a constructor's, which stands first.
+/// So of two principal ports at the sides of a wire, the one at the output is a constructor's, which is first.
 pub fn output_stands_first()
     ensures { OutputStandsFirst }
 {}
@@ -82,7 +82,7 @@ pub fn sides_tell_the_pair()
     ensures { SidesTellThePair }
 {}
 
-/// And of a wire between two principal ports of a right member, the agent at the output stands first.
+/// And of a wire between two principal ports of a right member, the agent at the output is first.
 pub fn output_stands_first_within()
     ensures { OutputStandsFirstWithin }
 {}

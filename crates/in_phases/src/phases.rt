@@ -23,7 +23,7 @@ pub struct Sharing {
     pub most: u64,
 }
 
-/// What was done: how many interactions, the most that one part did, and how many parts there were, the rest among them.
+/// The result of a phase: how many interactions, the most that one part did, and how many parts there were, the rest among them.
 #[derive(Clone, Copy, Debug, PartialEq, Eq)]
 pub struct Worked {
     pub interactions: u64,

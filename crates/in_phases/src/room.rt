@@ -6,8 +6,8 @@ use crate::branch::Branch;
 use in_reducer::CellNo;
 use std::alloc::{AllocError, Global};
 
-/// Lists with a place for each number of an agent, by which parts are gathered and moved. They are as long as the nets asked for so far, and
-/// serve all phases of a run.
+/// Lists with a place for each number of an agent, for gathering and moving parts. They are as long as the nets required so far, and serve
+/// all phases of a run.
 #[derive(Drop)]
 pub struct Room {
     pub(crate) branch: Branch,

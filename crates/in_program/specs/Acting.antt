@@ -147,7 +147,7 @@ TellsUsage w w' e e' Memory answer = Tells w w' memory_line memory_status answer
 
 -- ---- words of the inner contracts
 
--- lines and a status that are so are told, or running out of memory
+-- such lines and such a status are written, or that memory ran out
 abbrev pub TellsOne : (List ℕ → Status → Type 0) → Device → Device → Status → Type 0
 TellsOne So w w' answer = (lines : List ℕ) × (s : Status) × (So lines s ⊎ WantsMemory lines s) × Tells w w' lines s answer
 

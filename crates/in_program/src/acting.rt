@@ -292,7 +292,7 @@ fn report_run<T: Threads, R: TextIn, W: TextOut, H: Watch>(
     }
 }
 
-/// As `act`, for who wants to see how far a run is. Nothing that the watch does changes what is written, or the status.
+/// As `act`, with a watch that sees the progress of a run. The watch changes neither the written bytes nor the status.
 pub fn act_watched<T: Threads, R: TextIn, W: TextOut, H: Watch>(
     rt: &T,
     alloc: Global,
@@ -313,9 +313,9 @@ pub fn act_watched<T: Threads, R: TextIn, W: TextOut, H: Watch>(
     }
 }
 
-/// Does what the words ask for: for `check` and `derive` as `report` does. For `run` the lines on an accepted program are the net that the
-/// run reaches, the count of its interactions and how it stopped, or the line of a net that doesn't fit the cells; without its net they are
-/// the same but for the net. The rest is as there.
+/// Does the action that the words name: `check` and `derive` as `report` does. For `run` the lines on an accepted program are the net that the
+/// run reaches, the count of its interactions and how it stopped, or the line of a net that doesn't fit the cells; without its net they are the
+/// same but for the net. The rest is as there.
 pub fn act<T: Threads + Wait, R: TextIn, W: TextOut>(
     rt: &T,
     alloc: Global,
@@ -330,8 +330,8 @@ pub fn act<T: Threads + Wait, R: TextIn, W: TextOut>(
     act_watched(rt, alloc, action, reader, writer, &mut NoWatch)
 }
 
-/// Tells why the words name no action: help as output, what is wrong with them as an error, running out of memory as output. The version
-/// is left to the program, which knows it. That wrong words can't be told changes nothing.
+/// Writes why the words name no action: help, or that memory ran out, to the output, and an error in the words to the error stream. The program
+/// writes the version, which it knows. A failure to write an error changes nothing.
 pub fn tell_usage<W: TextOut, E: TextOut>(usage: &Usage, output: &mut W, errors: &mut E) -> Status
     requires output { (W.device output.old).failures < 2 ^ 64 - 1 }
     requires errors { (E.device errors.old).failures < 2 ^ 64 - 1 }

@@ -13,7 +13,7 @@ pub enum Device<'a> {
     File(&'a str),
 }
 
-/// A file's name as it is told: each control character of it is shown as U+FFFD, so that it stays on its line.
+/// A file's name for a message: each control character is shown as U+FFFD, so that it stays on its line.
 pub fn shown(alloc: Global, file: &str) -> Result<String, AllocError> {
     let mut name = String::new(alloc);
     for character in file.chars() {
@@ -38,7 +38,7 @@ fn failure(alloc: Global, device: Device, done: &str, why: Error) -> Result<Stri
     }
 }
 
-/// Tells what can't be done with a device, as `read`, and why. Where memory runs out, or it can't be told, nothing is added.
+/// Writes which operation on a device failed, as `read`, and why. It writes nothing if memory runs out, and a failure to write is ignored.
 pub fn tell_failure<E: Write>(
     alloc: Global,
     device: Device,

@@ -31,7 +31,7 @@ WiresAreOfBefore n m x f =
 abbrev pub NumbersAreNew : (n m : Net ℕ) (x : Redex ℕ ℕ) (f : ℕ → ℕ) → Type 0
 NumbersAreNew n m x f = (name : ℕ → ℕ) → IsReusing n x f name → IsNaming m (moved f x) name
 
--- what is said of the net with the pair aside is said of the net itself: what a boundary end stands for, and all other wires
+-- the net with the pair aside has the wires of the net itself: the same partners at the pair's auxiliary ports, and the same other wires
 pub record AreAlikeAside (sig : Signature) (n m : Net ℕ) (x : Redex ℕ ℕ) (f : ℕ → ℕ) : Type 0 where
   pub none_back : NoneLeadsBack m (moved f x)
   pub ends : (e : ℕ) (u : Point ℕ) → (m.partner (Port (end_agent sig (moved f x) e) (end_place sig (moved f x) e)) ≡ Some u) ↔ (n.partner (Port (end_agent sig x e) (end_place sig x e)) ≡ Some u)

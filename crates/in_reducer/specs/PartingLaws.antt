@@ -57,12 +57,12 @@ pub record DifferInOrder (m m_too : MachineParts) : Type 0 where
   pub alike : DifferInNumbers m m_too
   pub queue : HasItsPairs m → HasItsPairs m_too → IsReordered (λ q r. q ≡ r) m.queue m_too.queue
 
--- what is split off is determined by the net, the agents and the cuts
+-- the net, the agents and the cuts determine the rest and the part that is split off
 abbrev pub SplitsAreAlike : Type 0
 SplitsAreAlike = (m rest part rest_too part_too : MachineParts) (agents : List CellNo) (own cuts cells : ℕ) →
     IsSplitButQueues m agents own cuts cells rest part → IsSplitButQueues m agents own cuts cells rest_too part_too → DifferInOrder rest rest_too × DifferInNumbers part part_too
 
--- what is glued is determined by the rest, the part and the cuts
+-- the rest, the part and the cuts determine the glued net
 abbrev pub GluingsAreAlike : Type 0
 GluingsAreAlike = (rest part m m_too : MachineParts) (own cuts : ℕ) → IsGluedButQueue rest part own cuts m → IsGluedButQueue rest part own cuts m_too → DifferInNumbers m m_too
 

@@ -14,7 +14,7 @@ use Rattle.in_reducer.specs.Machines.{MachineParts, parts_of, plain_of}
 
 -- ---- what an interaction needs
 
--- the agents of each class in the right member of the rule of that pair, which have to be free while the pair still stands
+-- the agents of each class in the right member of the rule of that pair, which must be free while the pair is still there
 pub record NeedsAt (m : MachineParts) (i : ℕ) (need : Need) : Type 0 where
   pub pair : ℕ × ℕ
   pub stands : slice_get m.queue i ≡ Some pair

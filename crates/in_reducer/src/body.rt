@@ -12,8 +12,8 @@ pub(crate) enum OwnEnd {
     Cut(PortType),
 }
 
-/// What a reducer works with. What each free end leads to stands at its number in `ends`, and after that is room for the sides of the boundary
-/// ends of a pair. Cells of the arena may be on lease, so that it has no invariant: each call says what it needs and keeps.
+/// The parts of a reducer. `ends` has the partner of each free end at its number, and then room for the sides of the boundary ends of a pair.
+/// Cells of the arena may be on lease, so it has no invariant: each call says what it requires and keeps.
 pub struct Body<'a> {
     pub(crate) checked: &'a Checked,
     pub arena: Arena,

@@ -135,10 +135,10 @@ fn glue_ends(halves: &Halves, ends: &mut Vec<EndWord>)
 }
 
 impl<'a> Reducer<'a> {
-    /// Glues a part on, which has as many free ends as there were cuts when it was split off: these come by turns between those that the rest
-    /// has of the cuts, so that the two ends of a cut stand side by side again, the last ones last, and `join_last` undoes the cuts. Of each
-    /// class as many cells have to be free as the part has agents. The new numbers of the part's cells are written in `names`, which is as long
-    /// as there are numbers in an arena of as many cells as the seam is for. It takes no memory: the seam has all else.
+    /// Glues a part on, which has as many free ends as there were cuts when it was split off: these alternate with the rest's ends of the cuts,
+    /// so that the two ends of a cut are side by side again, the last ones last, and `join_last` undoes the cuts. Of each class as many cells
+    /// have to be free as the part has agents. The new numbers of the part's cells are written in `names`, which is as long as there are
+    /// numbers in an arena of as many cells as the seam is for. It takes no memory: the seam has all else.
     pub fn glue_on(&mut self, part: &Reducer, seam: Seam, names: &mut [CellNo])
         requires can { CanAppend self.old part.now }
         requires fewer { length part.now.free ≤ length self.old.free }

@@ -15,7 +15,7 @@ pub fn steps_keep_reducers()
     ensures { StepsKeepReducers }
 {}
 
-/// A start of an accepted program is a reducer: what is said of reducers holds of it.
+/// A start of an accepted program is a reducer: the laws on reducers hold of it.
 pub fn starts_are_reducers()
     ensures { StartsAreReducers }
 {}
@@ -36,7 +36,7 @@ pub fn steps_reduce()
     ensures { StepsReduce }
 {}
 
-/// What is reduced further is reduced by both counts together.
+/// A net that is reduced twice is reduced by both counts together.
 pub fn reductions_go_on()
     ensures { ReductionsGoOn }
 {}
@@ -46,13 +46,13 @@ pub fn parts_reduce_the_whole()
     ensures { PartsReduceTheWhole }
 {}
 
-/// What is split off is determined by the net, the agents and the cuts, but for the numbers that the part's agents get and the order of the
-/// queues.
+/// The net, the agents and the cuts determine the part that is split off and the rest, but for the numbers of the part's agents and the order
+/// of the queues.
 pub fn splits_are_alike()
     ensures { SplitsAreAlike }
 {}
 
-/// What is glued on is determined by the rest, the part and the cuts, but for the numbers that the agents get and the order of the queue.
+/// The rest, the part and the cuts determine the glued net, but for the numbers of its agents and the order of the queue.
 pub fn gluings_are_alike()
     ensures { GluingsAreAlike }
 {}

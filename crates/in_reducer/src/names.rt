@@ -7,7 +7,7 @@ pub fn are_same_is_an_equivalence()
     ensures { AreSameIsAnEquivalence }
 {}
 
-/// What is the same as a reducer up to the numbers of its agents is one.
+/// A state that is the same as a reducer up to the numbers of its agents is a reducer.
 pub fn same_are_reducers()
     ensures { SameAreReducers }
 {}
@@ -47,7 +47,7 @@ pub fn steps_can_be_renamed()
     ensures { StepsCanBeRenamed }
 {}
 
-/// .. and so does a run: whoever has done k interactions up to the numbers of agents has done them from a start under other numbers.
+/// .. and so does a run: k interactions up to the numbers of agents are k interactions from a start under other numbers.
 pub fn runs_can_be_renamed()
     ensures { RunsCanBeRenamed }
 {}
@@ -57,7 +57,7 @@ pub fn runs_up_to_numbers_go_on()
     ensures { RunsUpToNumbersGoOn }
 {}
 
-/// A run up to numbers, and then an interaction up to numbers, is one: so whoever takes the first pairs one after another keeps it.
+/// A run up to numbers, and then an interaction up to numbers, is one: so taking the first pairs one after another keeps it.
 pub fn runs_up_to_numbers_take_steps()
     ensures { RunsUpToNumbersTakeSteps }
 {}

@@ -6,7 +6,7 @@ use std::marker::Model;
 /// memory. It need not be one that the program reaches, and its free ends are its own: each is one of the program's, with its name and type,
 /// or an end of a wire that was cut, with its type and no name.
 ///
-/// A round lends its cells to workers, so its body can be named outside. Whoever changes that proves again what is kept.
+/// A round lends its cells to workers, so its body can be named outside. Code that changes it proves the invariant again.
 pub struct Reducer<'a> {
     pub body: Body<'a>,
 }

@@ -12,7 +12,7 @@ use std::mem;
 
 impl<'a> Body<'a> {
     /// The interaction of the first pair, whose template is placed in cells on lease from the arena: these are live from then on, and joined
-    /// by what stands at the pair's ports now. Other cells may be on lease, and stay so. It takes no memory.
+    /// to the present partners of the pair's ports. Other cells may be on lease, and stay so. It takes no memory.
     pub fn stitch(&mut self, done: PlacedTemplate)
         requires all { KeepsAll self.old }
         requires pair { 0 < length self.old.queue.items }

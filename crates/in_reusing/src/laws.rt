@@ -5,8 +5,8 @@ ghost use Rattle.in_reusing.specs.InPlace.{InPlaceExists, InPlaceIsAStep, InPlac
 ghost use Rattle.in_reusing.specs.StepsInPlace.{StepsInPlaceAreSame, StepsInPlaceAreSteps};
 ghost use Rattle.in_reusing.specs.Unmarked.{UnmarkedLeadNoneBack, UnmarkedPairsOfSoundNetsAreApart};
 
-/// What is said of a net in which an active pair has other numbers, all others being as they are, is said of the net itself, where no wire
-/// leads back to the pair. So new agents may have the numbers that the pair had.
+/// A net in which only an active pair has other numbers has the same partners at the pair's auxiliary ports, and the same other wires, as the
+/// net itself, if no wire leads back to the pair. So new agents may have the numbers that the pair had.
 pub fn pairs_aside_are_alike()
     ensures { PairsAsideAreAlike }
 {}
@@ -27,7 +27,7 @@ pub fn reuse_is_one()
     ensures { InPlaceIsOne }
 {}
 
-/// An interaction in place of a reducer is one up to numbers.
+/// A reducer's interaction in place is one up to numbers.
 pub fn steps_in_place_are_steps()
     ensures { StepsInPlaceAreSteps }
 {}

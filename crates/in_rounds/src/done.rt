@@ -14,8 +14,8 @@ use in_compile::{Placed, PlacedTemplate, Stock, Templates, place};
 use in_symbols::SymbolNo;
 use std::marker::Model;
 
-/// The template of a job's active pair, placed in leased cells. It names the job and the symbols of its pair, the constructor first, and keeps
-/// that what is placed is the template for these symbols, of the templates that made it.
+/// The template of a job's active pair, placed in leased cells. It names the job and the symbols of its pair, the constructor first, and its
+/// invariant is that the placed template is the one for these symbols, of the templates that made it.
 ///
 /// It is to be spent, or taken apart and settled: its cells are leased until then.
 #[derive(Drop)]
@@ -85,14 +85,14 @@ impl<'t> Done<'t> {
         self.heads
     }
 
-    /// What is placed is the template of its pair: what its proof rests on. The call does nothing.
+    /// The placed template is that of its pair: proofs use this. The call does nothing.
     pub fn is_its_template(&self)
         ensures { IsItsTemplate self.now }
     {
         use_invariant!(self.placed);
     }
 
-    /// What is placed.
+    /// The placed template.
     pub fn into_placed(self) -> PlacedTemplate<'t>
         ensures { result ≡ self.entry.placed }
     {

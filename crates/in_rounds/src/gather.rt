@@ -27,7 +27,7 @@ pub(crate) enum Slot<'t> {
     Taken,
 }
 
-/// Keeps what was done for each job of a list, by the job's number: which jobs a round has, and in which order, is this project's own choice.
+/// Keeps the result of each job of a list, by the job's number: which jobs a round has, and in which order, is this project's own choice.
 ///
 /// It is to be spent: the cells of what it keeps are leased until then.
 #[derive(Drop)]
@@ -118,8 +118,8 @@ impl<'t> Gather<'t> {
         Ok(Gather { jobs, slots })
     }
 
-    /// Keeps what was done for its job. Refused, and handed back, where the list has no job of its number with its symbols (`Stranger`,
-    /// tested first), and where one of that job was put before (`Double`), also if that was taken.
+    /// Keeps a result for its job. Refused, and handed back, if the list has no job of its number with its symbols (`Stranger`, tested
+    /// first), or if a result of that job was put before (`Double`), also if it was taken.
     pub fn put(&mut self, done: Done<'t>) -> Result<(), (Done<'t>, Why)>
         ensures { Puts self.old done.entry result self.new }
     {
@@ -134,7 +134,7 @@ impl<'t> Gather<'t> {
         Ok(())
     }
 
-    /// What is kept for the job of that number, which is then kept no more; or nothing where none is kept.
+    /// Takes out the result for the job of that number, if one is kept.
     pub fn take(&mut self, job: u32) -> Option<Done<'t>>
         ensures { TakesDone self.old job result self.new }
     {

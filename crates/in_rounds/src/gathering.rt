@@ -66,7 +66,7 @@ fn place_jobs<'t, R: Threads + Wait, G: Gate + Sync>(
 /// the most that a job can need, and passes the gate after each claim. What isn't used is free again.
 ///
 /// All memory but what starting a thread takes is taken before the first cell is lent: refused only when out of memory, and then the arena
-/// is as it was. A thread that can't be started is no fault: the caller does its part. It waits for its threads.
+/// is as it was. If a thread can't be started, the caller does its part. It waits for its threads.
 pub fn gather_jobs<'t, R: Threads + Wait, G: Gate + Sync>(
     rt: &R,
     alloc: Global,

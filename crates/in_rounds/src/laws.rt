@@ -2,27 +2,27 @@
 
 ghost use Rattle.in_rounds.specs.Laws.{PuttingLosesNone, PutsAreOne, RoundsAreSame, RoundsEnd, RoundsRunOn, TakingLosesNone, TakesAreOne};
 
-/// What is kept has the cells that it was put with, and those that were kept before.
+/// After a `put` the kept results have the cells of the new one, and those that were kept before.
 pub fn putting_loses_none()
     ensures { PuttingLosesNone }
 {}
 
-/// What is taken and what is still kept have the cells that were kept.
+/// After a `take` the taken result and the kept ones together have the cells that were kept before.
 pub fn taking_loses_none()
     ensures { TakingLosesNone }
 {}
 
-/// What `put` answers and leaves is determined by what was kept and by what is put.
+/// The kept results and the new one determine what `put` returns and keeps.
 pub fn puts_are_one()
     ensures { PutsAreOne }
 {}
 
-/// What `take` answers and leaves is determined by what was kept and by the job.
+/// The kept results and the job determine what `take` returns and keeps.
 pub fn takes_are_one()
     ensures { TakesAreOne }
 {}
 
-/// Whoever takes the first pairs in turn until there are no more jobs, or no room for the next one, does a round.
+/// Taking the first pairs in turn, one at least, until there are no more jobs or no room for the next one, is a round.
 pub fn rounds_end()
     ensures { RoundsEnd }
 {}

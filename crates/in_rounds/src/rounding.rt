@@ -20,7 +20,7 @@ use std::alloc::{AllocError, Global};
 use std::sync::Wait;
 use std::thread::Threads;
 
-/// What a round came to: how many interactions it did, and how many threads it started.
+/// The result of a round: how many interactions it did, and how many threads it started.
 #[derive(Clone, Copy, Debug, PartialEq, Eq)]
 pub struct Round {
     pub interactions: u32,

@@ -14,16 +14,16 @@ use std::sync::Wait;
 use std::thread::Threads;
 
 /// A round of `workers` workers, 1 to 64, of which the caller is one: the interactions of the first pairs of the queue, at most `budget` of
-/// them, which is at least 1. There has to be a pair, and what the first one needs has to be free.
+/// them, which is at least 1. There must be a pair, and the cells that the first one needs must be free.
 ///
 /// Each worker claims jobs, which are the first pairs by number, and places their templates, while its stock holds the most that one can need
 /// and it has room; after each claim it passes the gate. Then the caller does the interactions in turn, first in, first out, as `Machine::step`
 /// does: those whose templates were placed and the next ones, until there are no more jobs or the next pair's need isn't free. So a round does
-/// one interaction at least, and those of all jobs where what they need together is free. Which worker does which job, and how many cells each
-/// is lent, is this project's own choice and open.
+/// one interaction at least, and those of all jobs if the cells that they need together are free. Which worker does which job, and how many
+/// cells each is lent, is this project's own choice and open.
 ///
 /// All memory but what starting a thread takes is taken before the first claim: refused only when out of memory, and then the machine is as it
-/// was. A thread that can't be started is no fault: the caller does its part. It waits for its threads.
+/// was. If a thread can't be started, the caller does its part. It waits for its threads.
 pub fn round<R: Threads + Wait, G: Gate + Sync>(
     rt: &R,
     alloc: Global,

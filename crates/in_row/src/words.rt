@@ -28,7 +28,7 @@ pub fn are_principal(one: u32, other: u32) -> bool
     one % 4 == 3 && other % 4 == 3
 }
 
-/// What stands in a word.
+/// The content of a word.
 #[inline(always)]
 pub fn read(base: Base<u32>, words: &Cells<u32>, at: u32) -> u32
     requires { IsBaseOf base words.now × IsFilled words.now.slots at }

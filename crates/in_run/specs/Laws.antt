@@ -1,4 +1,4 @@
--- Laws over runs and what they come to.
+-- Laws over runs and their outcomes.
 use Rattle.std.specs.Prelude.{◌≡◌, ℕ, List, Result, Ok}
 use Rattle.in_check.specs.Checking.{IsAccepted}
 use Rattle.in_check.specs.Plain.{IsReachedBy}
@@ -42,6 +42,6 @@ abbrev pub ProgramsEndAlike : Type 0
 ProgramsEndAlike = (text : List ℕ) (p : Program) (l : Limits) (o u : Outcome) → IsAccepted text p → l.workers ≡ 1 → RunsTo p l (Ok o) → RunsTo p l (Ok u) →
     AreSame o.machine u.machine × (o.interactions ≡ u.interactions) × (o.stop ≡ u.stop)
 
--- where a run stops normally, it has come to the one end of its program, whatever workers and limits it has
+-- a run that stops as `Normal` has reached the one end of its program, with any workers and limits
 abbrev pub NormalOutcomesAreOne : Type 0
 NormalOutcomesAreOne = (text : List ℕ) (p : Program) (l : Limits) (o : Outcome) → IsAccepted text p → RunsTo p l (Ok o) → o.stop ≡ Normal → EndsOnce p o.interactions (text_of o.machine)

@@ -24,7 +24,7 @@ pub record ReachesWith (p : Program) (cells k : ℕ) (m : MachineParts) : Type 0
   pub counted : HasCells cells m
   pub reached : IsReachedBy (plain_of m) k
 
--- what a run comes to within the limits. Or there is no start; no run is refused once it has one
+-- the outcome of a run within the limits. Or there is no start; no run is refused once it has one
 abbrev pub RunsInAnyOrder : Program → Limits → Result Outcome RunFault → Type 0
 RunsInAnyOrder p l (Ok o) = ReachesWith p l.cells o.interactions o.machine × (o.interactions ≤ l.limit) × IsStop l.limit o.machine o.interactions o.stop
 RunsInAnyOrder p l (Err (Start f)) = IsNoStart p l.cells f

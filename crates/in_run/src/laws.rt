@@ -12,7 +12,7 @@ pub fn outcomes_are_same()
     ensures { OutcomesAreSame }
 {}
 
-/// A run's outcome is a machine, whatever its stop: what is said of machines holds of it.
+/// A run's outcome is a machine, whatever its stop: the laws on machines hold of it.
 pub fn outcomes_are_machines()
     ensures { OutcomesAreMachines }
 {}
@@ -33,7 +33,7 @@ pub fn programs_end_alike()
     ensures { ProgramsEndAlike }
 {}
 
-/// Where a run stops normally, it has come to the one end of its program, whatever workers and limits it has.
+/// A run that stops as `Normal` has reached the one end of its program, with any workers and limits.
 pub fn normal_outcomes_are_one()
     ensures { NormalOutcomesAreOne }
 {}

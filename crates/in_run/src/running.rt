@@ -18,7 +18,7 @@ use std::alloc::Global;
 use std::sync::Wait;
 use std::thread::Threads;
 
-/// What a run came to: its machine, how many interactions it did, and how it stopped.
+/// The outcome of a run: its machine, how many interactions it did, and how it stopped.
 #[derive(Drop)]
 pub struct Outcome<'a> {
     pub machine: Machine<'a>,
@@ -26,8 +26,8 @@ pub struct Outcome<'a> {
     pub stop: Stop,
 }
 
-/// Why a run has no outcome: there is no machine, or memory ran out after some interactions, and then the machine stands there. No run answers
-/// the second, which its contract says: a phase for which memory runs out has fewer parts.
+/// Why a run has no outcome: there is no machine, or memory ran out after some interactions, with the machine as it is then. By its contract no
+/// run returns the second: a phase for which memory runs out has fewer parts.
 #[derive(Drop)]
 pub enum RunFault<'a> {
     Start(StartFault),
@@ -52,7 +52,7 @@ fn progress_of(machine: &Machine, cells: u32, interactions: u64, pace: &Pace) ->
     }
 }
 
-/// The same as `run`, for who wants to see how far it is. Nothing that the watch does changes the run.
+/// The same as `run`, with a watch that sees how far the run is and doesn't change it.
 pub fn run_watched<'a, R: Threads, W: Watch>(
     rt: &R,
     alloc: Global,
@@ -99,11 +99,11 @@ pub fn run_watched<'a, R: Threads, W: Watch>(
 /// last. How several workers share the interactions is open: in a long run they reduce the net in parts that share nothing. Parts have no jobs,
 /// so no worker passes the gate, which is for the workers of rounds.
 ///
-/// Before each interaction, in this order: where no pair is left the run stops as `Normal`; where it did as many interactions as are allowed,
-/// as `Limit`; where the first pair needs more cells of a class than are free, tested in the order of the classes, as `Full`. Refused where
-/// no machine starts.
+/// Before each interaction, in this order: if no pair is left, the run stops as `Normal`; if it did as many interactions as are allowed, as
+/// `Limit`; if the first pair needs more cells of a class than are free, tested in the order of the classes, as `Full`. Refused if no machine
+/// starts.
 ///
-/// Where it stops as `Normal`, it has come to the one end of its program: each run that ends, its interactions in any order, has as many
+/// If it stops as `Normal`, it has reached the one end of its program: each run that ends, its interactions in any order, has as many
 /// interactions and the same text.
 pub fn run<'a, R: Threads + Wait, G: Gate + Sync>(
     rt: &R,

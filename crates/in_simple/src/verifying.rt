@@ -604,8 +604,8 @@ fn is_whole(open: &OpenNet, parts: &mut Vec<Option<Built>>) -> bool
     }
 }
 
-/// Whether the steps build this open net: each names earlier steps that fit it, each but the last is named once, each node stands
-/// in one step, and the last one's open ends are the free ends. Refused only when out of memory. What a step builds is this
+/// Whether the steps build this open net: each names earlier steps that fit it, each but the last is named once, each node is in
+/// one step, and the last one's open ends are the free ends. Refused only when out of memory. What a step builds is this
 /// project's own choice, over Lafont 1990's constructions.
 pub fn verify(alloc: Global, derivation: &Derivation, open: &OpenNet) -> Result<bool, AllocError>
     ensures { IfOk result (λ yes. IsTrue yes ↔ IsDerivation «open».now derivation.now.steps) }

@@ -21,7 +21,7 @@ abbrev pub Derives : OpenNet → Result Derivation Undone → Type 0
 Derives o (Ok d) = IsDerivation o d.steps × AreTaken o d.steps
 Derives o (Err u) = IsUndone o u
 
--- both are Ok with the same steps, or both are stuck at the same nodes; nothing is said where memory ran out
+-- both are Ok with the same steps, or both are stuck at the same nodes; running out of memory isn't covered
 abbrev pub AgreeOnDeriving : Result Derivation Undone → Result Derivation Undone → Type 0
 AgreeOnDeriving (Ok d) (Ok e) = d.steps ≡ e.steps
 AgreeOnDeriving (Ok d) (Err (Stuck s)) = ⊥

@@ -1,4 +1,4 @@
--- What the procedure comes to.
+-- The outcomes of the procedure.
 use Rattle.in_simple_deriving.specs.declared.procedure.Outcome.{Outcome}
 use Rattle.in_simple_deriving.specs.declared.procedure.Outcome.TheVariants.{Derived, First}
 use Rattle.in_open_nets.specs.OpenNets.{OpenNet}

@@ -139,7 +139,7 @@ pub record Skips (count : ℕ) (old new : Plan) : Type 0 where
 
 -- ---- the order of the tasks
 
--- the tasks come to the joints at the turns below k, and then to these
+-- the tasks yield the joints at the turns below k, and then these
 abbrev pub TakesJoints : OpenNet → ℕ → ℕ → List Joint → Plan → Type 0
 TakesJoints o n k more p = (js : List Joint) → Yields o p.tasks js → (is : List Joint) × Comes o (turns (nodes_in p.rest) n k) is × (js ≡ is ++ more)
 
@@ -157,6 +157,6 @@ WhatComes o n k old new false = (new.tasks ≡ old.tasks) × NothingAt o (nodes_
 abbrev pub WithEmpties : ℕ → Plan → Plan → Type 0
 WithEmpties count old new = new.tasks ≡ old.tasks ++ map Make (empties count)
 
--- the tasks come to the joints of a part
+-- the tasks yield the joints of a part
 abbrev pub TakesPart : OpenNet → (ℕ → Bool) → List Task → Type 0
 TakesPart o s tasks = (js : List Joint) → Yields o tasks js → Comes o (part s) js

@@ -35,7 +35,7 @@ AreSizedTasks b (Make x ∷ ts) = AreSizedTasks b ts
 abbrev pub AreBefore : OpenNet → ℕ → (ℕ → Bool) → ℕ → List Bool → Type 0
 AreBefore o n s turn done = (m : ℕ) → IsIn m (nodes_in done) ↔ ((d : ℕ → Bool) × (l : ℕ) × IsPart o n s d × ComesAt o n d l × (l < turn) × IsIn m d)
 
--- a plan for the rest, without n, has come to a turn
+-- a plan for the rest, without n, has reached a turn
 pub record IsPlanAtTurn (o : OpenNet) (n : ℕ) (turn : ℕ) (p : Plan) : Type 0 where
   pub rest_size : length p.rest ≡ length o.nodes
   pub done_size : length p.done ≡ length o.nodes

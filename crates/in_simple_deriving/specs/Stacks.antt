@@ -92,7 +92,7 @@ pub record Fits (o : OpenNet) (j : Joint) (xs : List Shape) (x : Shape) : Type 0
 
 -- ---- tasks
 
--- the joints that the tasks come to
+-- the joints that the tasks yield
 pub data Yields (o : OpenNet) : List Task → List Joint → Type 0 where
   done : Yields o [] []
   made : (j : Joint) (ts : List Task) (js : List Joint) → Yields o ts js → Yields o (Make j ∷ ts) (j ∷ js)
@@ -129,7 +129,7 @@ EndsInWhole o begun tasks = (whole : ℕ → Bool) → NoneWhere begun whole →
 abbrev pub PutsShapes : OpenNet → List Task → List Shape → Type 0
 PutsShapes o tasks xs = (below : List Shape) → RunsTasks o tasks below (below ++ xs)
 
--- with these steps behind, the tasks come to a net of all nodes, with a Link of each wire between free ends, by steps in their order
+-- after these steps, the tasks lead to a net of all nodes, with a Link of each wire between free ends, by steps in their order
 pub record IsUnderWay (o : OpenNet) (tasks : List Task) (steps : List Step) (roots : List ℕ) : Type 0 where
   pub whole : ℕ → Bool
   pub all : (n : ℕ) → IsIn n whole ↔ IsNode o n

@@ -138,8 +138,8 @@ IsNotedOf text tokens (Err (Refused r)) e =
     (at : ℕ) × IsOutcomeOfSigns (signs_of text tokens) (fault r.code at) × IsExpected text (take at (signs_of text tokens)) e
 IsNotedOf text tokens (Err (Memory m)) e = Unit {0}
 
--- what is noted of a text, and was before: it is the same where tokens are at fault, and that of its tokens where it has some; nothing is
--- said where memory ran out
+-- what is noted of a text, and was before: it is the same where tokens are at fault, and that of its tokens where it has some; running out of
+-- memory isn't covered
 abbrev pub IsNoted : List ℕ → Expected → Expected → Result Source Fault → Type 0
 IsNoted text before e (Ok source) = e ≡ expected.Nothing
 IsNoted text before e (Err (Refused r)) =

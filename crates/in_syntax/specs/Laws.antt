@@ -29,11 +29,11 @@ TextsHaveTokensOrFault = (text : List ℕ) → ((ts : List Token) × IsTokensOf 
 abbrev pub NoTextHasBoth : Type 0
 NoTextHasBoth = (text : List ℕ) (ts : List Token) (r : Refusal) → IsTokensOf text ts → IsTokenFault text r → ⊥
 
--- each token of a text stands in it
+-- each token of a text is in it
 abbrev pub TokensStandInTheirText : Type 0
 TokensStandInTheirText = (text : List ℕ) (ts : List Token) → IsTokensOf text ts → AllByRecursion (StandsIn text) ts
 
--- the tokens of a text stand in it one after another
+-- the tokens of a text are in it one after another
 abbrev pub TokensStandInOrder : Type 0
 TokensStandInOrder = (text : List ℕ) (ts : List Token) → IsTokensOf text ts → StandInOrder 0 ts
 
@@ -53,7 +53,7 @@ TextsBeginApart = (text : List ℕ) (s : Source) → IsTreeOf text s → BeginAp
 abbrev pub OneExpected : Type 0
 OneExpected = (text : List ℕ) (front : List Sign) (d e : Expected) → IsExpected text front d → IsExpected text front e → d ≡ e
 
--- what is noted of a text that is refused is one
+-- a refused text has one noted expectation
 abbrev pub TextsAreNotedOnce : Type 0
 TextsAreNotedOnce =
     (text : List ℕ) (before d e : Expected) (q r : Refusal) → IsNoted text before d (Err (Refused q)) → IsNoted text before e (Err (Refused r)) → d ≡ e

@@ -1,4 +1,4 @@
--- Where the names of a rule and of the net's equations stand, in the order of the text, each with how many terms stand in brackets after it.
+-- The names of a rule and of the net's equations, in the order of the text, each with its place and the number of terms in its brackets.
 use Rattle.std.specs.Prelude.{ℕ, Bool, true, false, List, [], ◌∷◌, ◌++◌, length, ⊤}
 use Rattle.std.specs.List.{flat_map}
 use Rattle.in_syntax.specs.declared.tree.Name.{Name}

@@ -1,4 +1,4 @@
--- How terms are walked: each name before its arguments, and each argument is told of once it was walked.
+-- How terms are walked: each name is visited before its arguments, and each argument after it was walked.
 use Rattle.std.specs.Prelude.{ℕ, ◌+◌, List, [], ◌∷◌, length, map}
 use Rattle.in_syntax.specs.declared.places.Place.{Place}
 use Rattle.in_syntax.specs.declared.tree.Name.{Name}
@@ -7,7 +7,7 @@ use Rattle.in_syntax.specs.declared.tree.Term.TheOpen.{Term-F}
 use Rattle.in_syntax.specs.declared.tree.Term.TheFolds.{fold-Term}
 use Rattle.in_syntax.specs.declared.tree.Equation.{Equation}
 
--- what a visitor S makes of each part that it is told of, and what it knows of each term
+-- what a visitor S becomes by each part that it visits, and what it knows of each term
 pub record Visits (S K : Type 0) : Type 0 where
   pub name : S → Name → ℕ → S × K
   pub argument : S → K → ℕ → K → S

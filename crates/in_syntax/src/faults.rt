@@ -4,7 +4,7 @@ ghost use Rattle.in_syntax.specs.Refusals.{refusal_of, refused, earlier_refusal}
 use crate::places::Place;
 use std::alloc::AllocError;
 
-/// What is wrong with a program. The codes are this project's own choice.
+/// The kind of a program's fault. The codes are this project's own choice.
 #[derive(Clone, Copy, Debug, PartialEq, Eq)]
 pub enum Code {
     /// No token begins here, or no well-formed character.
@@ -21,7 +21,7 @@ pub enum Code {
     E06,
     /// The number of arguments isn't the arity.
     E07,
-    /// A variable or a free name doesn't stand as often as it has to.
+    /// A variable that doesn't occur twice, or a free name that doesn't occur once.
     E08,
     /// A closed wire.
     E09,

@@ -22,12 +22,12 @@ pub fn no_text_has_both()
     ensures { NoTextHasBoth }
 {}
 
-/// Each token of a text stands in it.
+/// Each token of a text is in it.
 pub fn tokens_stand_in_their_text()
     ensures { TokensStandInTheirText }
 {}
 
-/// The tokens of a text stand in it one after another.
+/// The tokens of a text are in it one after another.
 pub fn tokens_stand_in_order()
     ensures { TokensStandInOrder }
 {}
@@ -57,7 +57,7 @@ pub fn texts_are_parsed_once()
     ensures { TextsAreParsedOnce }
 {}
 
-/// What stands at one byte of a text is one name or one `~`.
+/// At most one name or `~` begins at each byte of a text.
 pub fn texts_begin_apart()
     ensures { TextsBeginApart }
 {}
@@ -67,7 +67,7 @@ pub fn one_expected()
     ensures { OneExpected }
 {}
 
-/// What is noted of a text that is refused is one.
+/// A refused text has one noted expectation.
 pub fn texts_are_noted_once()
     ensures { TextsAreNotedOnce }
 {}

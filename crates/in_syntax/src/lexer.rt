@@ -247,7 +247,7 @@ pub fn tokens_to_end(alloc: Global, text: &[u8]) -> Result<(Vec<Token>, Place), 
 ///   comment, at which no well-formed character begins.
 /// - `E03` at the first character of a word of more than `MAX_NAME_CHARACTERS` characters.
 ///
-/// Of the last two the first in the text is answered. The other error is running out of memory.
+/// Of the last two, the first in the text is returned. The other error is running out of memory.
 pub fn tokens(alloc: Global, text: &[u8]) -> Result<Vec<Token>, Fault>
     ensures tokens { IfOk result (λ v. IsTokensOf text.now v.items) }
     ensures fault { IfErr result (RefusedBy (IsTokenFault text.now)) }

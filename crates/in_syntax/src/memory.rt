@@ -66,7 +66,7 @@ impl MemoryOut {
         })
     }
 
-    /// What was taken so far.
+    /// The bytes taken so far.
     pub fn text(&self) -> &[u8]
         ensures { result.now ≡ take self.now.taken self.now.room.items }
     {

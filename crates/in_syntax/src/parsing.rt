@@ -13,8 +13,8 @@ use std::alloc::Global;
 
 /// The tree of a program's text. It lists the names and the `~` of each rule and of the net in the order of the text.
 ///
-/// The first fault is answered, the faults of the tokens before those of the grammar:
-/// - what `tokens` refuses, with its places;
+/// Returns the first fault, the faults of the tokens before those of the grammar:
+/// - those of `tokens`, with their places;
 /// - E02, at the first token that no program continues with, or at the end of the text where a program only begins so;
 /// - E03, at the name of type `MAX_TYPES` + 1 or of symbol `MAX_SYMBOLS` + 1, at the word `rule` of rule `MAX_RULES` + 1,
 ///   at the type's name of a symbol's auxiliary port `MAX_PORTS` + 1, counted over all its classes, at free name
@@ -22,8 +22,8 @@ use std::alloc::Global;
 ///   has depth 1, an argument one more than its agent. All limits are this project's own choice.
 ///
 /// Its other error is running out of memory. The language is that of Lafont 1990: types, symbols with partitions, rules of two
-/// heads, agents and equations between terms, in signs of this project's own choice. So are the equations of a rule, which
-/// stand after its heads and the word `with`; elsewhere that word is a name.
+/// heads, agents and equations between terms, in signs of this project's own choice. So are the equations of a rule, after its heads and the
+/// word `with`; elsewhere that word is a name.
 pub fn parse(alloc: Global, text: &[u8]) -> Result<Source, Fault>
     ensures tree { Parses text.now result }
     ensures of_text { IfOk result IsOfText }

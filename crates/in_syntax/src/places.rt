@@ -1,7 +1,7 @@
 ghost use Rattle.std.specs.Prelude.{◌≡◌};
 ghost use Rattle.in_syntax.specs.Refusals.{earlier};
 
-/// Where something stands in a text.
+/// A place in a text.
 ///
 /// `from` and `to` are offsets in bytes, the first byte and the one after the last; where they are equal, the place is
 /// between two characters. `line` and `col` are those of `from`, both counted from 1: lines end with a line feed, and

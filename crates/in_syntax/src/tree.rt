@@ -212,7 +212,7 @@ fn first_of(alloc: Global, term: Term, room: usize) -> Result<Terms, AllocError>
     Ok(Terms::from_vec(terms))
 }
 
-/// Two terms that are joined, and where the `~` between them stands.
+/// Two terms that are joined, and the place of the `~` between them.
 #[derive(Drop)]
 pub struct Equation {
     pub left: Term,

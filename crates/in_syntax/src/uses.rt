@@ -8,13 +8,13 @@ use crate::walks::{Visitor, walk_equations, walk_terms};
 use sqlite_items::Items;
 use std::alloc::{AllocError, Global};
 
-/// Where a name stands in a rule or in an equation of the net, and how many terms stand in brackets after it.
+/// The place of a name in a rule or in an equation of the net, and the number of terms in brackets after it.
 #[derive(Clone, Copy)]
 pub struct NameUse {
     pub place: Place,
     /// The arguments of a term's name, or the terms of a head's.
     pub arguments: usize,
-    /// Whether it is a head's name, which has brackets even where no term stands in them.
+    /// Whether it is a head's name, which has brackets even without a term.
     pub is_head: bool,
 }
 
@@ -72,7 +72,7 @@ fn list_equations(listed: &mut Listed, equations: &[Equation]) -> Result<(), All
     walk_equations(listed, equations)
 }
 
-/// Where the names of a rule stand, in the order of the text: of its first head, of its second one, and of its equations. The word
+/// The uses of names in a rule, in the order of the text: in its first head, in its second one, and in its equations. The word
 /// before its equations is no name. The only error is running out of memory.
 pub fn names_of_rule(alloc: Global, rule: &SourceRule) -> Result<Items<NameUse>, AllocError>
     ensures { IfOk result (λ uses. uses ≡ uses_of_rule rule.now) }
@@ -86,7 +86,7 @@ pub fn names_of_rule(alloc: Global, rule: &SourceRule) -> Result<Items<NameUse>,
     Ok(listed.uses)
 }
 
-/// Where the names of the net's equations stand, in the order of the text; those that declare its free ends are not among them. The
+/// The uses of names in the net's equations, in the order of the text; those that declare its free ends are not among them. The
 /// only error is running out of memory.
 pub fn names_of_body(alloc: Global, net: &SourceNet) -> Result<Items<NameUse>, AllocError>
     ensures { IfOk result (λ uses. uses ≡ uses_of_body net.now) }

@@ -5,7 +5,7 @@ use crate::places::Place;
 use crate::tree::{Equation, Name, Term};
 use std::alloc::{AllocError, Global};
 
-/// Who is told of the names of terms, each before its arguments.
+/// A visitor of the names of terms, each before its arguments.
 pub trait Visitor {
     /// What it knows of a term that was walked.
     type Known: Copy;
@@ -50,7 +50,7 @@ pub fn walk_term<V: Visitor>(visitor: &mut V, term: &Term) -> Result<V::Known, A
     Ok(known)
 }
 
-/// Walks these terms, which are the arguments of what is known.
+/// Walks these terms, the arguments of `of`.
 pub fn walk_terms<V: Visitor>(
     visitor: &mut V,
     of: V::Known,

@@ -40,7 +40,7 @@ pub enum TokenKind {
     Meets,
 }
 
-/// A token of a text; its own text is what stands at its place.
+/// A token of a text; its own text is at its place.
 #[derive(Clone, Copy, Debug, PartialEq, Eq)]
 pub struct Token {
     pub kind: TokenKind,

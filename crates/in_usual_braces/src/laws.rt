@@ -26,7 +26,7 @@ pub fn usual_braces_decide()
     directed_circles_cross();
 }
 
-/// A circle that goes through the principal port of each of its agents excludes a derivation: in whatever braces their other ports stand,
+/// A circle that goes through the principal port of each of its agents excludes a derivation: whatever braces their other ports are in,
 /// the principal port is a class by itself.
 pub fn no_braces_mend()
     ensures { NoBracesMend }

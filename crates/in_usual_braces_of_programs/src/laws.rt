@@ -23,8 +23,8 @@ pub fn circles_are_of_agents()
     ensures { CirclesAreOfAgents }
 {}
 
-/// Where an input may stand in the braces of the outputs, the open net of a typed net is derivable exactly when no directed circle enters
-/// and leaves each of its nodes by different classes.
+/// Even if an input is in the braces of the outputs, the open net of a typed net is derivable exactly when no directed circle enters and
+/// leaves each of its nodes by different classes.
 pub fn nets_in_wide_braces()
     ensures { NetsInWideBraces }
 {
