@@ -72,7 +72,13 @@ fn begin_agents(member: &Member, arena: &mut Arena, points: &mut [EndWord])
 /// Reads what the auxiliary ports of a live agent lead to, in their order, at the points from `first` to before `to`. It has so many. `SMALL` says that
 /// its cell is known to be a small one.
 #[inline(always)]
-fn read_agent<const SMALL: bool>(arena: &Arena, cell: CellNo, first: u8, to: u8, points: &mut [EndWord])
+fn read_agent<const SMALL: bool>(
+    arena: &Arena,
+    cell: CellNo,
+    first: u8,
+    to: u8,
+    points: &mut [EndWord],
+)
     requires ports { HasPortsFor arena.now cell first to (length points.old) }
     requires small { SMALL ≡ true → IsNumberOf arena.now.cells Small cell.0 }
     ensures { HasPortsIn arena.now cell first to points.old points.new }

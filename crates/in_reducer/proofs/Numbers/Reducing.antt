@@ -1,9 +1,8 @@
 -- An interaction up to numbers is one that a net is reduced by.
-use Rattle.std.proofs.Common.{◌≡◌, ◌≤◌, ◌+◌, ℕ, sym, ap, subst, ◌∙◌, arith}
+use Rattle.std.proofs.Common.{◌≡◌, ◌≤◌, ◌+◌, ℕ, ap, subst, arith}
 use Rattle.in_arena.specs.declared.content.CellClass.{CellClass}
-use Rattle.in_check.specs.Programs.{Program}
 use Rattle.in_check.specs.Runs.{at_start}
-use Rattle.in_compile.specs.Cells.{agents_of, count_of}
+use Rattle.in_compile.specs.Cells.{count_of}
 use Rattle.in_compile.specs.declared.cells.Need.{Need}
 use Rattle.in_reducer.specs.Cutting.{net_in}
 use Rattle.in_reducer.specs.Machines.{MachineParts, parts_of}

@@ -1,7 +1,7 @@
-use Rattle.std.proofs.Common.{◌≡◌, ◌<◌, ℕ, length, sym, subst, ◌∙◌, arith}
+use Rattle.std.proofs.Common.{◌<◌, ℕ, sym, subst, ◌∙◌, arith}
 use Rattle.in_compile.specs.Members.{MemberParts}
 use Rattle.in_reducer.specs.Inside.{most_ends}
-use Rattle.in_reducer.specs.Wiring.{AreAtAgents, CanBegin, CanRead, HasBegun, retired}
+use Rattle.in_reducer.specs.Wiring.{CanBegin, CanRead, HasBegun, retired}
 use Rattle.in_reducer.proofs.wiring.read_and_begin.Goals as goal
 
 pub read_ports-requires-clause-can : goal.read_ports-requires-clause-can
