@@ -105,8 +105,8 @@ impl<'a> Reducer<'a> {
         self.template_by(templates, number, self.body.heads(number))
     }
 
-    /// How many cells of each class the interaction of the pair of that number needs: the agents of its rule's right member. They have to
-    /// be free while the pair still stands. The templates are those of the program.
+    /// How many cells of each class the interaction of the pair of that number needs: the agents of its rule's right member. They must be free
+    /// while the pair is still there. The templates are those of the program.
     pub fn need_of(&self, templates: &Templates, number: u32) -> Need
         requires templates { AreTemplatesOf self.now.program templates.now }
         requires pair { number < length self.now.queue }
@@ -195,8 +195,8 @@ impl<'a> Reducer<'a> {
 
     /// The interaction of the pair of that number, by the rule of its symbols: Lafont 1990's, which replaces the pair by the right member.
     /// The pair leaves the queue, and the new pairs come last: first those over boundary ends, by the lowest-numbered one on the path that
-    /// made each, then the right member's own. The cells of the pair are free, and those of the new agents aren't. What the pair needs has
-    /// to be free while it still stands. The templates are those of the program. It takes no memory.
+    /// made each, then the right member's own. The cells of the pair are free, and those of the new agents aren't. The cells
+    /// that the pair needs must be free while it is still there. The templates are those of the program. It takes no memory.
     pub fn step(&mut self, templates: &Templates, number: u32)
         requires templates { AreTemplatesOf self.old.program templates.now }
         requires pair { number < length self.old.queue }

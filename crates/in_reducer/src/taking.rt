@@ -126,9 +126,9 @@ impl<'a> Reducer<'a> {
         true
     }
 
-    /// Interactions of the last pair of the queue, one after another, at most `most`, the newest pair first: what was made last is still in the
-    /// cache, and a net that is reduced from there stays small. Fewer only where no pair is left, or what the last one needs isn't free with
-    /// `floor` cells of each class besides. Returns how many they were. The templates are those of the program. It takes no memory.
+    /// Interactions of the last pair of the queue, one after another, at most `most`, the newest pair first: the newest agents are still in the
+    /// cache, and such a net stays small. Fewer only if no pair is left, or the cells of the last one aren't free with `floor` more of each class.
+    /// Returns the number of interactions. The templates are those of the program. It takes no memory.
     pub fn take_newest(&mut self, templates: &Templates, floor: u32, most: u64) -> u64
         requires { AreTemplatesOf self.old.program templates.now }
         ensures reduces { ReducesTo self.old result self.new }
