@@ -309,8 +309,8 @@ def wrong_without_memory(answer, usual):
 
 
 def refused_memory(checker):
-    """Each request for memory of the C program refused in turn."""
-    refuser = Refuser(checker)
+    """Each request for memory of the C program refused in turn. Its own standard output keeps a block."""
+    refuser = Refuser(checker, gives_back=False)
     for name in WITHOUT_MEMORY:
         text = text_of(name)
         usual, counts = refuser.run([], text)

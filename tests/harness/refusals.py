@@ -1,4 +1,5 @@
-"""Each request of the program refused in turn, by a library that is preloaded; each read and write of one byte; small address spaces."""
+"""Each request of the program refused in turn, by a library that is preloaded; each read and write of one byte; small address spaces. After each
+run with that library all blocks of memory have to be given back."""
 import itertools
 import os
 import struct
@@ -16,8 +17,8 @@ WITH_THREADS = "tree_of_large_leaves"
 # Rows of which requests for memory are refused, these apart.
 OF_ROWS, APART = ["sum_of_two_and_one", "copies_added", "two_sums_and_a_zero", "agent_with_a_large_cell", "copies_side_by_side"], 3
 
-# The report of the library: requests for memory, reads, writes, writes to standard error, threads that were to start, what was refused.
-REPORT = struct.Struct("6l")
+# The report of the library: requests for memory, reads, writes, writes to standard error, threads that were to start, what was refused, blocks.
+REPORT = struct.Struct("7l")
 NOTHING, REQUEST, THREAD_START = range(3)
 ONE_BYTE = {"AT_ONCE": "1"}
 # How many bytes a write takes at once where standard output has room for so many in all.
@@ -40,13 +41,23 @@ class Report:
     tell: int
     threads: int
     refused: int
+    blocks: int
+
+    def are_given_back(self):
+        """Whether all blocks are. What the C library takes for a thread isn't counted, and it may give that back."""
+        return -self.threads <= self.blocks <= 0
+
+
+class NotGivenBack(Exception):
+    """A program that ends keeps blocks of memory."""
 
 
 class Refuser:
-    """Runs a program with the library that refuses."""
+    """Runs a program with the library that refuses. Where the program gives back all blocks before it ends, one that doesn't is a failure."""
 
-    def __init__(self, program):
+    def __init__(self, program, gives_back=True):
         self.program = program
+        self.gives_back = gives_back
         self.library = os.path.join(program.room, "refuse.so")
         self.numbers = itertools.count()
         source = os.path.join(HERE, "refuse.c")
@@ -61,6 +72,8 @@ class Refuser:
         with open(path, "rb") as file:
             report = Report(*REPORT.unpack(file.read()))
         os.remove(path)
+        if self.gives_back and answer.status is not None and not report.are_given_back():
+            raise NotGivenBack(f"{report.blocks} blocks, after {answer}")
         return answer, report
 
     def refusing(self, words, text, kind, number, **asked):

@@ -6,7 +6,8 @@
  *   REFUSE_BY     fail (the default: an error is answered) or nothing (a write that takes no byte)
  *   AT_ONCE       so many bytes at most are moved by each read and write
  *   ROOM          so many bytes in all are taken by standard output, after which each write is refused
- *   REFUSE_REPORT a file of sizeof(struct report) bytes, which holds the counts at each moment: they outlast any end
+ *   REFUSE_REPORT a file of sizeof(struct report) bytes, which holds the counts at each moment: they outlast any end. Also how many blocks
+ *                 of memory were taken and not given back, but for those that the C library takes for a thread
  *
  * The start of a thread is one request for memory, and each request that the C library makes for it is one more. The report tells
  * these from the program's own requests, since a thread that can't be started is no fault of a run.
@@ -31,6 +32,7 @@ struct report {
     long counts[KINDS];
     long threads;
     long refused;
+    long blocks;
 };
 
 static struct report unreported, *report = &unreported;
@@ -44,6 +46,7 @@ extern void *__libc_malloc(size_t);
 extern void *__libc_calloc(size_t, size_t);
 extern void *__libc_realloc(void *, size_t);
 extern void *__libc_memalign(size_t, size_t);
+extern void __libc_free(void *);
 
 static int kind_of(const char *word)
 {
@@ -78,6 +81,7 @@ __attribute__((constructor)) static void begin(void)
     if (shared == MAP_FAILED)
         return;
     report = shared;
+    report->blocks = unreported.blocks;
     refuse_kind = kind_of(getenv("REFUSE_KIND"));
     refuse_at = at ? atol(at) : 0;
 }
@@ -102,15 +106,35 @@ static int memory_is_refused(void)
     return 1;
 }
 
-void *malloc(size_t size) { return memory_is_refused() ? 0 : __libc_malloc(size); }
-void *calloc(size_t count, size_t size) { return memory_is_refused() ? 0 : __libc_calloc(count, size); }
-void *realloc(void *old, size_t size) { return memory_is_refused() ? 0 : __libc_realloc(old, size); }
-void *memalign(size_t to, size_t size) { return memory_is_refused() ? 0 : __libc_memalign(to, size); }
-void *aligned_alloc(size_t to, size_t size) { return memory_is_refused() ? 0 : __libc_memalign(to, size); }
+/* A block that was had, if it was. */
+static void *taken(void *block)
+{
+    if (block && !starts_thread)
+        __sync_add_and_fetch(&report->blocks, 1);
+    return block;
+}
+
+void *malloc(size_t size) { return memory_is_refused() ? 0 : taken(__libc_malloc(size)); }
+void *calloc(size_t count, size_t size) { return memory_is_refused() ? 0 : taken(__libc_calloc(count, size)); }
+void *memalign(size_t to, size_t size) { return memory_is_refused() ? 0 : taken(__libc_memalign(to, size)); }
+void *aligned_alloc(size_t to, size_t size) { return memory_is_refused() ? 0 : taken(__libc_memalign(to, size)); }
+
+void *realloc(void *old, size_t size)
+{
+    void *block = memory_is_refused() ? 0 : __libc_realloc(old, size);
+    return old ? block : taken(block);
+}
+
+void free(void *block)
+{
+    if (block && !starts_thread)
+        __sync_sub_and_fetch(&report->blocks, 1);
+    __libc_free(block);
+}
 
 int posix_memalign(void **made, size_t to, size_t size)
 {
-    void *it = memory_is_refused() ? 0 : __libc_memalign(to, size);
+    void *it = memory_is_refused() ? 0 : taken(__libc_memalign(to, size));
     if (!it)
         return ENOMEM;
     *made = it;

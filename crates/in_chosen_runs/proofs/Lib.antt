@@ -1,2 +1,3 @@
 mod Choices
 mod OneEnd
+mod Refused

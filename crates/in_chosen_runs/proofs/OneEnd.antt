@@ -11,10 +11,10 @@ use Rattle.in_reducer.specs.Steps.{StepsAt}
 use Rattle.in_reducer.proofs.Public.{an_equivalence, need_moved, pair_moved, same_step}
 use Rattle.in_machine.specs.Machines.{IsMachine}
 use Rattle.in_machine.specs.Taking.{TakesNoFirst}
-use Rattle.in_machine.proofs.Public.{firsts_taken_are_one, machine_on, same_start, start_machine}
+use Rattle.in_machine.proofs.Public.{firsts_taken_are_one, machine_on, machine_runs, machine_same, same_start, start_machine}
 use Rattle.in_machine.proofs.Public.{as_reducer}
 use Rattle.in_chosen_runs.specs.Choosing.{CannotStep, IsAsChosen, StepsBy}
-use Rattle.in_chosen_runs.specs.Laws.{ChosenRunsAreOne}
+use Rattle.in_chosen_runs.specs.Laws.{ChosenRunsAreMachines, ChosenRunsAreOne}
 use Rattle.in_chosen_runs.specs.declared.running.Chosen.{Chosen}
 
 turned : (m n : MachineParts) → IsMachine m → AreSame m n → AreSame n m
@@ -101,3 +101,8 @@ module _ (text : List ℕ) (p : Program) (accepted : IsAccepted text p) (choices
 
 pub chosen_runs_are_one : ChosenRunsAreOne
 chosen_runs_are_one text p choices limit cells o u accepted few h g = one_end text p accepted choices limit cells few o u h g
+
+pub chosen_runs_are_machines : ChosenRunsAreMachines
+chosen_runs_are_machines text p choices limit cells o accepted few h =
+    let on = h.in_turn in
+    machine_runs on.0 o.machine o.further (machine_same h.middle on.0 (middle text p accepted choices limit cells few o o h h).0 on.1) on.2

@@ -1,9 +1,24 @@
-//! A law over runs whose first pairs are chosen, for whoever reasons above them. No function here does anything.
+//! Laws over runs whose first pairs are chosen, for whoever reasons above them. No function here does anything.
 
-ghost use Rattle.in_chosen_runs.specs.Laws.{ChosenRunsAreOne};
+ghost use Rattle.in_chosen_runs.specs.Laws.{ChosenRunsAreMachines, ChosenRunsAreOne, ChosenRunsAreRefusedOnce, StartsAreRefusedOnce};
 
 /// An accepted program, choices and limits lead to one end: as many choices are done each time, as many interactions come after them, and the
 /// machine is one up to the numbers of its agents.
 pub fn chosen_runs_are_one()
     ensures { ChosenRunsAreOne }
+{}
+
+/// A program that `Machine::new` refuses as `Full` has no machine to start with, and one class is named, with its two numbers.
+pub fn starts_are_refused_once()
+    ensures { StartsAreRefusedOnce }
+{}
+
+/// So it has no such run, and is refused so in one way.
+pub fn chosen_runs_are_refused_once()
+    ensures { ChosenRunsAreRefusedOnce }
+{}
+
+/// What such a run of an accepted program came to is a machine: what is said of machines holds of it.
+pub fn chosen_runs_are_machines()
+    ensures { ChosenRunsAreMachines }
 {}

@@ -1,6 +1,7 @@
 //! A program for tests alone: answers what the commands of `inet` don't show of the text on standard input. The first word says what:
 //!
 //! tokens, count, tree, sizes, tables, nets     what is read, before types are looked at
+//! open                                         open nets of that, with their steps, and the first pair without a rule
 //! program, templates                           what `check` answers, and what is made of it
 //! stock ONE OTHER CELLS                        a stock for the template of these symbols, and what is placed from it
 //! verify ITEM STEP ..                          whether these steps build the net (`net`), or the rule of this number
@@ -9,6 +10,8 @@
 //! round CELLS WORKERS BUDGET STEPS HELD        a round whose first jobs wait for one another, and steps after it
 //! rounds CELLS WORKERS BUDGET ROUNDS           what a machine shows after each of these rounds
 //! steps CELLS COUNT ..                         what it shows after each of these counts of interactions in turn
+//! still CELLS COUNT NEWEST FIRST               so many interactions by each of the calls that do them, and nothing of the net
+//! written CELLS ROOM                           what of its net is written to a writer of so many bytes
 //! phases CELLS PARTS BETWEEN MOST LIMIT        a run with a phase at every chance
 //! gather ONE OTHER ONE OTHER WORD ..           what a gather of two jobs answers: `put JOB ONE OTHER`, `take JOB`
 //! workers COUNT                                six jobs that this many workers do
@@ -32,8 +35,9 @@ mod workers;
 use crate::arenas::add_over_arena;
 use crate::calls::add_all_calls;
 use crate::phases::add_phases;
-use crate::rounds::{add_round, add_rounds, add_steps};
+use crate::rounds::{add_round, add_rounds, add_steps, add_still};
 use crate::runs::add_run;
+use crate::showing::add_written;
 use in_check::Checked;
 use in_harness_texts::{Sheet, add_answer, answer, small, word};
 use in_rounds::{LEAST_CELLS, MOST_CELLS, Machine, StartFault};
@@ -70,6 +74,8 @@ fn add_of_machine<R: Threads + Wait>(
         "round" => add_round(rt, sheet, machine, words),
         "rounds" => add_rounds(rt, sheet, machine, words),
         "steps" => add_steps(sheet, machine, words),
+        "still" => add_still(sheet, machine, words),
+        "written" => add_written(sheet, machine, small(words, 3)),
         _ => add_phases(rt, sheet, machine, words),
     }
 }
@@ -130,9 +136,8 @@ fn tell<R: Print + Threads + Wait>(
 ) -> io::Result<()> {
     let mut sheet = Sheet::new(alloc);
     match word(words, 1) {
-        "run" | "calls" | "gather" | "workers" | "round" | "rounds" | "steps" | "phases" => {
-            add_checked(rt, &mut sheet, words, text)
-        }
+        "run" | "calls" | "gather" | "workers" | "round" | "rounds" | "steps" | "still"
+        | "written" | "phases" => add_checked(rt, &mut sheet, words, text),
         _ => add_answer(&mut sheet, words, text),
     }
     sheet.print(rt)

@@ -111,3 +111,12 @@ pub fn add_steps(sheet: &mut Sheet, machine: &mut Machine, words: &[String]) {
         add_view(sheet, machine);
     }
 }
+
+/// Interactions, as many as the words say, by `step`, by `take_newest` and by `take_first`, and how many each did: nothing of the net, so that
+/// whoever counts requests for memory sees those of these calls.
+pub fn add_still(sheet: &mut Sheet, machine: &mut Machine, words: &[String]) {
+    let stepped = turns(machine, number(words, 3));
+    let newest = machine.take_newest(0, number(words, 4));
+    let first = machine.take_first(number(words, 5));
+    sheet.fill("# by steps, # newest, # first\n", &[stepped, newest, first]);
+}

@@ -1,6 +1,6 @@
 //! What a machine shows, and its net as it is printed.
 use in_harness_texts::Sheet;
-use in_print::write_net;
+use in_print::{PrintFault, write_net};
 use in_rounds::{CellClass, End, Machine};
 use in_syntax::MemoryOut;
 use std::alloc::Global;
@@ -76,4 +76,26 @@ pub fn add_printed(sheet: &mut Sheet, machine: &Machine) {
 pub fn add_view(sheet: &mut Sheet, machine: &Machine) {
     add_printed(sheet, machine);
     add_machine(sheet, machine);
+}
+
+/// What came of writing a machine's net.
+fn add_came(sheet: &mut Sheet, came: Result<u64, PrintFault>) {
+    match came {
+        Ok(bytes) => sheet.fill("# bytes: ", &[bytes]),
+        Err(PrintFault::Write { written }) => sheet.fill("broken off after #: ", &[written]),
+        Err(PrintFault::Memory) => sheet.fail(),
+    }
+}
+
+/// Adds what of a machine's net a writer takes that has room for so many bytes, and then fails.
+pub fn add_written(sheet: &mut Sheet, machine: &Machine, room: u32) {
+    match MemoryOut::new(sheet.alloc, room as usize) {
+        Ok(mut writer) => {
+            let came = write_net(sheet.alloc, machine, &mut writer);
+            add_came(sheet, came);
+            sheet.say(str::from_utf8(writer.text()).unwrap_or("?"));
+            sheet.say("\n");
+        }
+        Err(_) => sheet.fail(),
+    }
 }

@@ -5,6 +5,7 @@
 mod calls;
 mod nets;
 mod only;
+mod opening;
 mod programs;
 mod queueing;
 mod reducing;
@@ -58,6 +59,7 @@ pub fn add_answer(sheet: &mut Sheet, words: &[String], text: &[u8]) {
         "sizes" => add_tree(sheet, text, Shown::Sizes),
         "tables" => add_read(sheet, text, Read::Tables),
         "nets" => add_read(sheet, text, Read::Nets),
+        "open" => add_read(sheet, text, Read::OpenNets),
         "action" => add_action(sheet, words),
         _ => add_checked(sheet, words, text),
     }

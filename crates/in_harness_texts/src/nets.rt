@@ -4,6 +4,7 @@ ghost use Rattle.in_symbols.specs.Tables.{IsSymbol};
 ghost use Rattle.in_net.specs.Built.{IsOver};
 ghost use Rattle.in_harness_texts.specs.Texts.{IsRead, IsReadProgram, IsBuilt, IsBuiltRule};
 
+use crate::opening::add_open_nets;
 use crate::sheet::Sheet;
 use in_net::{AgentNo, Net, Point, Rule, build_net, build_rule};
 use in_symbols::{PortType, SymbolNo, Symbols};
@@ -15,6 +16,7 @@ use std::alloc::{AllocError, Global};
 pub enum Read {
     Tables,
     Nets,
+    OpenNets,
 }
 
 fn add_port(sheet: &mut Sheet, port: PortType, class: u8) {
@@ -245,6 +247,7 @@ fn add_read_source(sheet: &mut Sheet, source: &Source, read: Read)
             match read {
                 Read::Tables => add_tables(sheet, &symbols),
                 Read::Nets => add_nets(sheet, source, &symbols),
+                Read::OpenNets => add_open_nets(sheet, source, &symbols),
             }
             drop(symbols);
         }

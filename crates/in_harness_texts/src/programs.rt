@@ -202,17 +202,13 @@ fn add_asked(sheet: &mut Sheet, request: &Request) {
 /// Why words ask nothing of it.
 fn add_usage(sheet: &mut Sheet, usage: &Usage) {
     match usage {
-        Usage::Help(text) => {
-            sheet.say("help: ");
-            sheet.say(text.as_str());
-        }
-        Usage::Wrong(text) => {
-            sheet.say("wrong: ");
-            sheet.say(text.as_str());
-        }
-        Usage::Version => sheet.say("version\n"),
-        Usage::Memory => sheet.fail(),
+        Usage::Help(_) => sheet.say("help: "),
+        Usage::Wrong(_) => sheet.say("wrong: "),
+        Usage::Version => {}
+        Usage::Memory => return sheet.fail(),
     }
+    sheet.tell(usage);
+    sheet.say("\n");
 }
 
 fn add_action_of(sheet: &mut Sheet, words: &[&str]) {

@@ -1,7 +1,7 @@
 //! What is printed. That memory ran out is kept until the end, so that code which writes has one way out.
 use in_syntax::{Fault, Place, Refusal};
 use std::alloc::Global;
-use std::fmt::Debug;
+use std::fmt::{Debug, Display};
 use std::io;
 
 /// How many bytes there is memory for from the beginning on.
@@ -66,6 +66,13 @@ impl Sheet {
     /// Goes on with what is shown so.
     pub fn show<D: Debug>(&mut self, shown: &D) {
         if write!(self.lines, "{shown:?}").is_err() {
+            self.fail();
+        }
+    }
+
+    /// Goes on with what is told so.
+    pub fn tell<D: Display>(&mut self, told: &D) {
+        if write!(self.lines, "{told}").is_err() {
             self.fail();
         }
     }

@@ -24,6 +24,7 @@ fn sixteen_leases_of_sixteen(rt: HostRuntime) -> Result<(), Fail> {
         16,
         (CellClass::Small, 16),
     );
+    one_back(&rt, &mut arena, CellClass::Small, 16);
     Ok(())
 }
 

@@ -1,0 +1,85 @@
+//! Open nets, the steps that build them, and the rule of each pair, by direct calls on what is read, before types are looked at.
+ghost use Rattle.std.specs.Prelude.{◌<◌, length};
+ghost use Rattle.in_harness_texts.specs.Texts.{IsReadProgram};
+
+use crate::sheet::Sheet;
+use in_cover::cover;
+use in_net::{build_net, build_rule};
+use in_open_nets_of_programs::laws::{
+    tables_are_numbered, text_nets_are_all_there, text_rules_are_whole,
+};
+use in_simple::{OpenNet, Undone, derive, open_net, open_rule};
+use in_symbols::Symbols;
+use in_syntax::{Fault, Source};
+use std::alloc::Global;
+
+/// The open net of the rule of that number.
+fn rule_opened(
+    alloc: Global,
+    source: &Source,
+    symbols: &Symbols,
+    number: u32,
+) -> Result<OpenNet, Fault>
+    requires program { IsReadProgram source.now symbols.now }
+    requires number { number < length source.now.rules }
+{
+    tables_are_numbered();
+    text_rules_are_whole();
+    let rule = build_rule(alloc, source, symbols, number)?;
+    Ok(open_rule(alloc, symbols, &rule)?)
+}
+
+/// The open net of the program's net.
+fn net_opened(alloc: Global, source: &Source, symbols: &Symbols) -> Result<OpenNet, Fault>
+    requires { IsReadProgram source.now symbols.now }
+{
+    tables_are_numbered();
+    text_nets_are_all_there();
+    let net = build_net(alloc, source, symbols)?;
+    Ok(open_net(alloc, symbols, &net)?)
+}
+
+/// How many nodes and wires an open net has, and how many steps build it, or how many nodes are stuck.
+fn add_derived(sheet: &mut Sheet, shape: &OpenNet) {
+    let counts = [shape.nodes() as u64, shape.wires() as u64];
+    sheet.fill("# nodes, # wires, ", &counts);
+    match derive(sheet.alloc, shape) {
+        Ok(found) => sheet.fill("# steps\n", &[found.steps.len() as u64]),
+        Err(Undone::Stuck(stuck)) => sheet.fill("stuck: #\n", &[stuck.nodes.len() as u64]),
+        Err(Undone::Memory(_)) => sheet.fail(),
+    }
+}
+
+fn add_opened(sheet: &mut Sheet, opened: Result<OpenNet, Fault>) {
+    match opened {
+        Ok(shape) => {
+            add_derived(sheet, &shape);
+            drop(shape);
+        }
+        Err(fault) => sheet.add_fault(&fault),
+    }
+}
+
+/// What is said of a pair without a rule, where there are no rules at all.
+fn add_uncovered(sheet: &mut Sheet, symbols: &Symbols) {
+    match cover(sheet.alloc, symbols, &[]) {
+        Ok(table) => {
+            drop(table);
+            sheet.say("no pair\n");
+        }
+        Err(fault) => sheet.add_fault(&fault),
+    }
+}
+
+/// The open nets of the rules and of the net, and then the first pair that has no rule where there are none.
+pub fn add_open_nets(sheet: &mut Sheet, source: &Source, symbols: &Symbols)
+    requires { IsReadProgram source.now symbols.now }
+{
+    for number in 0..source.rules.len() as u32 {
+        let opened = rule_opened(sheet.alloc, source, symbols, number);
+        add_opened(sheet, opened);
+    }
+    let opened = net_opened(sheet.alloc, source, symbols);
+    add_opened(sheet, opened);
+    add_uncovered(sheet, symbols);
+}
