@@ -1,9 +1,9 @@
 // ---- Several workers, each a thread. They give pairs to who has none, and letters about wires go between them (to_c_wires.c).
 
 #ifdef STRESS
-enum { FIRST_ALONE = 0, LEAST_ALONE = 40, MOST_ALONE = 400, WINDOW = 30, ACCOUNTED = 1, LOOKED_AT = 2, SPIN = 10, SPARE_WORDS = 1 };
+enum { FIRST_ALONE = 0, LEAST_ALONE = 40, MOST_ALONE = 400, WINDOW = 200, ACCOUNTED = 1, LOOKED_AT = 2, SPIN = 10, SPARE_WORDS = 1 };
 enum { LEAST_PAIRS = 1, MOST_GIVEN = 3, MOST_IN_GIFT = 9, FIRST_PAIRS = 4, REFUSED_TIMES = 1, MOST_PATIENCE = 2, MOST_REVERSED = 32 };
-enum { WAITED = 2, MOST_REACH = 20, LASTS = 6, PAIR_LASTS = 2, AGENT_LASTS = 1, LASTS_LONG = 20 };
+enum { WAITED = 2, MOST_REACH = 20, LASTS = 6, PAIR_LASTS = 3, AGENT_LASTS = 0, LASTS_LONG = 20 };
 #else
 // In interactions: a run begins with one worker; where within a window of all together it doesn't pay, one goes on alone, for three times as long
 // each time.
@@ -47,6 +47,10 @@ static struct {
 // are lists of free cells, and how often somebody looked for one.
 static _Atomic int hungry;
 static _Atomic bool is_parting, is_done;
+#ifdef STRESS
+#include <sched.h>
+static _Atomic int begun;
+#endif
 static _Atomic size_t lists, lacking;
 // What pairs with a destructor were worth to who got them, by its tag: below 0, no more of them are given away, until others are none either.
 static _Atomic int worth[SYMBOLS + 1];
@@ -278,6 +282,14 @@ static void begin(int count) {
   team.active = count;
   SET(is_parting, false);
   pthread_cond_broadcast(&team.parted);
+#ifdef STRESS
+  // A small net would be reduced before they are there.
+  while ((LOOK_AT(begun) < team.size - 1 || team.parked > team.size - count) && !LOOK_AT(is_parting) && !LOOK_AT(is_done)) {
+    leave();
+    sched_yield();
+    enter();
+  }
+#endif
 }
 
 // Whether it pays that all work together; else all but the first are to park. (locked)
@@ -287,7 +299,7 @@ static void judge(void) {
   bool pays = team.done >= PAYS * team.cost;
 #ifdef STRESS
   static int judgements;
-  pays = ++judgements % 3 > 0;
+  pays = ++judgements % 8 > 0;
   team.by_others = team.done;
 #endif
   team.has_paid = pays && (team.has_paid || team.by_others >= team.done / 8);
@@ -514,6 +526,9 @@ static void reverse(struct worker *w, ptrdiff_t words) {
 
 static void *work(void *given) {
   struct worker *w = given;
+#ifdef STRESS
+  if (w != workers) atomic_fetch_add(&begun, 1);
+#endif
   while (find_work(w)) {
     int64_t slice = w->fuel < SLICE ? w->fuel : SLICE;
     size_t words = (size_t)slice * WORDS;
