@@ -3,7 +3,7 @@
 #ifdef STRESS
 enum { FIRST_ALONE = 0, LEAST_ALONE = 40, MOST_ALONE = 400, WINDOW = 200, ACCOUNTED = 1, LOOKED_AT = 2, SPIN = 10, SPARE_WORDS = 1 };
 enum { LEAST_PAIRS = 1, MOST_GIVEN = 3, MOST_IN_GIFT = 9, FIRST_PAIRS = 4, REFUSED_TIMES = 1, MOST_PATIENCE = 2, MOST_REVERSED = 32 };
-enum { WAITED = 2, MOST_REACH = 20, LASTS = 6, PAIR_LASTS = 3, AGENT_LASTS = 0, LASTS_LONG = 20 };
+enum { LASTS = 6, PAIR_LASTS = 3, AGENT_LASTS = 0, LASTS_LONG = 20 };
 #else
 // In interactions: a run begins with one worker; where within a window of all together it doesn't pay, one goes on alone, for three times as long
 // each time.
@@ -16,10 +16,9 @@ enum { LOOKED_AT = 64, LEAST_PAIRS = 2, MOST_GIVEN = 256, MOST_IN_GIFT = 4096 };
 enum { FIRST_PAIRS = 128, REFUSED_TIMES = 64, MOST_PATIENCE = 256 };
 // Where a slice made more pairs than that, their order stays.
 enum { MOST_REVERSED = 32 };
-// A worker gives pairs away once the oldest one has waited for so many interactions. At most so many agents come with each agent of a pair. Who
-// comes back for pairs sooner than after so many interactions gets more of them. Pairs were worth it where they lasted for some interactions, and
-// for some more for each agent that came with them. Gifts that last so long say that there is work to be shared.
-enum { WAITED = 4000, MOST_REACH = 16384, LASTS = 5000, PAIR_LASTS = 500, AGENT_LASTS = 12, LASTS_LONG = 20000 };
+// Who comes back for pairs sooner than after so many interactions gets more of them. Pairs were worth it where they lasted for some interactions,
+// and for some more for each agent that came with them. Gifts that last so long say that there is work to be shared.
+enum { LASTS = 5000, PAIR_LASTS = 500, AGENT_LASTS = 12, LASTS_LONG = 20000 };
 // How often a worker that has nothing to do looks for letters before it waits. And how many words of memory it has before it takes free cells of
 // others.
 enum { SPIN = 500, SPARE_WORDS = 1 << 20 };
@@ -175,21 +174,10 @@ static void forget_worth(void) {
   for (int tag = 0; tag <= SYMBOLS; tag++) SET(worth[tag], 1);
 }
 
-// Whether the oldest pair has waited for as long as a gift should last: what others made meanwhile is often as much as it makes itself. Of the one
-// behind a pair that was given away half as much is taken to be true.
-static bool is_old(struct worker *w) {
-  word oldest = w->bottom[0] + w->bottom[1];
-  if (w->oldest != oldest) {
-    w->oldest = oldest;
-    w->oldest_at = w->done;
-  }
-  return w->done - w->oldest_at >= WAITED;
-}
-
 // Gives some of the oldest pairs, which tend to be the ones with most work, to who has none: such as have the same destructor, the one
 // that was worth most.
 static void give_pairs(struct worker *w) {
-  size_t pairs = (size_t)(w->sp - w->bottom) / 2, most = pairs < 8 ? 1 : pairs / 4, first = 0, given = 0, agents = 0, reach = 0;
+  size_t pairs = (size_t)(w->sp - w->bottom) / 2, most = pairs < 8 ? 1 : pairs / 4, first = 0, given = 0, agents = 0;
   size_t looked_at = pairs < FIRST_PAIRS ? pairs : FIRST_PAIRS;
   int best = -1;
   for (size_t k = 0; k < looked_at; k++) {
@@ -221,7 +209,6 @@ static void give_pairs(struct worker *w) {
   if (to) {
     to->is_promised = true;
     if (most > to->portion) most = to->portion;
-    reach = to->reach;
   }
   tell_hungry();
   leave();
@@ -232,13 +219,11 @@ static void give_pairs(struct worker *w) {
     if (TAG(own[1]) != tag) continue;
     pair[0] = front[0];
     pair[1] = front[1];
-    agents += put_pair(w, &w->gift, own, reach);
+    agents += put_pair(w, &w->gift, own, MOST_IN_PAIR);
     given++;
   }
   w->bottom += 2 * given;
   w->cost += (int64_t)(LETTER_COSTS * given);
-  if (has_pairs(w)) w->oldest = w->bottom[0] + w->bottom[1];
-  w->oldest_at = (w->oldest_at + w->done) / 2;
   enter();
   if (!to->in.count) swap(&to->in, &w->gift);
   deliver(to, w->gift.items, w->gift.count);
@@ -259,9 +244,6 @@ static void judge_gift(struct worker *w) {
   if (lasted >= LASTS_LONG) SET(patience, 1);
   bool was_worth = lasted >= PAIR_LASTS + AGENT_LASTS * w->gift_agents;
   SET(worth[w->gift_tag], was_worth ? value < 3 ? value + 2 : 4 : value > -1 ? value - 1 : -1);
-  // A gift that lasted long for what came with it may be a larger one, of larger trees.
-  if (lasted < AGENT_LASTS * w->gift_agents) w->reach = MOST_IN_PAIR;
-  else if (lasted >= 2 * AGENT_LASTS * w->gift_agents && w->gift_agents >= (int64_t)w->reach && w->reach < MOST_REACH) w->reach *= 2;
   w->portion = lasted >= LASTS ? (w->portion + 1) / 2 : w->portion < MOST_GIVEN ? 2 * w->portion : MOST_GIVEN;
   w->gift_tag = 0;
 }
@@ -424,9 +406,7 @@ static void look_around(struct worker *w) {
     w->lacked = LOOK_AT(lacking);
     leave();
   }
-  if ((size_t)(w->sp - w->bottom) / 2 < LEAST_PAIRS) return;
-  bool gives = is_old(w);
-  if (gives && LOOK_AT(hungry) > 0 && !LOOK_AT(is_parting)) give_pairs(w);
+  if (LOOK_AT(hungry) > 0 && !LOOK_AT(is_parting) && (size_t)(w->sp - w->bottom) / 2 >= LEAST_PAIRS) give_pairs(w);
 }
 
 // Whether a worker has something to do, for which it waits; if not, all have ended.
@@ -559,7 +539,6 @@ static int64_t run(int64_t limit) {
   for (int k = 0; k < worker_count; k++) {
     workers[k].number = k;
     workers[k].portion = 1;
-    workers[k].reach = MOST_IN_PAIR;
     if (pthread_cond_init(&workers[k].called, 0)) out_of_memory();
   }
   w->fuel = limit;
