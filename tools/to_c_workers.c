@@ -18,7 +18,7 @@ enum { FIRST_PAIRS = 128, REFUSED_TIMES = 64, MOST_PATIENCE = 256 };
 enum { MOST_REVERSED = 32 };
 // Who comes back for pairs sooner than after so many interactions gets more of them. Pairs were worth it where they lasted for some interactions,
 // and for some more for each agent that came with them. Gifts that last so long say that there is work to be shared.
-enum { LASTS = 5000, PAIR_LASTS = 500, AGENT_LASTS = 12, LASTS_LONG = 20000 };
+enum { LASTS = 15000, PAIR_LASTS = 500, AGENT_LASTS = 12, LASTS_LONG = 20000 };
 // How often a worker that has nothing to do looks for letters before it waits. And how many words of memory it has before it takes free cells of
 // others.
 enum { SPIN = 500, SPARE_WORDS = 1 << 20 };
@@ -266,7 +266,8 @@ static void begin(int count) {
   pthread_cond_broadcast(&team.parted);
 #ifdef STRESS
   // A small net would be reduced before they are there.
-  while ((LOOK_AT(begun) < team.size - 1 || team.parked > team.size - count) && !LOOK_AT(is_parting) && !LOOK_AT(is_done)) {
+  int others = team.size > count ? team.size - count : 0;
+  while ((LOOK_AT(begun) < team.size - 1 || team.parked > others) && !LOOK_AT(is_parting) && !LOOK_AT(is_done)) {
     leave();
     sched_yield();
     enter();
@@ -307,7 +308,8 @@ static void come_together(struct worker *w) {
     for (int k = 0; k < team.size; k++) {
       struct worker *other = &workers[k];
       post(other);
-      is_more |= other->in.count > 0;
+      if (!other->in.count) continue;
+      is_more = true;
       read_words(other, other->in.items, other->in.count);
       other->in.count = 0;
       SET(other->letters, 0);
