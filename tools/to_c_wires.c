@@ -132,7 +132,18 @@ static size_t put_agent(struct worker *w, struct words *to, word agent, struct p
   unsigned symbol = symbol_of(agent, port);
   put_words(to, (word[]){AT(agent) ? ON_WAY(agent, symbol) : agent}, 1);
   if (!AT(agent)) return 1;
-  for (size_t waiting = 0, taken = 1;;) {
+  for (size_t waiting = 0, taken = 1;; taken++) {
+    // Numbers are long chains, on which the loop below takes twice as long.
+    for (; symbols[symbol].arity == 1 && taken < most; taken++) {
+      word *cell = AT(agent), end = *cell;
+      if (!TAG(end) || !AT(end)) break;
+      *cell = (word)(uintptr_t)w->free[1];
+      w->free[1] = cell;
+      symbol = symbol_of(end, symbols[symbol].ports[0]);
+      if (to->count == to->room) to->items = grown(to->items, &to->room, to->count + 1, sizeof(word));
+      to->items[to->count++] = ON_WAY(end, symbol);
+      agent = end;
+    }
     const struct port *ports = symbols[symbol].ports;
     size_t arity = symbols[symbol].arity, first = to->count;
     word *cell = AT(agent);
@@ -159,7 +170,6 @@ static size_t put_agent(struct worker *w, struct words *to, word agent, struct p
     struct part next = w->parts[--waiting];
     agent = next.agent;
     symbol = next.symbol;
-    taken++;
   }
 }
 
@@ -214,6 +224,15 @@ static word take_agent(struct worker *w, const word **words) {
   if (!AT(whole)) return whole;
   for (size_t waiting = 0;;) {
     const struct symbol *symbol = &symbols[(*at >> 16) - 1];
+    // As above.
+    for (word end = **words; symbol->arity == 1 && !(TAG(end) & SHARED) && AT(end); end = **words) {
+      word *cell = new_cell(w, 1);
+      *at = WIRE(cell) | TAG(*at);
+      at = cell;
+      *at = end;
+      symbol = &symbols[(end >> 16) - 1];
+      ++*words;
+    }
     size_t arity = symbol->arity;
     word *cell = new_cell(w, arity);
     const word *ends = *words;
