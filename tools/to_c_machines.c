@@ -30,14 +30,13 @@ static struct {
   int size;
   bool is_together, is_over, is_gathering;
   // Of each process the letters that wait for it.
-  struct post { word *words; size_t count, room; } *posts;
+  struct words *posts;
   // Messages on their way, which keep their words until they have left.
   struct sent { MPI_Request request; word *words; } *on_way;
   size_t on_way_count, on_way_room;
-  // Words of the message that is read, and what is still to be written of a tree.
+  // Words of the message that is read.
   word *read;
-  struct part { word end; struct port port; } *tree;
-  size_t read_room, tree_room;
+  size_t read_room;
   struct report own;
   // Whom it asks for pairs next, and whether one was asked; when it is to look for messages and to report.
   int next;
@@ -95,72 +94,28 @@ static void clear_sent(void) {
   }
 }
 
-static void put_word(struct post *post, word value) {
-  post->words = grown(post->words, &post->room, post->count + 1, sizeof(word));
-  post->words[post->count++] = value;
-}
-
-// An agent that is ready to leave, and what hangs at it: the tags, each before what is at its ports. Its cells are free then.
-static void put_tree(struct worker *w, struct post *post, word agent, struct port port) {
-  for (size_t waiting = 0;;) {
-    if (TAG(agent) & SHARED) put_word(post, agent);
-    else {
-      const struct symbol *symbol = &symbols[symbol_of(agent, port)];
-      word *cell = AT(agent);
-      put_word(post, TAG(agent));
-      team.tree = grown(team.tree, &team.tree_room, waiting + symbol->arity, sizeof *team.tree);
-      for (int k = symbol->arity; k-- > 0;) team.tree[waiting++] = (struct part){cell[k], symbol->ports[k]};
-      if (symbol->arity) {
-        *cell = (word)(uintptr_t)w->free[symbol->arity];
-        w->free[symbol->arity] = cell;
-      }
-    }
-    if (!waiting) return;
-    struct part next = team.tree[--waiting];
-    agent = next.end;
-    port = next.port;
-  }
-}
-
-static void post_letter(struct worker *w, struct post *post, struct letter letter) {
-  put_word(post, letter.to);
-  team.letters++;
-  if (letter.to) {
-    put_word(post, letter.other);
-    if (TAG(letter.what) & SHARED) put_word(post, letter.what);
-    else put_tree(w, post, letter.what, port_of(letter.other));
-  } else {
-    struct port port = {destructor_types[TAG(letter.other) - 1], 1, 0};
-    put_word(post, kind_of(port));
-    put_tree(w, post, letter.what, port);
-    put_tree(w, post, letter.other, opposite(port));
-  }
-}
-
 // Sends the letters to a process that are as many words at least.
 static void send_post(struct worker *w, int to, int kind, size_t least) {
-  struct post *post = &team.posts[to];
+  struct words *post = &team.posts[to];
   if (post->count < least) return;
   w->cost += MESSAGE_COSTS + WORD_COSTS * (int64_t)post->count;
   if (kind == LETTERS) team.own.sent++;
-  send_words(to, kind, post->words, post->count);
-  *post = (struct post){0, 0, 0};
+  send_words(to, kind, post->items, post->count);
+  *post = (struct words){0, 0, 0};
 }
 
 static void post_all(struct worker *w, size_t least) {
-  for (size_t k = 0; k < w->out_count; k++) post_letter(w, &team.posts[HOME(w->out[k].to)], w->out[k]);
-  w->out_count = 0;
+  for (size_t k = 0; k < w->out.count;) {
+    word head = w->out.items[k++];
+    put_words(&team.posts[TAG(head)], w->out.items + k, head >> 16);
+    k += head >> 16;
+    team.letters++;
+  }
+  w->out.count = 0;
   for (int k = 0; k < team.size; k++) send_post(w, k, LETTERS, least);
 }
 
 // ---- What comes. While all is gathered, each wire gets a home in process 0.
-
-// Agents come as words, and are built here.
-static word *settled(struct worker *w, word *cell, size_t size) {
-  (void)w;
-  (void)size;
-  return cell;
-}
 
 static size_t wire_place(word wire) {
   size_t k = (size_t)(wire * 0x9e3779b97f4a7c15u >> 20) & (team.wire_room - 1);
@@ -168,8 +123,8 @@ static size_t wire_place(word wire) {
   return k;
 }
 
-static word own_wire(struct worker *w, word wire) {
-  if (!team.is_gathering || !wire || is_home(w, wire)) return wire;
+static word wire_here(struct worker *w, word wire) {
+  if (!team.is_gathering || is_home(w, wire)) return wire;
   if (2 * team.wire_count >= team.wire_room) {
     struct wire *wires = team.wires;
     size_t room = team.wire_room;
@@ -185,42 +140,6 @@ static word own_wire(struct worker *w, word wire) {
     team.wire_count++;
   }
   return at->own;
-}
-
-// The tree whose words begin here.
-static word take_tree(struct worker *w, const word **at, struct port port) {
-  word whole = 0;
-  w->walk = grown(w->walk, &w->walk_room, 1, sizeof *w->walk);
-  w->walk[0] = (struct place){&whole, port};
-  for (size_t waiting = 1; waiting;) {
-    struct place place = w->walk[--waiting];
-    word value = *(*at)++;
-    if (TAG(value) & SHARED) {
-      *place.at = own_wire(w, value);
-      continue;
-    }
-    const struct symbol *symbol = &symbols[symbol_of(value, place.port)];
-    word *cell = symbol->arity ? new_cell(w, symbol->arity) : 0;
-    *place.at = WIRE(cell) | value;
-    w->walk = grown(w->walk, &w->walk_room, waiting + symbol->arity, sizeof *w->walk);
-    for (int k = symbol->arity; k-- > 0;) w->walk[waiting++] = (struct place){cell + k, symbol->ports[k]};
-  }
-  return whole;
-}
-
-static void take_letters(struct worker *w, const word *at, size_t count) {
-  for (const word *end = at + count; at < end;) {
-    word to = own_wire(w, *at++), kind = *at++;
-    struct port port = port_of(kind);
-    if (to) {
-      bool is_wire = TAG(*at) & SHARED;
-      word what = is_wire ? own_wire(w, *at++) : take_tree(w, &at, port);
-      read_letter(w, (struct letter){to, what, kind});
-    } else {
-      word c = take_tree(w, &at, port), d = take_tree(w, &at, opposite(port));
-      read_letter(w, (struct letter){0, c, d});
-    }
-  }
 }
 
 // ---- Reports. Process 0 has one of its own.
@@ -258,11 +177,9 @@ static void report(struct worker *w, int64_t wave) {
 
 // ---- Pairs that are given away.
 
-static void give_pair(struct worker *w, int to, word *pair, size_t most) {
-  struct port port = {destructor_types[TAG(pair[1]) - 1], 1, 0};
-  detach(w, pair[0], port, most);
-  detach(w, pair[1], opposite(port), most);
-  post_letter(w, &team.posts[to], (struct letter){0, pair[0], pair[1]});
+static void give_pair(struct worker *w, int to, const word *pair, size_t most) {
+  put_pair(w, &team.posts[to], pair, most);
+  team.letters++;
 }
 
 // Without interactions that it may do, a process gives none: it has said that it is idle, and who is idle sends no letters.
@@ -319,7 +236,7 @@ static void take_figures(int number, struct figures f) {
 
 // All that a process has goes to process 0: pairs, what is left at its stubs, and which wires go on as which.
 static void gather(struct worker *w) {
-  struct post *post = &team.posts[0];
+  struct words *post = &team.posts[0];
   for (; has_pairs(w); w->bottom += 2) give_pair(w, 0, w->bottom, SIZE_MAX);
   // A walk may make further stubs, and the table of their blocks anew.
   for (bool is_more = true; is_more;) {
@@ -328,8 +245,9 @@ static void gather(struct worker *w) {
       if (TAG(s->here) && !(TAG(s->here) & SHARED)) {
         word here = s->here;
         s->here = 0;
-        detach(w, here, s->port, SIZE_MAX);
-        post_letter(w, post, (struct letter){s->wire, here, kind_of(s->port)});
+        put_words(post, (word[]){s->wire, kind_of(s->port)}, 2);
+        put_agent(w, post, here, s->port, SIZE_MAX);
+        team.letters++;
         is_more = true;
       }
   }
@@ -342,10 +260,11 @@ static void gather(struct worker *w) {
       next = other->wire;
       other->here = 0;
     }
-    post_letter(w, post, (struct letter){s->wire, next, 0});
+    put_words(post, (word[]){s->wire, 0, next}, 3);
+    team.letters++;
   }
   struct figures figures = own_figures(w);
-  for (size_t k = 0; k < FIGURES; k++) put_word(post, (word)((int64_t *)&figures)[k]);
+  put_words(post, (word *)&figures, FIGURES);
   send_post(w, 0, GATHERED, 1);
 }
 
@@ -356,7 +275,7 @@ static void take_message(struct worker *w, int from, int kind, const word *words
   case LETTERS:
     team.own.received++;
     team.is_asking = false;
-    take_letters(w, words, count);
+    read_words(w, words, count);
     break;
   case HUNGRY: give_pairs(w, from, words[0]); break;
   case NONE: team.is_asking = false; break;
@@ -382,7 +301,7 @@ static void take_message(struct worker *w, int from, int kind, const word *words
   case GATHERED: {
     struct figures figures;
     memcpy(&figures, words + count - FIGURES, sizeof figures);
-    take_letters(w, words, count - FIGURES);
+    read_words(w, words, count - FIGURES);
     take_figures(from, figures);
     team.gathered++;
     break;
@@ -590,10 +509,10 @@ static int64_t run(int64_t limit) {
   take_figures(0, own_figures(w));
   // The own stubs of wires whose home is elsewhere, and wires that go on as such, get a home here.
   for (struct stub *s = next_stub(w, 0); s; s = next_stub(w, s))
-    if (TAG(s->here) & SHARED) s->here = own_wire(w, s->here);
+    if (TAG(s->here) & SHARED) s->here = wire_here(w, s->here);
   while (w->end_count) {
     struct stub *s = w->ends[w->end_count - 1];
-    word here = s->here, wire = own_wire(w, s->wire);
+    word here = s->here, wire = wire_here(w, s->wire);
     struct port port = s->port;
     free_end(w, s);
     if (TAG(here)) come(w, wire, here, port);

@@ -6,12 +6,14 @@
 // `here` is what is joined to the stub from inside: a word as at any port; 0 where this end has left its home; or another wire as which this one
 // goes on. `port` is what may be there. A stub that isn't its wire's home stands at `place` in a list.
 struct stub { word here, wire; struct port port; uint32_t place; };
-// A wire as it is written at a port of an agent on its way, and in letters: the address of the stub at home, and which worker that is.
+// A wire in letters: the address of the stub at home, and which worker that is.
 #define HOME(wire) ((int)(TAG(wire) & ~SHARED))
 #define STUB(wire) ((struct stub *)AT(wire))
-// A letter about a wire: an agent that has come to its other end, of this kind; or, where `what` is a wire, as what it goes on. Or a pair, of which
-// `to` is 0.
-struct letter { word to, what, other; };
+// A letter about a wire is that wire, a kind, and an agent of this kind that has come to its other end; or the wire as which it goes on. A letter
+// about a pair is 0, the constructor's kind, and both agents. An agent on its way is a word with its tag and, where it has a cell, its symbol from 1
+// on; then come the words of its cell, and those of the cells of the agents in it. Where a worker keeps letters to several, each comes behind its
+// length and the home that it is for.
+#define ON_WAY(agent, symbol) ((word)TAG(agent) | (word)((symbol) + 1) << 16)
 // How many agents leave together at most: in a pair, which is to be work for a while, and in another letter. What hangs at them further on stays,
 // and who comes to it is sent here.
 #ifdef STRESS
@@ -104,6 +106,12 @@ static bool is_home(const struct worker *w, word wire) { return HOME(wire) == w-
 
 // ---- Agents that leave and come.
 
+static void put_words(struct words *to, const word *items, size_t count) {
+  to->items = grown(to->items, &to->room, to->count + count, sizeof(word));
+  if (count) memcpy(to->items + to->count, items, count * sizeof(word));
+  to->count += count;
+}
+
 // The wire that leads from a port of an agent that leaves to this word, at which that is found.
 static word wire_to(struct worker *w, word *at, struct port port) {
   if (!is_stub(w, at)) {
@@ -118,27 +126,59 @@ static word wire_to(struct worker *w, word *at, struct port port) {
   return wire;
 }
 
-// An agent, and at most so many with it that hang at it, are made ready to leave: all wires that lead elsewhere get a home. How many leave.
-static size_t detach(struct worker *w, word agent, struct port port, size_t most) {
+// An agent leaves in a letter, and at most so many with it that hang at it: all wires that lead elsewhere get a home, and the cells are free. How
+// many leave.
+static size_t put_agent(struct worker *w, struct words *to, word agent, struct port port, size_t most) {
+  unsigned symbol = symbol_of(agent, port);
+  put_words(to, (word[]){AT(agent) ? ON_WAY(agent, symbol) : agent}, 1);
   if (!AT(agent)) return 1;
-  for (size_t waiting = 0, taken = 1;;) {
-    const struct symbol *symbol = &symbols[symbol_of(agent, port)];
-    word *cell = AT(agent);
-    w->walk = grown(w->walk, &w->walk_room, waiting + symbol->arity, sizeof *w->walk);
-    for (int k = symbol->arity; k-- > 0;) {
-      if (!TAG(cell[k])) cell[k] = wire_to(w, AT(cell[k]), symbol->ports[k]);
-      else if (AT(cell[k])) w->walk[waiting++] = (struct place){cell + k, symbol->ports[k]};
+  for (size_t waiting = 0, taken = 1;; taken++) {
+    // Numbers are long chains, on which the loop below takes twice as long.
+    for (; symbols[symbol].arity == 1 && taken < most; taken++) {
+      word *cell = AT(agent), end = *cell;
+      if (!TAG(end) || !AT(end)) break;
+      *cell = (word)(uintptr_t)w->free[1];
+      w->free[1] = cell;
+      symbol = symbol_of(end, symbols[symbol].ports[0]);
+      if (to->count == to->room) to->items = grown(to->items, &to->room, to->count + 1, sizeof(word));
+      to->items[to->count++] = ON_WAY(end, symbol);
+      agent = end;
     }
+    const struct port *ports = symbols[symbol].ports;
+    size_t arity = symbols[symbol].arity, first = to->count;
+    word *cell = AT(agent);
+    to->items = grown(to->items, &to->room, first + arity, sizeof(word));
+    to->count += arity;
+    w->parts = grown(w->parts, &w->part_room, waiting + arity, sizeof *w->parts);
+    for (size_t k = arity; k-- > 0;) {
+      word end = cell[k];
+      if (!TAG(end)) end = wire_to(w, AT(end), ports[k]);
+      else if (AT(end)) {
+        unsigned inner = symbol_of(end, ports[k]);
+        w->parts[waiting++] = (struct part){end, first + k, inner};
+        end = ON_WAY(end, inner);
+      }
+      to->items[first + k] = end;
+    }
+    *cell = (word)(uintptr_t)w->free[arity];
+    w->free[arity] = cell;
     for (; waiting && taken >= most; waiting--) {
-      struct place stays = w->walk[waiting - 1];
-      *stays.at = new_stub(w, *stays.at, stays.port)->wire;
+      struct part stays = w->parts[waiting - 1];
+      to->items[stays.place] = new_stub(w, stays.agent, opposite(symbols[stays.symbol].principal))->wire;
     }
     if (!waiting) return taken;
-    struct place next = w->walk[--waiting];
-    agent = *next.at;
-    port = next.port;
-    taken++;
+    struct part next = w->parts[--waiting];
+    agent = next.agent;
+    symbol = next.symbol;
   }
+}
+
+// A pair leaves, and at most so many agents with each of the two. How many leave.
+static size_t put_pair(struct worker *w, struct words *to, const word *pair, size_t most) {
+  struct port port = {destructor_types[TAG(pair[1]) - 1], 1, 0};
+  put_words(to, (word[]){0, kind_of(port)}, 2);
+  size_t agents = put_agent(w, to, pair[0], port, most);
+  return agents + put_agent(w, to, pair[1], opposite(port), most);
 }
 
 // A wire comes to a word at which this is to be found.
@@ -175,25 +215,37 @@ static word *new_cell(struct worker *w, size_t size) {
   return cell;
 }
 
-// The cell in which an agent of this cell is to be here.
-static word *settled(struct worker *w, word *cell, size_t size);
+// A wire of a letter as it is here.
+static word wire_here(struct worker *w, word wire);
 
-// The agent here has come, with what hangs at it.
-static void attach(struct worker *w, word *at, struct port port) {
-  if (!AT(*at)) return;
+// The agent whose words begin here has come, with what hangs at it.
+static word take_agent(struct worker *w, const word **words) {
+  word whole = *(*words)++, *at = &whole;
+  if (!AT(whole)) return whole;
   for (size_t waiting = 0;;) {
-    const struct symbol *symbol = &symbols[symbol_of(*at, port)];
-    word *cell = settled(w, AT(*at), symbol->arity);
-    *at = WIRE(cell) | TAG(*at);
-    w->walk = grown(w->walk, &w->walk_room, waiting + symbol->arity, sizeof *w->walk);
-    for (int k = symbol->arity; k-- > 0;) {
-      if (TAG(cell[k]) & SHARED) take_in(w, cell + k, cell[k], symbol->ports[k]);
-      else if (AT(cell[k])) w->walk[waiting++] = (struct place){cell + k, symbol->ports[k]};
+    const struct symbol *symbol = &symbols[(*at >> 16) - 1];
+    // As above.
+    for (word end = **words; symbol->arity == 1 && !(TAG(end) & SHARED) && AT(end); end = **words) {
+      word *cell = new_cell(w, 1);
+      *at = WIRE(cell) | TAG(*at);
+      at = cell;
+      *at = end;
+      symbol = &symbols[(end >> 16) - 1];
+      ++*words;
     }
-    if (!waiting) return;
-    struct place next = w->walk[--waiting];
-    at = next.at;
-    port = next.port;
+    size_t arity = symbol->arity;
+    word *cell = new_cell(w, arity);
+    const word *ends = *words;
+    *words += arity;
+    *at = WIRE(cell) | TAG(*at);
+    w->places = grown(w->places, &w->place_room, waiting + arity, sizeof *w->places);
+    for (size_t k = arity; k-- > 0;) {
+      cell[k] = ends[k];
+      if (TAG(ends[k]) & SHARED) take_in(w, cell + k, wire_here(w, ends[k]), symbol->ports[k]);
+      else if (AT(ends[k])) w->places[waiting++] = cell + k;
+    }
+    if (!waiting) return whole;
+    at = w->places[--waiting];
   }
 }
 
@@ -206,10 +258,30 @@ static void push(struct worker *w, word one, word other, bool is_constructor) {
 
 // ---- Letters.
 
-static void send_letter(struct worker *w, word to, word what, word other, size_t agents) {
-  w->out = grown(w->out, &w->out_room, w->out_count + 1, sizeof *w->out);
-  w->out[w->out_count++] = (struct letter){to, what, other};
+// A letter about a wire begins: where its length is to be.
+static size_t begin_letter(struct worker *w, word to, word kind) {
+  size_t place = w->out.count;
+  put_words(&w->out, (word[]){0, to, kind}, 3);
+  return place;
+}
+
+static void end_letter(struct worker *w, size_t place, size_t agents) {
+  word *letter = w->out.items + place;
+  letter[0] = (word)(w->out.count - place - 1) << 16 | (word)HOME(letter[1]);
   w->cost += LETTER_COSTS + AGENT_COSTS * (int64_t)agents;
+}
+
+// To a wire's home: this wire goes on as another one.
+static void send_wire(struct worker *w, word to, word next) {
+  size_t place = begin_letter(w, to, 0);
+  put_words(&w->out, &next, 1);
+  end_letter(w, place, 0);
+}
+
+// To a wire's home: this agent has come to the other end.
+static void send_agent(struct worker *w, word to, word agent, struct port port) {
+  size_t place = begin_letter(w, to, kind_of(port));
+  end_letter(w, place, put_agent(w, &w->out, agent, port, MOST_IN_LETTER));
 }
 
 // An agent comes to a wire.
@@ -254,20 +326,21 @@ static void go_on(struct worker *w, word wire, word next) {
     }
     wire = here;
   }
-  send_letter(w, wire, next, 0, 0);
+  send_wire(w, wire, next);
 }
 
-static void read_letter(struct worker *w, struct letter letter) {
-  if (!letter.to) {
-    // The type of a pair is that of its destructor.
-    struct port port = {destructor_types[TAG(letter.other) - 1], 1, 0};
-    attach(w, &letter.what, port);
-    attach(w, &letter.other, opposite(port));
-    push(w, letter.what, letter.other, true);
-  } else if (TAG(letter.what) & SHARED) go_on(w, letter.to, letter.what);
-  else {
-    attach(w, &letter.what, port_of(letter.other));
-    come(w, letter.to, letter.what, port_of(letter.other));
+static void read_words(struct worker *w, const word *at, size_t count) {
+  for (const word *end = at + count; at < end;) {
+    word to = *at++;
+    struct port port = port_of(*at++);
+    if (!to) {
+      word c = take_agent(w, &at), d = take_agent(w, &at);
+      push(w, c, d, true);
+    } else if (TAG(*at) & SHARED) go_on(w, wire_here(w, to), wire_here(w, *at++));
+    else {
+      word agent = take_agent(w, &at);
+      come(w, wire_here(w, to), agent, port);
+    }
   }
 }
 
@@ -282,14 +355,13 @@ static void look_at_ends(struct worker *w, size_t most) {
     if (TAG(here)) {
       struct port port = s->port;
       free_end(w, s);
-      size_t agents = detach(w, here, port, MOST_IN_LETTER);
-      send_letter(w, wire, here, kind_of(port), agents);
+      send_agent(w, wire, here, port);
     } else if (is_stub(w, AT(here)) && !is_home(w, STUB(here)->wire)) {
       struct stub *other = STUB(here);
       word next = other->wire;
       free_end(w, s);
       free_end(w, other);
-      send_letter(w, wire, next, 0, 0);
+      send_wire(w, wire, next);
     } else w->next_end++;
   }
 }

@@ -1,8 +1,9 @@
 // ---- Several workers, each a thread. They give pairs to who has none, and letters about wires go between them (to_c_wires.c).
 
 #ifdef STRESS
-enum { FIRST_ALONE = 0, LEAST_ALONE = 40, MOST_ALONE = 400, WINDOW = 30, ACCOUNTED = 1, LOOKED_AT = 2, SPIN = 10, SPARE_WORDS = 1 };
-enum { LEAST_PAIRS = 1, MOST_GIVEN = 3, MOST_IN_GIFT = 9, FIRST_PAIRS = 8, REFUSED_TIMES = 1, MOST_PATIENCE = 2, LEAST_WORTH = -1, MOST_REVERSED = 32 };
+enum { FIRST_ALONE = 0, LEAST_ALONE = 40, MOST_ALONE = 400, WINDOW = 200, ACCOUNTED = 1, LOOKED_AT = 2, SPIN = 10, SPARE_WORDS = 1 };
+enum { LEAST_PAIRS = 1, MOST_GIVEN = 3, MOST_IN_GIFT = 9, FIRST_PAIRS = 4, REFUSED_TIMES = 1, MOST_PATIENCE = 2, MOST_REVERSED = 32 };
+enum { LASTS = 6, PAIR_LASTS = 3, AGENT_LASTS = 0, LASTS_LONG = 20 };
 #else
 // In interactions: a run begins with one worker; where within a window of all together it doesn't pay, one goes on alone, for three times as long
 // each time.
@@ -12,9 +13,12 @@ enum { FIRST_ALONE = 400000, LEAST_ALONE = 2000000, MOST_ALONE = 64000000, WINDO
 enum { LOOKED_AT = 64, LEAST_PAIRS = 2, MOST_GIVEN = 256, MOST_IN_GIFT = 4096 };
 // Of so many of the oldest pairs one is to be worth it; after so many times that none was, what is known of that is forgotten, and each further
 // time after twice as many, up to so many times as many, until a gift lasts long.
-enum { FIRST_PAIRS = 128, REFUSED_TIMES = 64, MOST_PATIENCE = 256, LEAST_WORTH = 0 };
+enum { FIRST_PAIRS = 128, REFUSED_TIMES = 64, MOST_PATIENCE = 256 };
 // Where a slice made more pairs than that, their order stays.
 enum { MOST_REVERSED = 32 };
+// Who comes back for pairs sooner than after so many interactions gets more of them. Pairs were worth it where they lasted for some interactions,
+// and for some more for each agent that came with them. Gifts that last so long say that there is work to be shared.
+enum { LASTS = 15000, PAIR_LASTS = 500, AGENT_LASTS = 12, LASTS_LONG = 20000 };
 // How often a worker that has nothing to do looks for letters before it waits. And how many words of memory it has before it takes free cells of
 // others.
 enum { SPIN = 500, SPARE_WORDS = 1 << 20 };
@@ -22,9 +26,6 @@ enum { SPIN = 500, SPARE_WORDS = 1 << 20 };
 // What it costs to wait, in interactions, of the first worker, who would have something to do if it were alone, before it ever paid and later, of
 // another, and of all at once, while a letter goes from one to another. All together have to do so many times as much as letters and waiting cost.
 enum { EARLY_WAITING_COSTS = 5000, FIRST_WAITING_COSTS = 1500, WAITING_COSTS = 200, ALL_WAITING_COSTS = 10000, PAYS = 4 };
-// Who comes back for pairs sooner than after so many interactions gets more of them. Pairs were worth it where they lasted for some interactions,
-// and for some more for each agent that came with them. Gifts that last so long say that there is work to be shared.
-enum { LASTS = 5000, PAIR_LASTS = 500, AGENT_LASTS = 12, LASTS_LONG = 20000 };
 
 static struct {
   pthread_mutex_t lock;
@@ -36,15 +37,19 @@ static struct {
   struct lists { word **items; size_t count, room; } cells[MOST_ARITY + 1];
   // How many workers there are, are to work, wait for letters, and are parked.
   int size, active, idle, parked;
-  bool is_done, has_paid, paid_before;
+  bool has_paid, paid_before;
   // Since the last judgement interactions of all, those of all but the first worker, and what letters and waiting cost; and the number of those of
   // the first worker at which others begin, and for how many it is alone.
   int64_t done, by_others, cost, begin_at, alone_for;
 } team = {.lock = PTHREAD_MUTEX_INITIALIZER, .parted = PTHREAD_COND_INITIALIZER};
-// What a worker looks at between two slices without the lock: how many lack pairs; whether all but the first are to park; whether there are lists
-// of free cells, and how often somebody looked for one.
+// What a worker looks at without the lock: how many lack pairs; whether all but the first are to park, and whether all have ended; whether there
+// are lists of free cells, and how often somebody looked for one.
 static _Atomic int hungry;
-static _Atomic bool is_parting;
+static _Atomic bool is_parting, is_done;
+#ifdef STRESS
+#include <sched.h>
+static _Atomic int begun;
+#endif
 static _Atomic size_t lists, lacking;
 // What pairs with a destructor were worth to who got them, by its tag: below 0, no more of them are given away, until others are none either.
 static _Atomic int worth[SYMBOLS + 1];
@@ -55,83 +60,94 @@ static _Atomic bool is_reversed = true;
 #define LOOK_AT(what) atomic_load_explicit(&(what), memory_order_relaxed)
 #define SET(what, value) atomic_store_explicit(&(what), (value), memory_order_relaxed)
 
-// ---- Free cells that go from one worker to another. What is called with the lock has (locked) behind it.
-
-static void give_list(int size, word **list) { // (locked)
-  struct lists *of = &team.cells[size];
-  if (!*list) return;
-  of->items = grown(of->items, &of->room, of->count + 1, sizeof *of->items);
-  of->items[of->count++] = *list;
-  *list = 0;
-  SET(lists, LOOK_AT(lists) + 1);
+// Nobody keeps the lock for as long as it takes to fall asleep and to wake up.
+static void enter(void) {
+  for (int k = 0; k < SPIN; k++) {
+    if (!pthread_mutex_trylock(&team.lock)) return;
+    PAUSE;
+  }
+  pthread_mutex_lock(&team.lock);
 }
+
+static void leave(void) { pthread_mutex_unlock(&team.lock); }
+
+// ---- Free cells that go from one worker to another. What is called with the lock has (locked) behind it.
 
 static void give_lists(struct worker *w) { // (locked)
   for (int size = 1; size <= MOST_ARITY; size++) {
-    give_list(size, &w->free[size]);
-    give_list(size, &w->left_over[size]);
+    struct lists *of = &team.cells[size];
+    if (!w->free[size]) continue;
+    of->items = grown(of->items, &of->room, of->count + 1, sizeof *of->items);
+    of->items[of->count++] = w->free[size];
+    w->free[size] = 0;
+    SET(lists, LOOK_AT(lists) + 1);
   }
-}
-
-// An agent that comes gets a cell of who takes it: its old one has neighbours in the processor's cache that another worker writes to.
-static word *settled(struct worker *w, word *cell, size_t size) {
-  word *own = new_cell(w, size);
-  memcpy(own, cell, size * sizeof(word));
-  *cell = (word)(uintptr_t)w->left_over[size];
-  w->left_over[size] = cell;
-  return own;
 }
 
 // Takes a list of each arity of which it has no free cell.
 static void take_lists(struct worker *w) {
   if (LOOK_AT(lists)) {
-    pthread_mutex_lock(&team.lock);
+    enter();
     for (int size = 1; size <= MOST_ARITY; size++) {
       struct lists *of = &team.cells[size];
       if (w->free[size] || !of->count) continue;
       w->free[size] = of->items[--of->count];
       SET(lists, LOOK_AT(lists) - 1);
     }
-    pthread_mutex_unlock(&team.lock);
+    leave();
   }
   atomic_fetch_add_explicit(&lacking, 1, memory_order_relaxed);
 }
 
 // ---- Letters.
 
+// Nothing else than the wire itself.
+static word wire_here(struct worker *w, word wire) {
+  (void)w;
+  return wire;
+}
+
+static void deliver(struct worker *to, const word *words, size_t count) { // (locked)
+  put_words(&to->in, words, count);
+  SET(to->letters, to->in.count);
+  if (to->is_idle) pthread_cond_signal(&to->called);
+}
+
 // The letters that a worker wrote, to those that they are for. (locked)
 static void post(struct worker *w) {
-  for (size_t k = 0; k < w->out_count; k++) {
-    struct worker *to = &workers[HOME(w->out[k].to)];
-    to->in = grown(to->in, &to->in_room, to->in_count + 1, sizeof *to->in);
-    to->in[to->in_count++] = w->out[k];
-    SET(to->letters, to->in_count);
-    if (to->is_idle) pthread_cond_signal(&to->called);
+  for (size_t k = 0; k < w->out.count;) {
+    word head = w->out.items[k++];
+    deliver(&workers[TAG(head)], w->out.items + k, head >> 16);
+    k += head >> 16;
   }
-  w->out_count = 0;
+  w->out.count = 0;
+}
+
+static void swap(struct words *one, struct words *other) {
+  struct words kept = *one;
+  *one = *other;
+  *other = kept;
 }
 
 // Reads the letters that came.
 static void read_letters(struct worker *w) {
   if (!LOOK_AT(w->letters)) return;
-  pthread_mutex_lock(&team.lock);
-  struct letter *came = w->in;
-  size_t count = w->in_count, room = w->in_room;
-  w->in = w->read;
-  w->in_room = w->read_room;
-  w->in_count = 0;
+  w->read.count = 0;
+  enter();
+  swap(&w->in, &w->read);
   SET(w->letters, 0);
-  pthread_mutex_unlock(&team.lock);
-  w->read = came;
-  w->read_room = room;
-  for (size_t k = 0; k < count; k++) read_letter(w, came[k]);
+  leave();
+  read_words(w, w->read.items, w->read.count);
 }
 
 // ---- Workers that begin, wait, part and end.
 
+// Whether a worker lacks pairs, and nobody is about to give it some. (locked)
+static bool is_hungry(const struct worker *w) { return w->is_idle && !w->in.count && !w->is_promised; }
+
 static void tell_hungry(void) { // (locked)
   int count = 0;
-  for (int k = 0; k < team.size; k++) count += workers[k].is_idle && !workers[k].in_count;
+  for (int k = 0; k < team.size; k++) count += is_hungry(&workers[k]);
   SET(hungry, count);
 }
 
@@ -163,14 +179,14 @@ static void forget_worth(void) {
 static void give_pairs(struct worker *w) {
   size_t pairs = (size_t)(w->sp - w->bottom) / 2, most = pairs < 8 ? 1 : pairs / 4, first = 0, given = 0, agents = 0;
   size_t looked_at = pairs < FIRST_PAIRS ? pairs : FIRST_PAIRS;
-  int best = LEAST_WORTH - 1;
+  int best = -1;
   for (size_t k = 0; k < looked_at; k++) {
     int value = LOOK_AT(worth[TAG(w->bottom[2 * k + 1])]);
     if (value <= best) continue;
     best = value;
     first = k;
   }
-  if (best < LEAST_WORTH) {
+  if (best < 0) {
     if (++w->refused >= REFUSED_TIMES * LOOK_AT(patience)) {
       forget_worth();
       w->refused = 0;
@@ -186,47 +202,50 @@ static void give_pairs(struct worker *w) {
     return;
   }
   uint16_t tag = TAG(w->bottom[2 * first + 1]);
-  struct port port = {destructor_types[tag - 1], 1, 0};
-  pthread_mutex_lock(&team.lock);
+  enter();
   struct worker *to = 0;
   for (int k = 0; k < team.size && !to; k++)
-    if (workers[k].is_idle && !workers[k].in_count) to = &workers[k];
+    if (is_hungry(&workers[k])) to = &workers[k];
   if (to) {
+    to->is_promised = true;
     if (most > to->portion) most = to->portion;
-    to->in = grown(to->in, &to->in_room, most, sizeof *to->in);
-    for (size_t k = first; k < pairs && given < most && agents < MOST_IN_GIFT; k++) {
-      word *pair = w->bottom + 2 * k, *front = w->bottom + 2 * given, c = pair[0], d = pair[1];
-      if (TAG(d) != tag) continue;
-      pair[0] = front[0];
-      pair[1] = front[1];
-      agents += detach(w, c, port, MOST_IN_PAIR) + detach(w, d, opposite(port), MOST_IN_PAIR);
-      to->in[to->in_count++] = (struct letter){0, c, d};
-      given++;
-    }
-    w->bottom += 2 * given;
-    w->cost += (int64_t)(LETTER_COSTS * given);
-    to->gift = tag;
-    to->gift_agents = (int64_t)agents;
-    SET(to->letters, to->in_count);
-    pthread_cond_signal(&to->called);
   }
   tell_hungry();
-  pthread_mutex_unlock(&team.lock);
+  leave();
+  if (!to) return;
+  w->gift.count = 0;
+  for (size_t k = first; k < pairs && given < most && agents < MOST_IN_GIFT; k++) {
+    word *pair = w->bottom + 2 * k, *front = w->bottom + 2 * given, own[] = {pair[0], pair[1]};
+    if (TAG(own[1]) != tag) continue;
+    pair[0] = front[0];
+    pair[1] = front[1];
+    agents += put_pair(w, &w->gift, own, MOST_IN_PAIR);
+    given++;
+  }
+  w->bottom += 2 * given;
+  w->cost += (int64_t)(LETTER_COSTS * given);
+  enter();
+  if (!to->in.count) swap(&to->in, &w->gift);
+  deliver(to, w->gift.items, w->gift.count);
+  to->gift_tag = tag;
+  to->gift_agents = (int64_t)agents;
+  to->is_promised = false;
+  leave();
 }
 
 // A worker has no pairs any more: what those that it was given were worth. (locked)
 static void judge_gift(struct worker *w) {
   int64_t lasted = w->done - w->given_at;
   w->given_at = w->done;
-  if (!w->gift) return;
+  if (!w->gift_tag) return;
   // What it cost to bring them counts now, with what they were worth.
   w->cost += AGENT_COSTS * w->gift_agents;
-  int value = LOOK_AT(worth[w->gift]);
+  int value = LOOK_AT(worth[w->gift_tag]);
   if (lasted >= LASTS_LONG) SET(patience, 1);
   bool was_worth = lasted >= PAIR_LASTS + AGENT_LASTS * w->gift_agents;
-  SET(worth[w->gift], was_worth ? value < 3 ? value + 2 : 4 : value > -1 ? value - 1 : -1);
+  SET(worth[w->gift_tag], was_worth ? value < 3 ? value + 2 : 4 : value > -1 ? value - 1 : -1);
   w->portion = lasted >= LASTS ? (w->portion + 1) / 2 : w->portion < MOST_GIVEN ? 2 * w->portion : MOST_GIVEN;
-  w->gift = 0;
+  w->gift_tag = 0;
 }
 
 static void account(struct worker *w) { // (locked)
@@ -245,6 +264,15 @@ static void begin(int count) {
   team.active = count;
   SET(is_parting, false);
   pthread_cond_broadcast(&team.parted);
+#ifdef STRESS
+  // A small net would be reduced before they are there.
+  int others = team.size > count ? team.size - count : 0;
+  while ((LOOK_AT(begun) < team.size - 1 || team.parked > others) && !LOOK_AT(is_parting) && !LOOK_AT(is_done)) {
+    leave();
+    sched_yield();
+    enter();
+  }
+#endif
 }
 
 // Whether it pays that all work together; else all but the first are to park. (locked)
@@ -254,7 +282,7 @@ static void judge(void) {
   bool pays = team.done >= PAYS * team.cost;
 #ifdef STRESS
   static int judgements;
-  pays = ++judgements % 3 > 0;
+  pays = ++judgements % 8 > 0;
   team.by_others = team.done;
 #endif
   team.has_paid = pays && (team.has_paid || team.by_others >= team.done / 8);
@@ -280,9 +308,10 @@ static void come_together(struct worker *w) {
     for (int k = 0; k < team.size; k++) {
       struct worker *other = &workers[k];
       post(other);
-      is_more |= other->in_count > 0;
-      for (size_t j = 0; j < other->in_count; j++) read_letter(other, other->in[j]);
-      other->in_count = 0;
+      if (!other->in.count) continue;
+      is_more = true;
+      read_words(other, other->in.items, other->in.count);
+      other->in.count = 0;
       SET(other->letters, 0);
     }
   }
@@ -328,7 +357,7 @@ static void park(struct worker *w) {
   give_back(w);
   team.parked++;
   pthread_cond_signal(&workers[0].called);
-  while ((LOOK_AT(is_parting) || w->number >= team.active) && !team.is_done) pthread_cond_wait(&team.parted, &team.lock);
+  while ((LOOK_AT(is_parting) || w->number >= team.active) && !LOOK_AT(is_done)) pthread_cond_wait(&team.parted, &team.lock);
   team.parked--;
   w->looked = w->done;
   w->cost = 0;
@@ -336,7 +365,7 @@ static void park(struct worker *w) {
 
 // The others begin: one of them, and where that pays, all.
 static void begin_others(struct worker *w) {
-  pthread_mutex_lock(&team.lock);
+  enter();
   begin(2);
   if (team.size == 1) team.begin_at = INT64_MAX;
   else {
@@ -348,7 +377,7 @@ static void begin_others(struct worker *w) {
     w->cost = team.done = team.by_others = team.cost = 0;
     team.has_paid = team.paid_before = false;
   }
-  pthread_mutex_unlock(&team.lock);
+  leave();
 }
 
 // The first worker goes on alone.
@@ -370,14 +399,14 @@ static void look_around(struct worker *w) {
   look_at_ends(w, LOOKED_AT);
   read_letters(w);
   bool is_lacking = LOOK_AT(lacking) != w->lacked;
-  if (w->out_count || w->done - w->looked >= ACCOUNTED || is_lacking) {
-    pthread_mutex_lock(&team.lock);
+  if (w->out.count || w->done - w->looked >= ACCOUNTED || is_lacking) {
+    enter();
     post(w);
     account(w);
     judge();
     if (is_lacking) give_lists(w);
     w->lacked = LOOK_AT(lacking);
-    pthread_mutex_unlock(&team.lock);
+    leave();
   }
   if (LOOK_AT(hungry) > 0 && !LOOK_AT(is_parting) && (size_t)(w->sp - w->bottom) / 2 >= LEAST_PAIRS) give_pairs(w);
 }
@@ -391,13 +420,13 @@ static bool find_work(struct worker *w) {
     read_letters(w);
   }
   bool found = false;
-  pthread_mutex_lock(&team.lock);
-  while (!team.is_done) {
+  enter();
+  while (!LOOK_AT(is_done)) {
     post(w);
     if (w->is_alone) {
       // It has all pairs and all interactions.
       found = has_pairs(w) && w->fuel;
-      team.is_done = !found;
+      SET(is_done, !found);
       break;
     }
     bool is_parted = LOOK_AT(is_parting);
@@ -412,11 +441,11 @@ static bool find_work(struct worker *w) {
     if (has_pairs(w) && !w->fuel && team.left) draw(w);
     found = has_pairs(w) && w->fuel;
     if (found) break;
-    if (w->in_count) {
-      pthread_mutex_unlock(&team.lock);
+    if (w->in.count) {
+      leave();
       read_letters(w);
       look_at_ends(w, w->end_count);
-      pthread_mutex_lock(&team.lock);
+      enter();
       continue;
     }
     account(w);
@@ -431,22 +460,22 @@ static bool find_work(struct worker *w) {
       bool is_over = true;
       w->cost += ALL_WAITING_COSTS;
       for (int k = 0; k < team.size; k++) {
-        bool has_any = workers[k].in_count || (has_pairs(&workers[k]) && team.left);
+        bool has_any = workers[k].in.count || (has_pairs(&workers[k]) && team.left);
         if (has_any) pthread_cond_signal(&workers[k].called);
         is_over &= !has_any;
       }
-      team.is_done = is_over;
+      SET(is_done, is_over);
     }
     tell_hungry();
-    if (!team.is_done) {
+    if (!LOOK_AT(is_done)) {
 #ifndef STRESS
       if (!has_pairs(w) && !is_parted) {
-        pthread_mutex_unlock(&team.lock);
-        for (int k = 0; k < SPIN && !LOOK_AT(w->letters) && !LOOK_AT(is_parting); k++) PAUSE;
-        pthread_mutex_lock(&team.lock);
+        leave();
+        for (int k = 0; k < SPIN && !LOOK_AT(w->letters) && !LOOK_AT(is_parting) && !LOOK_AT(is_done); k++) PAUSE;
+        enter();
       }
 #endif
-      bool is_called = w->in_count || team.is_done || (has_pairs(w) && team.left) || LOOK_AT(is_parting) != is_parted;
+      bool is_called = w->in.count || LOOK_AT(is_done) || (has_pairs(w) && team.left) || LOOK_AT(is_parting) != is_parted;
       if (!is_called && !(is_parted && team.parked == team.size - 1)) {
         w->cost += w != workers ? WAITING_COSTS : team.has_paid ? FIRST_WAITING_COSTS : EARLY_WAITING_COSTS;
         pthread_cond_wait(&w->called, &team.lock);
@@ -456,11 +485,11 @@ static bool find_work(struct worker *w) {
     team.idle--;
     tell_hungry();
   }
-  if (team.is_done) {
+  if (LOOK_AT(is_done)) {
     for (int k = 0; k < team.size; k++) pthread_cond_signal(&workers[k].called);
     pthread_cond_broadcast(&team.parted);
   }
-  pthread_mutex_unlock(&team.lock);
+  leave();
   return found;
 }
 
@@ -479,6 +508,9 @@ static void reverse(struct worker *w, ptrdiff_t words) {
 
 static void *work(void *given) {
   struct worker *w = given;
+#ifdef STRESS
+  if (w != workers) atomic_fetch_add(&begun, 1);
+#endif
   while (find_work(w)) {
     int64_t slice = w->fuel < SLICE ? w->fuel : SLICE;
     size_t words = (size_t)slice * WORDS;
