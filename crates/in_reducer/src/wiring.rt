@@ -271,7 +271,18 @@ fn read_and_begin<const SMALL: bool>(
     begin_in::<SMALL>(template.member(), pair, arena, points);
 }
 
-/// The same, for cells of which nothing is known.
+/// The same, for cells of which nothing is known. It is a call of its own, so that what comes before it stays short.
+#[inline(never)]
+fn begin_any(template: &Template, pair: Pair, arena: &mut Arena, points: &mut [EndWord])
+    requires { CanBeginAnew template.now pair arena.old points.old }
+    ensures begun { (ns : List Number) × HasBegun template.now.member ns (retired pair arena.old) arena.new × AreAtAgents ns points.new }
+    ensures read { (e : ℕ) → e < length template.now.member.joints → slice_get points.new e ≡ end_there arena.old (port_at pair e) }
+    ensures long { length points.new ≡ length points.old }
+{
+    read_and_begin::<false>(template, pair, arena, points);
+}
+
+/// The same, where the pair's cells are mostly small ones.
 #[inline(always)]
 fn begin_anew(template: &Template, pair: Pair, arena: &mut Arena, points: &mut [EndWord])
     requires { CanBeginAnew template.now pair arena.old points.old }
@@ -282,7 +293,7 @@ fn begin_anew(template: &Template, pair: Pair, arena: &mut Arena, points: &mut [
     if arena.is_small(pair.one) && arena.is_small(pair.other) {
         read_and_begin::<true>(template, pair, arena, points);
     } else {
-        read_and_begin::<false>(template, pair, arena, points);
+        begin_any(template, pair, arena, points);
     }
 }
 
