@@ -5,7 +5,6 @@ ghost use Rattle.in_arena.specs.Arenas.{Leases, BeginsCell, IsOf, IsUsedOf, None
 ghost use Rattle.in_arena.specs.Bags.{IsBagOf, IsFor, IsInBag, LeasesTo, empty_bag};
 ghost use Rattle.in_arena.specs.Classes.{Holds, IsNumberOf, classes};
 ghost use Rattle.in_arena.specs.declared.content.CellClass.{CellClass as Class};
-ghost use Rattle.in_arena.specs.declared.content.CellClass.TheVariants.{Small};
 ghost use Rattle.in_arena.specs.declared.content.CellNo.{CellNo as Number};
 ghost use Rattle.in_arena.specs.declared.content.End.TheVariants.{Cell};
 ghost use Rattle.in_arena.specs.Changes.{HasAllCells};
@@ -14,7 +13,7 @@ ghost use Rattle.in_arena.specs.Limiting.{most_cells};
 use crate::bag::Bag;
 use crate::content::{CellClass, CellNo, End, SymbolWord};
 use crate::lease::Lease;
-use crate::regions::{Regions, place_by, place_of};
+use crate::regions::{Regions, place_of};
 use crate::word::EndWord;
 use std::alloc::{AllocError, Global};
 use std::marker::Model;
@@ -69,14 +68,6 @@ impl Arena {
         ensures { result ≡ length self.now.states }
     {
         self.regions.cells * CellClass::ALL.len() as u32
-    }
-
-    /// Whether a cell is a small one.
-    #[inline(always)]
-    pub fn is_small(&self, cell: CellNo) -> bool
-        ensures { IsTrue result ↔ IsNumberOf self.now.cells Small cell.0 }
-    {
-        cell.0 < self.regions.cells
     }
 
     /// How many cells of a class are free.
@@ -190,14 +181,13 @@ impl Arena {
         self.regions.word(class, index, place)
     }
 
-    /// What all places of a live cell lead to, in their order, from the principal port on. `SMALL` says that the cell is known to be a small one.
+    /// What all places of a live cell lead to, in their order, from the principal port on.
     #[inline(always)]
-    pub fn ends<const SMALL: bool>(&self, cell: CellNo) -> &[EndWord]
-        requires live { IsLive (state_at self.now cell.0) }
-        requires small { SMALL ≡ true → IsNumberOf self.now.cells Small cell.0 }
+    pub fn ends(&self, cell: CellNo) -> &[EndWord]
+        requires { IsLive (state_at self.now cell.0) }
         ensures { HasEnds result.now (state_at self.now cell.0) }
     {
-        let (class, index) = place_by::<SMALL>(self.regions.cells, cell);
+        let (class, index) = place_of(self.regions.cells, cell);
         self.regions.ends(class, index)
     }
 
@@ -247,10 +237,9 @@ impl Arena {
         Some(CellNo(number))
     }
 
-    /// A live cell that is one of this class is free, and then begun as `begin` does it. Returns whether it is one: else nothing changes. `SMALL`
-    /// says that the cell is known to be a small one.
+    /// A live cell that is one of this class is free, and then begun as `begin` does it. Returns whether it is one: else nothing changes.
     #[inline(always)]
-    pub fn begin_again<const SMALL: bool>(
+    pub fn begin_again(
         &mut self,
         cell: CellNo,
         class: CellClass,
@@ -258,12 +247,11 @@ impl Arena {
         places: u8,
     ) -> bool
         requires live { IsLive (state_at self.old cell.0) }
-        requires small { SMALL ≡ true → IsNumberOf self.old.cells Small cell.0 }
         requires many { Holds class places }
         ensures begun { result ≡ true → BeginsCell class symbol places (changed self.old cell.0 Vacant) cell.0 self.new }
         ensures other { result ≡ false → (self.new ≡ self.old) × (IsNumberOf self.old.cells class cell.0 → ⊥) }
     {
-        let (own, index) = place_by::<SMALL>(self.regions.cells, cell);
+        let (own, index) = place_of(self.regions.cells, cell);
         if own.number() == class.number() {
             self.regions.renew(own, index, symbol, u32::from(places));
             return true;

@@ -1,5 +1,5 @@
 // What there is for each class of cells: a region, the owner of one of its cells and the owner of some of them.
-ghost use Rattle.std.specs.Prelude.{◌≡◌, ◌*◌, ◌<◌, ◌≤◌, ◌↔◌, ℕ, IsTrue, true, length, count_by, IfOk};
+ghost use Rattle.std.specs.Prelude.{◌≡◌, ◌*◌, ◌<◌, ◌≤◌, ◌↔◌, ℕ, IsTrue, length, count_by, IfOk};
 ghost use Rattle.in_arena.specs.States.{State, Live, Vacant, IsLive, IsLeased, IsBegun, is_vacant, word_of, end_at, places, with_end, HasEnds};
 ghost use Rattle.in_arena.specs.Arenas.{written};
 ghost use Rattle.in_arena.specs.Classes.{Holds, classes, width};
@@ -50,20 +50,6 @@ pub fn place_of(cells: u32, cell: CellNo) -> (CellClass, u32)
         (CellClass::Large, cell.0 - cells)
     } else {
         (CellClass::Wide, cell.0 - (cells + cells))
-    }
-}
-
-// The same, without a test where the cell is known to be a small one.
-#[inline(always)]
-pub fn place_by<const SMALL: bool>(cells: u32, cell: CellNo) -> (CellClass, u32)
-    requires there { (cells ≤ most_cells) × (cell.0 < length classes * cells) }
-    requires small { SMALL ≡ true → cell.0 < cells }
-    ensures { IsPlace cells cell.0 result.0 result.1 }
-{
-    if SMALL {
-        (CellClass::Small, cell.0)
-    } else {
-        place_of(cells, cell)
     }
 }
 

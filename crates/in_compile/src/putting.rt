@@ -1,10 +1,8 @@
 // A member is put into free cells of an arena.
-ghost use Rattle.std.specs.Prelude.{◌≡◌, ◌≤◌, ◌<◌, ℕ, [], true, length, Some, slice_get, vec_capacity};
+ghost use Rattle.std.specs.Prelude.{◌≡◌, ◌≤◌, ◌<◌, ℕ, [], length, Some, slice_get, vec_capacity};
 ghost use Rattle.in_arena.specs.Arenas.{ArenaView, changed, free_of, state_at};
 ghost use Rattle.in_arena.specs.Changes.{HasAllCells};
-ghost use Rattle.in_arena.specs.Classes.{IsNumberOf};
 ghost use Rattle.in_arena.specs.States.{Vacant, IsBegun, IsLive};
-ghost use Rattle.in_arena.specs.declared.content.CellClass.TheVariants.{Small};
 ghost use Rattle.in_arena.specs.declared.content.CellNo.{CellNo as Number};
 ghost use Rattle.in_compile.specs.Cells.{count_of, IsEnough};
 ghost use Rattle.in_compile.specs.Members.{AgentParts};
@@ -35,19 +33,18 @@ impl Member {
         cell
     }
 
-    /// The same once a live cell is free, which that agent then has where it is one of its class. `SMALL` says that the cell is known to be a small one.
+    /// The same once a live cell is free, which that agent then has where it is one of its class.
     #[inline(always)]
-    pub fn begin_in<const SMALL: bool>(&self, agent: u32, cell: CellNo, arena: &mut Arena) -> CellNo
+    pub fn begin_in(&self, agent: u32, cell: CellNo, arena: &mut Arena) -> CellNo
         requires there { agent < length self.now.agents }
         requires live { IsLive (state_at arena.old cell.0) }
-        requires small { SMALL ≡ true → IsNumberOf arena.old.cells Small cell.0 }
         requires all { HasAllCells arena.old }
         requires free { (a : AgentParts) → slice_get self.now.agents agent ≡ Some a → 0 < free_of (changed arena.old cell.0 Vacant) a.class }
         ensures { (a : AgentParts) → slice_get self.now.agents agent ≡ Some a → BeginsAgent a (changed arena.old cell.0 Vacant) result.0 arena.new }
     {
         self.is_sound();
         let class = self.class(agent);
-        if arena.begin_again::<SMALL>(cell, class, self.symbol(agent).0, self.places(agent)) {
+        if arena.begin_again(cell, class, self.symbol(agent).0, self.places(agent)) {
             return cell;
         }
         arena.retire(cell);

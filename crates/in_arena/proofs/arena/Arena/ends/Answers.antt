@@ -4,11 +4,11 @@ use Rattle.in_arena.proofs.ByClass.{found}
 use Rattle.in_arena.proofs.arena.Arena.ends.Goals as goal
 
 pub ends-requires : goal.ends-requires
-ends-requires g c =
+ends-requires c =
     let r = c.self.inside.regions in let h = c.self.invariant.regions in
-    (h, subst IsLive (found r h _ _ c.self.view_is c.place_by-class.ensures) c.requires.live)
+    (h, subst IsLive (found r h _ _ c.self.view_is c.place_of-class.ensures) c.requires)
 
 pub returns : goal.returns
-returns g c =
+returns c =
     let r = c.self.inside.regions in let h = c.self.invariant.regions in
-    subst (HasEnds c.ends.result.now) (sym (found r h _ _ c.self.view_is c.place_by-class.ensures)) c.ends.ensures
+    subst (HasEnds c.ends.result.now) (sym (found r h _ _ c.self.view_is c.place_of-class.ensures)) c.ends.ensures
