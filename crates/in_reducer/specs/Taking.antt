@@ -1,7 +1,8 @@
 -- Symbols of pairs that are read ahead of their interactions, and cells that are left free. That they are is this project's own choice.
-use Rattle.std.specs.Prelude.{◌≡◌, ◌⊎◌, ◌+◌, ◌-◌, ◌≤◌, ℕ, List, [], length, Some, slice_get}
+use Rattle.std.specs.Prelude.{◌≡◌, ◌⊎◌, ◌+◌, ◌-◌, ◌≤◌, ℕ, [], length, Some, slice_get}
 use Rattle.in_arena.specs.declared.content.CellClass.{CellClass}
 use Rattle.in_symbols.specs.declared.symbols.SymbolNo.{SymbolNo}
+use Rattle.in_reducer.specs.declared.taking.Ahead.{Ahead}
 use Rattle.in_compile.specs.declared.cells.Need.{Need}
 use Rattle.in_compile.specs.Cells.{count_of}
 use Rattle.in_reducer.specs.Machines.{MachineParts}
@@ -13,8 +14,9 @@ abbrev pub together : ℕ
 together = 8
 
 -- those from number `next` on are the symbols of the first pairs, in turn
-abbrev pub AreAhead : MachineParts → List (SymbolNo × SymbolNo) → ℕ → Type 0
-AreAhead m heads next = (k : ℕ) (h : SymbolNo × SymbolNo) → slice_get heads (next + k) ≡ Some h → HasHeadsAt m k h
+pub record AreAhead (m : MachineParts) (a : Ahead) : Type 0 where
+  pub next : a.next ≤ together
+  pub heads : (k : ℕ) (h : SymbolNo × SymbolNo) → slice_get a.heads (a.next + k) ≡ Some h → HasHeadsAt m k h
 
 -- what that pair needs is free, and `floor` cells of each class besides
 abbrev pub HasRoomBesides : MachineParts → ℕ → ℕ → Type 0

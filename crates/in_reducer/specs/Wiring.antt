@@ -6,7 +6,6 @@ use Rattle.in_arena.specs.Arenas.{ArenaView, changed, free_of, state_at}
 use Rattle.in_arena.specs.Changes.{HasAllCells}
 use Rattle.in_arena.specs.Classes.{IsNumberOf}
 use Rattle.in_arena.specs.States.{Vacant, IsBegun, IsLive, word_of, end_at, places}
-use Rattle.in_arena.specs.declared.content.CellClass.TheVariants.{Small}
 use Rattle.in_arena.specs.declared.content.CellNo.{CellNo}
 use Rattle.in_arena.specs.declared.content.End.{End}
 use Rattle.in_arena.specs.declared.content.End.TheVariants.{Cell}
@@ -165,10 +164,6 @@ retired p a = changed (changed a p.one.0 Vacant) p.other.0 Vacant
 abbrev pub AreLive : Pair → ArenaView → Type 0
 AreLive p a = IsLive (state_at a p.one.0) × IsLive (state_at (changed a p.one.0 Vacant) p.other.0)
 
--- both are in small cells
-abbrev pub AreSmall : Pair → ArenaView → Type 0
-AreSmall p a = IsNumberOf a.cells Small p.one.0 × IsNumberOf a.cells Small p.other.0
-
 -- the agents were begun beside the pair, which was retired then, and all wires are written, whatever net it is about
 pub record IsWiredUp (t : Tables) (p : TemplateParts) (pair : Pair) (old : ArenaView) (old_ends : List End) (old_queue : List (ℕ × ℕ)) (new : ArenaView) (new_ends points : List End) (new_queue : List (ℕ × ℕ)) : Type 0 where
   pub cells : List CellNo
@@ -194,12 +189,6 @@ pub record IsSetAside (t : Tables) (s : PairSetting) (a : ArenaView) (n : Parts)
 -- the same interaction there
 abbrev pub aside_of : PairSetting → Parts → (ℕ → ℕ) → PairSetting
 aside_of s n f = record { net = n; rule = s.rule; one = record { 0 = f s.one.0 }; two = record { 0 = f s.two.0 } }
-
--- the ports of a live pair can be read, and once it is retired the agents can be begun
-pub record CanBeginAnew (p : TemplateParts) (pair : Pair) (a : ArenaView) (points : List End) : Type 0 where
-  pub read : CanRead a pair (length p.member.joints) points
-  pub live : AreLive pair a
-  pub begin : CanBegin p.member a points
 
 -- the cells show a net of which this is a pair, of this template, and neither of its symbols is marked; the pair can be set aside; and the
 -- agents can be begun

@@ -7,7 +7,7 @@ ghost use Rattle.in_compile.specs.Templates.{AreTemplatesOf};
 ghost use Rattle.in_reducer.specs.Parting.{ReducesTo};
 ghost use Rattle.in_reducer.specs.Same.{RunsUpToNumbers, StepsUpToNumbers};
 ghost use Rattle.in_reducer.specs.Steps.{HasRoomAt};
-ghost use Rattle.in_reducer.specs.Taking.{HasRoomBesides, TakesNoLast, together};
+ghost use Rattle.in_reducer.specs.Taking.{AreAhead, HasRoomBesides, TakesNoLast, together};
 ghost use Rattle.in_reducer.specs.Templates.{HasHeadsAt, IsTemplateAt};
 
 use crate::reducer::Reducer;
@@ -19,10 +19,51 @@ use in_symbols::SymbolNo;
 /// choice.
 const TOGETHER: usize = 8;
 
-/// From how many pairs on that is done: the cells of fewer pairs are in the cache. This project's own choice.
-const MANY_PAIRS: u32 = 512;
+/// The symbols of pairs of the queue, read ahead: those from number `next` on are of the queue's first pairs.
+#[derive(Drop)]
+struct Ahead {
+    heads: [(SymbolNo, SymbolNo); TOGETHER],
+    next: usize,
+}
+
+impl Ahead {
+    /// None is read.
+    fn none() -> Ahead
+        ensures { (result.next ≡ together) × (length result.heads ≡ together) }
+    {
+        Ahead {
+            heads: [(SymbolNo(0), SymbolNo(0)); TOGETHER],
+            next: TOGETHER,
+        }
+    }
+
+    /// The first pair is taken, whose symbols were read ahead if any were.
+    #[inline(always)]
+    fn go_on(&mut self)
+        requires { self.old.next ≤ together }
+        ensures heads { (self.new.heads ≡ self.old.heads) × (length self.new.heads ≡ together) }
+        ensures none { self.old.next ≡ together → self.new.next ≡ together }
+        ensures some { (self.old.next ≡ together → ⊥) → self.new.next ≡ self.old.next + 1 }
+    {
+        if self.next != TOGETHER {
+            self.next += 1;
+        }
+    }
+}
 
 impl<'a> Reducer<'a> {
+    /// Reads the symbols of the first pairs, if none is left that was read and there are so many pairs.
+    #[inline(always)]
+    fn look_ahead(&self, ahead: &mut Ahead)
+        requires { AreAhead self.now ahead.old }
+        ensures { AreAhead self.now ahead.new }
+    {
+        if ahead.next == TOGETHER && self.pairs() as usize >= TOGETHER {
+            self.read_heads(&mut ahead.heads);
+            ahead.next = 0;
+        }
+    }
+
     /// Reads the symbols of the first pairs, of which there are so many.
     #[inline(always)]
     fn read_heads(&self, heads: &mut [(SymbolNo, SymbolNo); TOGETHER])
@@ -34,40 +75,36 @@ impl<'a> Reducer<'a> {
         }
     }
 
+    /// The symbols of the first pair, which were read ahead if any were.
+    #[inline(always)]
+    fn first_heads(&self, ahead: &Ahead) -> (SymbolNo, SymbolNo)
+        requires { AreAhead self.now ahead.now × (0 < length self.now.queue) }
+        ensures { HasHeadsAt self.now 0 result }
+    {
+        if ahead.next == TOGETHER {
+            self.body.heads(0)
+        } else {
+            ahead.heads[ahead.next]
+        }
+    }
+
     /// The interaction of the first pair, up to numbers, where there is one and what it needs is free. Returns whether it was done. The
     /// templates are those of the program. It takes no memory.
     #[inline(always)]
-    fn step_first(&mut self, templates: &Templates) -> bool
-        requires { AreTemplatesOf self.old.program templates.now }
-        ensures done { result ≡ true → StepsUpToNumbers self.old 0 self.new }
+    fn step_next(&mut self, templates: &Templates, ahead: &mut Ahead) -> bool
+        requires { AreTemplatesOf self.old.program templates.now × AreAhead self.old ahead.old }
+        ensures done { result ≡ true → StepsUpToNumbers self.old 0 self.new × AreAhead self.new ahead.new }
         ensures none { result ≡ false → (self.new ≡ self.old) × ((self.old.queue ≡ []) ⊎ (HasRoomAt self.old 0 → ⊥)) }
     {
         if self.pairs() == 0 {
             return false;
         }
-        let heads = self.body.heads(0);
-        self.step_known(templates, heads)
-    }
-
-    /// The interactions of the first eight pairs, of which there are so many, as `take_first` says. Fewer only where what the first pair needs then
-    /// isn't free. Returns how many they were.
-    #[inline(always)]
-    fn take_together(&mut self, templates: &Templates) -> u64
-        requires templates { AreTemplatesOf self.old.program templates.now }
-        requires pairs { together ≤ length self.old.queue }
-        ensures runs { RunsUpToNumbers self.old result self.new }
-        ensures most { result ≤ together }
-        ensures fewer { result < together → HasRoomAt self.new 0 → ⊥ }
-    {
-        use_promise!(self.pairs());
-        let mut heads = [(SymbolNo(0), SymbolNo(0)); TOGETHER];
-        self.read_heads(&mut heads);
-        for number in 0..TOGETHER {
-            if !self.step_known(templates, heads[number]) {
-                return number as u64;
-            }
+        let heads = self.first_heads(ahead);
+        if !self.step_known(templates, heads) {
+            return false;
         }
-        TOGETHER as u64
+        ahead.go_on();
+        true
     }
 
     /// Interactions of the first pair of the queue, one after another, at most `most`, first in, first out. Fewer only where no pair is left, or
@@ -80,20 +117,14 @@ impl<'a> Reducer<'a> {
         ensures fewer { result < most → (self.new.queue ≡ []) ⊎ (HasRoomAt self.new 0 → ⊥) }
     {
         use_promise!(self.pairs());
+        let mut ahead = Ahead::none();
         let mut count = 0;
         while count < most {
-            if self.pairs() >= MANY_PAIRS && most - count >= TOGETHER as u64 {
-                let done = self.take_together(templates);
-                count += done;
-                if done < TOGETHER as u64 {
-                    return count;
-                }
-            } else {
-                if !self.step_first(templates) {
-                    return count;
-                }
-                count += 1;
+            self.look_ahead(&mut ahead);
+            if !self.step_next(templates, &mut ahead) {
+                return count;
             }
+            count += 1;
         }
         count
     }

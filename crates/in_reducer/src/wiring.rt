@@ -1,10 +1,8 @@
 // One interaction in place: new agents are begun beside the pair, and the wires of the right member are written.
-ghost use Rattle.std.specs.Prelude.{◌≡◌, ◌≤◌, ◌<◌, ◌+◌, ◌++◌, ℕ, Bool, true, List, length, map, Some, slice_get};
+ghost use Rattle.std.specs.Prelude.{◌≡◌, ◌≤◌, ◌<◌, ◌+◌, ◌++◌, ℕ, Bool, List, length, map, Some, slice_get};
 ghost use Rattle.std.specs.VecDeque.{deque_len, deque_capacity};
 ghost use Rattle.in_arena.specs.Arenas.{ArenaView, state_at};
-ghost use Rattle.in_arena.specs.Classes.{IsNumberOf};
 ghost use Rattle.in_arena.specs.States.{IsLive, places};
-ghost use Rattle.in_arena.specs.declared.content.CellClass.TheVariants.{Small};
 ghost use Rattle.in_arena.specs.declared.content.CellNo.{CellNo as Number};
 ghost use Rattle.in_arena.specs.declared.content.End.{End};
 ghost use Rattle.in_arena.specs.declared.content.End.TheVariants.{Cell};
@@ -15,7 +13,7 @@ ghost use Rattle.in_compile.specs.Wires.{over_of, over_point};
 ghost use Rattle.in_reducer.specs.Inside.{most_ends};
 ghost use Rattle.in_reducer.specs.Interacting.{PairSetting, interaction_of, named};
 ghost use Rattle.in_reducer.specs.Sides.{end_there, port_at};
-ghost use Rattle.in_reducer.specs.Wiring.{AddsInOrder, AreAtAgents, AreLive, AreOwnPairs, AreSmall, CanBegin, CanBeginAnew, CanRead, CanWireAnew, CanWireUp, HasBegun, HasBegunBelow, HasPortsFor, HasPortsIn, HasQueued, IsAtPlace, IsWiredAnew, IsWiredUp, IsWiring, retired, wires_of};
+ghost use Rattle.in_reducer.specs.Wiring.{AddsInOrder, AreAtAgents, AreLive, AreOwnPairs, CanBegin, CanRead, CanWireAnew, CanWireUp, HasBegun, HasBegunBelow, HasPortsFor, HasPortsIn, HasQueued, IsAtPlace, IsWiredAnew, IsWiredUp, IsWiring, retired, wires_of};
 
 use crate::limits::MOST_ENDS;
 use crate::sides::Pair;
@@ -69,21 +67,13 @@ fn begin_agents(member: &Member, arena: &mut Arena, points: &mut [EndWord])
     begin_rest(member, 0, arena, points);
 }
 
-/// Reads what the auxiliary ports of a live agent lead to, in their order, at the points from `first` to before `to`. It has so many. `SMALL` says that
-/// its cell is known to be a small one.
+/// Reads what the auxiliary ports of a live agent lead to, in their order, at the points from `first` to before `to`. It has so many.
 #[inline(always)]
-fn read_agent<const SMALL: bool>(
-    arena: &Arena,
-    cell: CellNo,
-    first: u8,
-    to: u8,
-    points: &mut [EndWord],
-)
-    requires ports { HasPortsFor arena.now cell first to (length points.old) }
-    requires small { SMALL ≡ true → IsNumberOf arena.now.cells Small cell.0 }
+fn read_agent(arena: &Arena, cell: CellNo, first: u8, to: u8, points: &mut [EndWord])
+    requires { HasPortsFor arena.now cell first to (length points.old) }
     ensures { HasPortsIn arena.now cell first to points.old points.new }
 {
-    let ends = arena.ends::<SMALL>(cell);
+    let ends = arena.ends(cell);
     let many = to - first;
     // Most agents have at most two auxiliary ports: these are read without a loop.
     if many > 2 {
@@ -100,16 +90,15 @@ fn read_agent<const SMALL: bool>(
     }
 }
 
-/// Reads what the pair's ports lead to, at the points of their boundary ends. `SMALL` says that its cells are known to be small ones.
+/// Reads what the pair's ports lead to, at the points of their boundary ends.
 #[inline(always)]
-fn read_ports<const SMALL: bool>(arena: &Arena, pair: Pair, many: u8, points: &mut [EndWord])
-    requires can { CanRead arena.now pair many points.old }
-    requires small { SMALL ≡ true → AreSmall pair arena.now }
+fn read_ports(arena: &Arena, pair: Pair, many: u8, points: &mut [EndWord])
+    requires { CanRead arena.now pair many points.old }
     ensures read { (e : ℕ) → e < many → slice_get points.new e ≡ end_there arena.now (port_at pair e) }
     ensures others { (k : ℕ) → many ≤ k → slice_get points.new k ≡ slice_get points.old k }
 {
-    read_agent::<SMALL>(arena, pair.one, 0, pair.first_ends, points);
-    read_agent::<SMALL>(arena, pair.other, pair.first_ends, many, points);
+    read_agent(arena, pair.one, 0, pair.first_ends, points);
+    read_agent(arena, pair.other, pair.first_ends, many, points);
 }
 
 /// The side of a wire that is read at this point, at this place.
@@ -210,25 +199,17 @@ pub(crate) fn wire_up(
     ensures capacity { deque_capacity queue.new ≡ deque_capacity queue.old }
 {
     begin_agents(template.member(), arena, points);
-    read_ports::<false>(arena, pair, template.boundary_ends(), points);
+    read_ports(arena, pair, template.boundary_ends(), points);
     arena.retire(pair.one);
     arena.retire(pair.other);
     write_over(template, points, arena, ends, queue);
     write_within(template, points, arena, ends);
 }
 
-/// Begins a cell for each agent once the pair's cells are free: the first two agents have these where they are of their classes. `SMALL` says that
-/// the pair's cells are known to be small ones.
+/// Begins a cell for each agent once the pair's cells are free: the first two agents have these where they are of their classes.
 #[inline(always)]
-fn begin_in<const SMALL: bool>(
-    member: &Member,
-    pair: Pair,
-    arena: &mut Arena,
-    points: &mut [EndWord],
-)
-    requires live { AreLive pair arena.old }
-    requires begin { CanBegin member.now arena.old points.old }
-    requires small { SMALL ≡ true → AreSmall pair arena.old }
+fn begin_in(member: &Member, pair: Pair, arena: &mut Arena, points: &mut [EndWord])
+    requires { AreLive pair arena.old × CanBegin member.now arena.old points.old }
     ensures begun { (ns : List Number) × HasBegun member.now ns (retired pair arena.old) arena.new × AreAtAgents ns points.new }
     ensures ends { (e : ℕ) → e < most_ends → slice_get points.new e ≡ slice_get points.old e }
     ensures long { length points.new ≡ length points.old }
@@ -241,60 +222,16 @@ fn begin_in<const SMALL: bool>(
         begin_rest(member, 0, arena, points);
         return;
     }
-    let first = member.begin_in::<SMALL>(0, pair.one, arena);
+    let first = member.begin_in(0, pair.one, arena);
     points[MOST_ENDS] = EndWord::port(first, 0);
     if many == 1 {
         arena.retire(pair.other);
         begin_rest(member, 1, arena, points);
         return;
     }
-    let second = member.begin_in::<SMALL>(1, pair.other, arena);
+    let second = member.begin_in(1, pair.other, arena);
     points[MOST_ENDS + 1] = EndWord::port(second, 0);
     begin_rest(member, 2, arena, points);
-}
-
-/// Reads what the pair's ports lead to, and begins the agents in its cells where they can stand there. `SMALL` says that these are known to be small.
-#[inline(always)]
-fn read_and_begin<const SMALL: bool>(
-    template: &Template,
-    pair: Pair,
-    arena: &mut Arena,
-    points: &mut [EndWord],
-)
-    requires can { CanBeginAnew template.now pair arena.old points.old }
-    requires small { SMALL ≡ true → AreSmall pair arena.old }
-    ensures begun { (ns : List Number) × HasBegun template.now.member ns (retired pair arena.old) arena.new × AreAtAgents ns points.new }
-    ensures read { (e : ℕ) → e < length template.now.member.joints → slice_get points.new e ≡ end_there arena.old (port_at pair e) }
-    ensures long { length points.new ≡ length points.old }
-{
-    read_ports::<SMALL>(arena, pair, template.boundary_ends(), points);
-    begin_in::<SMALL>(template.member(), pair, arena, points);
-}
-
-/// The same, for cells of which nothing is known. It is a call of its own, so that what comes before it stays short.
-#[inline(never)]
-fn begin_any(template: &Template, pair: Pair, arena: &mut Arena, points: &mut [EndWord])
-    requires { CanBeginAnew template.now pair arena.old points.old }
-    ensures begun { (ns : List Number) × HasBegun template.now.member ns (retired pair arena.old) arena.new × AreAtAgents ns points.new }
-    ensures read { (e : ℕ) → e < length template.now.member.joints → slice_get points.new e ≡ end_there arena.old (port_at pair e) }
-    ensures long { length points.new ≡ length points.old }
-{
-    read_and_begin::<false>(template, pair, arena, points);
-}
-
-/// The same, where the pair's cells are mostly small ones.
-#[inline(always)]
-fn begin_anew(template: &Template, pair: Pair, arena: &mut Arena, points: &mut [EndWord])
-    requires { CanBeginAnew template.now pair arena.old points.old }
-    ensures begun { (ns : List Number) × HasBegun template.now.member ns (retired pair arena.old) arena.new × AreAtAgents ns points.new }
-    ensures read { (e : ℕ) → e < length template.now.member.joints → slice_get points.new e ≡ end_there arena.old (port_at pair e) }
-    ensures long { length points.new ≡ length points.old }
-{
-    if arena.is_small(pair.one) && arena.is_small(pair.other) {
-        read_and_begin::<true>(template, pair, arena, points);
-    } else {
-        begin_any(template, pair, arena, points);
-    }
 }
 
 /// Retires a pair to which no wire leads back, begins the right member's agents, which then stand in its cells where they can, and writes the wires,
@@ -315,7 +252,8 @@ pub(crate) fn wire_anew(
     ensures long { length ends.new ≡ length ends.old }
     ensures capacity { deque_capacity queue.new ≡ deque_capacity queue.old }
 {
-    begin_anew(template, pair, arena, points);
+    read_ports(arena, pair, template.boundary_ends(), points);
+    begin_in(template.member(), pair, arena, points);
     write_over(template, points, arena, ends, queue);
     write_within(template, points, arena, ends);
 }

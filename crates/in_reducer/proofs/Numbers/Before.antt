@@ -413,14 +413,6 @@ pub reducer_runs : (m n : MachineParts) (k : ℕ) → IsReducer m → Runs m k n
 reducer_runs m n zero h (at_start _) = h
 reducer_runs m o (suc k) h (then_step _ n _ _ before s) = reducer_on n o 0 (reducer_runs m n k h before) s
 
--- a run keeps the program
-pub program_run : (m n : MachineParts) (k : ℕ) → RunsUpToNumbers m k n → n.program ≡ m.program
-program_run m n k (s, same, run) = go n k run ∙ same.1.program
-  where
-    go : (n : MachineParts) (k : ℕ) → Runs s k n → n.program ≡ s.program
-    go n zero (at_start _) = refl
-    go o (suc k) (then_step _ n _ _ before step) = step.step.program ∙ go n k before
-
 pub run_before : (m n o : MachineParts) (k : ℕ) → IsReducer m → Runs m k n → AreSame n o → (s : MachineParts) × AreSame m s × Runs s k o
 run_before m n o zero h (at_start _) same = (o, same, at_start o)
 run_before m n o (suc k) h (then_step _ w _ _ before s) same =

@@ -1,5 +1,5 @@
 -- What was read ahead of pairs stays while pairs before them interact.
-use Rattle.std.proofs.Common.{◌≡◌, ◌⊎◌, inl, inr, ◌<◌, ◌+◌, ℕ, suc, Some, List, [], ◌∷◌, ◌++◌, ◌≢◌, map, remove, set, slice_get, sym, ap, subst, ◌∙◌, arith}
+use Rattle.std.proofs.Common.{◌≡◌, ◌⊎◌, inl, inr, ◌<◌, ◌+◌, ℕ, suc, Some, List, [], ◌∷◌, ◌++◌, ◌≢◌, length, map, remove, set, slice_get, sym, ap, subst, ◌∙◌, arith}
 use Rattle.std.proofs.lemmas.Bool.{cases_eq}
 use Rattle.std.proofs.lemmas.List.{length-set}
 use Rattle.std.proofs.lemmas.Option.{same_Some, slice_get_within}
@@ -12,8 +12,9 @@ use Rattle.in_reducer.specs.Machines.{MachineParts, parts_of}
 use Rattle.in_reducer.specs.Reducers.{IsReducer}
 use Rattle.in_reducer.specs.Same.{StepsUpToNumbers}
 use Rattle.in_reducer.specs.Steps.{StepsAt}
-use Rattle.in_reducer.specs.Taking.{AreAhead}
+use Rattle.in_reducer.specs.Taking.{AreAhead, together}
 use Rattle.in_reducer.specs.Templates.{HasHeadsAt}
+use Rattle.in_reducer.specs.declared.taking.Ahead.{Ahead}
 use Rattle.in_reducer.proofs.Pairs.Requeued.{other_pair}
 use Rattle.in_reducer.proofs.Numbers.OfSame.{reducer_same}
 use Rattle.in_reducer.proofs.Numbers.SameStep.{pair_moved}
@@ -59,9 +60,27 @@ heads_stay_same m n h (s, (f, same), step) i x at = heads_stay s n (reducer_same
   two = symbol_moved f (parts_of m) (parts_of s) same.net at.pair.1 x.1 at.two;
 })
 
--- what was read ahead stays when the first one is taken
-pub one_taken : (m n : MachineParts) → IsReducer m → StepsUpToNumbers m 0 n → (heads : List (SymbolNo × SymbolNo)) (next : ℕ) → AreAhead m heads next → AreAhead n heads (next + 1)
-one_taken m n h s heads next ahead = λ k x at. heads_stay_same m n h s k x (ahead (suc k) x (ap (slice_get heads) (let z : next + suc k ≡ next + 1 + k = omega arith in z) ∙ at))
+-- ---- read ahead
+
+-- none is read
+pub none_ahead : (m : MachineParts) (a : Ahead) → a.next ≡ together → length a.heads ≡ together → AreAhead m a
+none_ahead m a all many = record { next = omega (arith, all); heads = λ k h at. absurd (let l = slice_get_within a.heads (a.next + k) h at in omega (arith, l, many, all)) }
+
+-- one is taken
+pub one_taken : (m n : MachineParts) → IsReducer m → StepsUpToNumbers m 0 n → (a b : Ahead) → AreAhead m a → (a.next ≡ together → ⊥) → b.next ≡ a.next + 1 → b.heads ≡ a.heads → AreAhead n b
+one_taken m n h s a b ahead some next same = record {
+  next = (let l = ahead.next in omega (arith, l, next, some));
+  heads = λ k x at. heads_stay_same m n h s k x (ahead.heads (suc k) x
+      (ap (slice_get a.heads) (let z : a.next + suc k ≡ b.next + k = omega (arith, next) in z) ∙ ap (λ (xs : List (SymbolNo × SymbolNo)). slice_get xs (b.next + k)) (sym same) ∙ at));
+}
+
+-- .. or none was ahead
+pub goes_on : (m n : MachineParts) → IsReducer m → StepsUpToNumbers m 0 n → (a b : Ahead) → AreAhead m a → b.heads ≡ a.heads → length b.heads ≡ together → (a.next ≡ together → b.next ≡ together) → ((a.next ≡ together → ⊥) → b.next ≡ a.next + 1) → AreAhead n b
+goes_on m n h s a b ahead same long none some = go (cases_eq a.next together)
+  where
+    go : (a.next ≡ together) ⊎ (a.next ≢ together) → AreAhead n b
+    go (inl e) = none_ahead n b (none e) long
+    go (inr f) = one_taken m n h s a b ahead f (some f) same
 
 -- ---- one after another
 

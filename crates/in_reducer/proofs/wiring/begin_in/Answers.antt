@@ -1,11 +1,9 @@
-use Rattle.std.proofs.Common.{◌≡◌, ◌≤◌, ℕ, List, [], ◌∷◌, length, set, refl, sym, ap, subst, ◌∙◌, arith}
+use Rattle.std.proofs.Common.{◌≡◌, ◌≤◌, List, [], ◌∷◌, length, set, refl, sym, ap, subst, ◌∙◌, arith}
 use Rattle.std.proofs.lemmas.List.{length-set}
 use Rattle.in_base.proofs.Each.{at_index}
 use Rattle.in_base.proofs.Places.{set_there}
 use Rattle.in_arena.specs.Arenas.{ArenaView, changed}
-use Rattle.in_arena.specs.Classes.{IsNumberOf}
 use Rattle.in_arena.specs.States.{Vacant}
-use Rattle.in_arena.specs.declared.content.CellClass.TheVariants.{Small}
 use Rattle.in_arena.specs.declared.content.CellNo.{CellNo}
 use Rattle.in_arena.specs.declared.content.End.{End}
 use Rattle.in_arena.specs.declared.content.End.TheVariants.{Cell}
@@ -27,19 +25,19 @@ none_below : (m : MemberParts) (a b : ArenaView) (points : List End) → a ≡ b
 none_below m a b points same = ([], subst (λ (v : ArenaView). AreBegunBelow m b 0 v []) (sym same) (none_begun m b), none_at points)
 
 pub begin_rest-requires-clause-begun : goal.begin_rest-requires-clause-begun
-begin_rest-requires-clause-begun g c =
+begin_rest-requires-clause-begun c =
     let m = c.args.member.now in
     let gone = both_retired c.args.pair c.args.arena.now c.retire.new.self c.retire-then-many-eq0.new.self c.retire.ensures c.retire-then-many-eq0.ensures in (
       retired c.args.pair c.args.arena.now,
-      taken.can_retired m c.is_sound.ensures c.args.pair c.args.arena.now c.requires.live c.args.points.now c.requires.begin,
+      taken.can_retired m c.is_sound.ensures c.args.pair c.args.arena.now c.requires.0 c.args.points.now c.requires.1,
       none_below m c.retire-then-many-eq0.new.self (retired c.args.pair c.args.arena.now) c.args.points.now gone,
     )
 
 pub returns-then-many-eq0-clause-begun : goal.returns-then-many-eq0-clause-begun
-returns-then-many-eq0-clause-begun g c =
+returns-then-many-eq0-clause-begun c =
     let m = c.args.member.now in
     let gone = both_retired c.args.pair c.args.arena.now c.retire.new.self c.retire-then-many-eq0.new.self c.retire.ensures c.retire-then-many-eq0.ensures in
-    c.begin_rest.ensures.begun (retired c.args.pair c.args.arena.now) (taken.can_retired m c.is_sound.ensures c.args.pair c.args.arena.now c.requires.live c.args.points.now c.requires.begin)
+    c.begin_rest.ensures.begun (retired c.args.pair c.args.arena.now) (taken.can_retired m c.is_sound.ensures c.args.pair c.args.arena.now c.requires.0 c.args.points.now c.requires.1)
     (none_below m c.retire-then-many-eq0.new.self (retired c.args.pair c.args.arena.now) c.args.points.now gone)
 
 -- one is begun, and stands at its point
@@ -50,65 +48,59 @@ still_begin : (m : MemberParts) (a : ArenaView) (points after : List End) → le
 still_begin m a points after same h = record { all = h.all; free = h.free; few = h.few; long = (let l = h.long in omega (arith, l, same)) }
 
 pub begin_in-first-requires-clause-free : goal.begin_in-first-requires-clause-free
-begin_in-first-requires-clause-free g c = taken.first_free c.args.member.now c.is_sound.ensures c.args.pair c.args.arena.now c.requires.live c.args.points.now c.requires.begin
+begin_in-first-requires-clause-free c = taken.first_free c.args.member.now c.is_sound.ensures c.args.pair c.args.arena.now c.requires.0 c.args.points.now c.requires.1
 
 pub retire-requires-then-many-eq1 : goal.retire-requires-then-many-eq1
-retire-requires-then-many-eq1 g c =
+retire-requires-then-many-eq1 c =
     let m = c.args.member.now in
     let x = at_index m.agents 0 (let many = c.agents-many.ensures in let f = c.if-many-eq1.true in omega (arith, many, f)) in
-    taken.other_live m c.is_sound.ensures c.args.pair c.args.arena.now c.requires.live c.args.points.now c.requires.begin x.0 x.1 c.begin_in-first.result c.begin_in-first.new.arena (c.begin_in-first.ensures x.0 x.1)
+    taken.other_live m c.is_sound.ensures c.args.pair c.args.arena.now c.requires.0 c.args.points.now c.requires.1 x.0 x.1 c.begin_in-first.result c.begin_in-first.new.arena (c.begin_in-first.ensures x.0 x.1)
 
 pub begin_rest-requires-then-many-eq1-clause-begun : goal.begin_rest-requires-then-many-eq1-clause-begun
-begin_rest-requires-then-many-eq1-clause-begun g c =
+begin_rest-requires-then-many-eq1-clause-begun c =
     let m = c.args.member.now in
     let x = at_index m.agents 0 (let many = c.agents-many.ensures in let f = c.if-many-eq1.true in omega (arith, many, f)) in
     let points = c.args.points.now in
-    let long = c.requires.begin.long in
-    let below = taken.first_below m c.is_sound.ensures c.args.pair c.args.arena.now c.requires.live points c.requires.begin x.0 x.1 c.begin_in-first.result c.begin_in-first.new.arena (c.begin_in-first.ensures x.0 x.1) in (
+    let long = c.requires.1.long in
+    let below = taken.first_below m c.is_sound.ensures c.args.pair c.args.arena.now c.requires.0 points c.requires.1 x.0 x.1 c.begin_in-first.result c.begin_in-first.new.arena (c.begin_in-first.ensures x.0 x.1) in (
       retired c.args.pair c.args.arena.now,
-      still_begin m (retired c.args.pair c.args.arena.now) points (set points 32 c.port.result) (length-set points 32 c.port.result) (taken.can_retired m c.is_sound.ensures c.args.pair c.args.arena.now c.requires.live points c.requires.begin),
+      still_begin m (retired c.args.pair c.args.arena.now) points (set points 32 c.port.result) (length-set points 32 c.port.result) (taken.can_retired m c.is_sound.ensures c.args.pair c.args.arena.now c.requires.0 points c.requires.1),
       one_below m (retired c.args.pair c.args.arena.now) c.retire-then-many-eq1.new.self c.begin_in-first.result points c.port.result
           (subst (λ (v : ArenaView). AreBegunBelow m (retired c.args.pair c.args.arena.now) 1 v (c.begin_in-first.result ∷ [])) (sym c.retire-then-many-eq1.ensures) below) (omega (arith, long)) c.port.ensures,
     )
 
 pub returns-then-many-eq1-clause-begun : goal.returns-then-many-eq1-clause-begun
-returns-then-many-eq1-clause-begun g c =
+returns-then-many-eq1-clause-begun c =
     let m = c.args.member.now in
     let x = at_index m.agents 0 (let many = c.agents-many.ensures in let f = c.if-many-eq1.true in omega (arith, many, f)) in
     let points = c.args.points.now in
-    let long = c.requires.begin.long in
-    let below = taken.first_below m c.is_sound.ensures c.args.pair c.args.arena.now c.requires.live points c.requires.begin x.0 x.1 c.begin_in-first.result c.begin_in-first.new.arena (c.begin_in-first.ensures x.0 x.1) in
+    let long = c.requires.1.long in
+    let below = taken.first_below m c.is_sound.ensures c.args.pair c.args.arena.now c.requires.0 points c.requires.1 x.0 x.1 c.begin_in-first.result c.begin_in-first.new.arena (c.begin_in-first.ensures x.0 x.1) in
     c.begin_rest-then-many-eq1.ensures.begun (retired c.args.pair c.args.arena.now)
-    (still_begin m (retired c.args.pair c.args.arena.now) points (set points 32 c.port.result) (length-set points 32 c.port.result) (taken.can_retired m c.is_sound.ensures c.args.pair c.args.arena.now c.requires.live points c.requires.begin))
+    (still_begin m (retired c.args.pair c.args.arena.now) points (set points 32 c.port.result) (length-set points 32 c.port.result) (taken.can_retired m c.is_sound.ensures c.args.pair c.args.arena.now c.requires.0 points c.requires.1))
     (one_below m (retired c.args.pair c.args.arena.now) c.retire-then-many-eq1.new.self c.begin_in-first.result points c.port.result
     (subst (λ (v : ArenaView). AreBegunBelow m (retired c.args.pair c.args.arena.now) 1 v (c.begin_in-first.result ∷ [])) (sym c.retire-then-many-eq1.ensures) below) (omega (arith, long)) c.port.ensures)
 
 pub returns-then-many-eq1-clause-ends : goal.returns-then-many-eq1-clause-ends
-returns-then-many-eq1-clause-ends g c = λ e low. c.begin_rest-then-many-eq1.ensures.ends e low ∙ set_there c.args.points.now 32 e c.port.result (λ same. omega (arith, low, same))
+returns-then-many-eq1-clause-ends c = λ e low. c.begin_rest-then-many-eq1.ensures.ends e low ∙ set_there c.args.points.now 32 e c.port.result (λ same. omega (arith, low, same))
 
 pub begin_in-second-requires-clause-live : goal.begin_in-second-requires-clause-live
-begin_in-second-requires-clause-live g c =
+begin_in-second-requires-clause-live c =
     let m = c.args.member.now in
     let x = at_index m.agents 0 (let many = c.agents-many.ensures in let f = c.if-many-eq0.false in omega (arith, many, f)) in
-    taken.other_live m c.is_sound.ensures c.args.pair c.args.arena.now c.requires.live c.args.points.now c.requires.begin x.0 x.1 c.begin_in-first.result c.begin_in-first.new.arena (c.begin_in-first.ensures x.0 x.1)
-
-pub begin_in-second-requires-clause-small : goal.begin_in-second-requires-clause-small
-begin_in-second-requires-clause-small g c = λ yes.
-    let m = c.args.member.now in
-    let x = at_index m.agents 0 (let many = c.agents-many.ensures in let f = c.if-many-eq0.false in omega (arith, many, f)) in
-    subst (λ (cells : ℕ). IsNumberOf cells Small c.args.pair.other.0) (sym (ap (λ (v : ArenaView). v.cells) (c.begin_in-first.ensures x.0 x.1).arena)) (c.requires.small yes).1
+    taken.other_live m c.is_sound.ensures c.args.pair c.args.arena.now c.requires.0 c.args.points.now c.requires.1 x.0 x.1 c.begin_in-first.result c.begin_in-first.new.arena (c.begin_in-first.ensures x.0 x.1)
 
 pub begin_in-second-requires-clause-all : goal.begin_in-second-requires-clause-all
-begin_in-second-requires-clause-all g c =
+begin_in-second-requires-clause-all c =
     let m = c.args.member.now in
     let x = at_index m.agents 0 (let many = c.agents-many.ensures in let f = c.if-many-eq0.false in omega (arith, many, f)) in
-    taken.all_next m c.is_sound.ensures c.args.pair c.args.arena.now c.requires.live c.args.points.now c.requires.begin x.0 x.1 c.begin_in-first.result c.begin_in-first.new.arena (c.begin_in-first.ensures x.0 x.1)
+    taken.all_next m c.is_sound.ensures c.args.pair c.args.arena.now c.requires.0 c.args.points.now c.requires.1 x.0 x.1 c.begin_in-first.result c.begin_in-first.new.arena (c.begin_in-first.ensures x.0 x.1)
 
 pub begin_in-second-requires-clause-free : goal.begin_in-second-requires-clause-free
-begin_in-second-requires-clause-free g c =
+begin_in-second-requires-clause-free c =
     let m = c.args.member.now in
     let x = at_index m.agents 0 (let many = c.agents-many.ensures in let f = c.if-many-eq0.false in omega (arith, many, f)) in
-    taken.second_free m c.is_sound.ensures c.args.pair c.args.arena.now c.requires.live c.args.points.now c.requires.begin x.0 x.1 c.begin_in-first.result c.begin_in-first.new.arena (c.begin_in-first.ensures x.0 x.1)
+    taken.second_free m c.is_sound.ensures c.args.pair c.args.arena.now c.requires.0 c.args.points.now c.requires.1 x.0 x.1 c.begin_in-first.result c.begin_in-first.new.arena (c.begin_in-first.ensures x.0 x.1)
 
 -- two are begun, and stand at their points
 two_below : (m : MemberParts) (b new : ArenaView) (one two : CellNo) (points : List End) (v w : End) → AreBegunBelow m b 2 new (one ∷ two ∷ []) → 34 ≤ length points → v ≡ Cell one 0 → w ≡ Cell two 0 → HasBegunBelow m b 2 new (set (set points 32 v) 33 w)
@@ -119,36 +111,36 @@ two_below m b new one two points v w below long is_v is_w = (
 )
 
 pub begin_rest-requires-2-clause-begun : goal.begin_rest-requires-2-clause-begun
-begin_rest-requires-2-clause-begun g c =
+begin_rest-requires-2-clause-begun c =
     let m = c.args.member.now in
     let x = at_index m.agents 0 (let many = c.agents-many.ensures in let f = c.if-many-eq0.false in omega (arith, many, f)) in
     let y = at_index m.agents 1 (let many = c.agents-many.ensures in let f = c.if-many-eq0.false in let g = c.if-many-eq1.false in omega (arith, many, f, g)) in
     let points = c.args.points.now in
-    let long = c.requires.begin.long in (
+    let long = c.requires.1.long in (
       retired c.args.pair c.args.arena.now,
       still_begin m (retired c.args.pair c.args.arena.now) points (set (set points 32 c.port.result) 33 c.port-2.result) (length-set (set points 32 c.port.result) 33 c.port-2.result ∙ length-set points 32 c.port.result)
-          (taken.can_retired m c.is_sound.ensures c.args.pair c.args.arena.now c.requires.live points c.requires.begin),
+          (taken.can_retired m c.is_sound.ensures c.args.pair c.args.arena.now c.requires.0 points c.requires.1),
       two_below m (retired c.args.pair c.args.arena.now) c.begin_in-second.new.arena c.begin_in-first.result c.begin_in-second.result points c.port.result c.port-2.result
-          (taken.both_below m c.is_sound.ensures c.args.pair c.args.arena.now c.requires.live points c.requires.begin x.0 x.1 c.begin_in-first.result c.begin_in-first.new.arena (c.begin_in-first.ensures x.0 x.1) y.0 y.1 c.begin_in-second.result
+          (taken.both_below m c.is_sound.ensures c.args.pair c.args.arena.now c.requires.0 points c.requires.1 x.0 x.1 c.begin_in-first.result c.begin_in-first.new.arena (c.begin_in-first.ensures x.0 x.1) y.0 y.1 c.begin_in-second.result
           c.begin_in-second.new.arena (c.begin_in-second.ensures y.0 y.1))
           (omega (arith, long)) c.port.ensures c.port-2.ensures,
     )
 
 pub returns-clause-begun : goal.returns-clause-begun
-returns-clause-begun g c =
+returns-clause-begun c =
     let m = c.args.member.now in
     let x = at_index m.agents 0 (let many = c.agents-many.ensures in let f = c.if-many-eq0.false in omega (arith, many, f)) in
     let y = at_index m.agents 1 (let many = c.agents-many.ensures in let f = c.if-many-eq0.false in let g = c.if-many-eq1.false in omega (arith, many, f, g)) in
     let points = c.args.points.now in
-    let long = c.requires.begin.long in
+    let long = c.requires.1.long in
     c.begin_rest-2.ensures.begun (retired c.args.pair c.args.arena.now)
     (still_begin m (retired c.args.pair c.args.arena.now) points (set (set points 32 c.port.result) 33 c.port-2.result) (length-set (set points 32 c.port.result) 33 c.port-2.result ∙ length-set points 32 c.port.result)
-    (taken.can_retired m c.is_sound.ensures c.args.pair c.args.arena.now c.requires.live points c.requires.begin))
+    (taken.can_retired m c.is_sound.ensures c.args.pair c.args.arena.now c.requires.0 points c.requires.1))
     (two_below m (retired c.args.pair c.args.arena.now) c.begin_in-second.new.arena c.begin_in-first.result c.begin_in-second.result points c.port.result c.port-2.result
-    (taken.both_below m c.is_sound.ensures c.args.pair c.args.arena.now c.requires.live points c.requires.begin x.0 x.1 c.begin_in-first.result c.begin_in-first.new.arena (c.begin_in-first.ensures x.0 x.1) y.0 y.1 c.begin_in-second.result
+    (taken.both_below m c.is_sound.ensures c.args.pair c.args.arena.now c.requires.0 points c.requires.1 x.0 x.1 c.begin_in-first.result c.begin_in-first.new.arena (c.begin_in-first.ensures x.0 x.1) y.0 y.1 c.begin_in-second.result
     c.begin_in-second.new.arena (c.begin_in-second.ensures y.0 y.1))
     (omega (arith, long)) c.port.ensures c.port-2.ensures)
 
 pub returns-clause-ends : goal.returns-clause-ends
-returns-clause-ends g c = λ e low.
+returns-clause-ends c = λ e low.
     c.begin_rest-2.ensures.ends e low ∙ set_there (set c.args.points.now 32 c.port.result) 33 e c.port-2.result (λ same. omega (arith, low, same)) ∙ set_there c.args.points.now 32 e c.port.result (λ same. omega (arith, low, same))

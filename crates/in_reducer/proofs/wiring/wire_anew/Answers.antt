@@ -1,32 +1,57 @@
-use Rattle.std.proofs.Common.{length, refl, arith}
-use Rattle.in_reducer.specs.Wiring.{aside_of}
+use Rattle.std.proofs.Common.{◌≡◌, ◌<◌, ◌≤◌, ℕ, List, length, slice_get, refl, sym, subst, ◌∙◌, arith}
+use Rattle.in_arena.specs.Arenas.{ArenaView}
+use Rattle.in_arena.specs.declared.content.CellNo.{CellNo}
+use Rattle.in_arena.specs.declared.content.End.{End}
+use Rattle.in_cells.proofs.Public.{keep_on}
+use Rattle.in_compile.specs.Members.{MemberParts}
+use Rattle.in_reducer.specs.declared.sides.Pair.{Pair}
+use Rattle.in_reducer.specs.Inside.{most_ends}
+use Rattle.in_reducer.specs.Sides.{end_there, port_at}
+use Rattle.in_reducer.specs.Wiring.{CanBegin, HasBegun, aside_of, retired}
 use Rattle.in_reducer.proofs.Steps.Anew as anew
 use Rattle.in_reducer.proofs.Steps.Points.{over_few}
 use Rattle.in_reducer.proofs.Steps.Reading as read
-use Rattle.in_cells.proofs.Public.{keep_on}
 use Rattle.in_reducer.proofs.wiring.wire_anew.Goals as goal
 
-pub begin_anew-requires : goal.begin_anew-requires
-begin_anew-requires c =
+-- the agents that were begun are the template's
+begun_there : (m n : MemberParts) (ns : List CellNo) (a b : ArenaView) → m ≡ n → HasBegun m ns a b → HasBegun n ns a b
+begun_there m n ns a b same h = subst (λ (m : MemberParts). HasBegun m ns a b) same h
+
+-- what was read at the boundary ends still stands there
+read_still : (a : ArenaView) (p : Pair) (many joints : ℕ) (middle points : List End) → many ≡ joints → joints ≤ most_ends → ((e : ℕ) → e < many → slice_get middle e ≡ end_there a (port_at p e))
+    → ((e : ℕ) → e < most_ends → slice_get points e ≡ slice_get middle e) → (e : ℕ) → e < joints → slice_get points e ≡ end_there a (port_at p e)
+read_still a p many joints middle points is few read stay e low = stay e (let l : e < most_ends = omega (arith, low, few) in l) ∙ read e (let l : e < many = omega (arith, low, is) in l)
+
+pub read_ports-requires : goal.read_ports-requires
+read_ports-requires c =
     let t = c.requires.ready.0 in
     let h = c.requires.ready.1 in
-    let p = c.args.template.now in
-    record {
-      read = read.can_read t h.setting p c.args.pair h.own c.args.arena.now c.args.ends.now h.about c.args.arena.now refl refl c.args.points.now (length p.member.joints) refl h.few h.begin.long;
-      live = read.live t h.setting p c.args.pair h.own c.args.arena.now c.args.ends.now h.about c.args.arena.now refl refl;
-      begin = h.begin;
-    }
+    let many = c.boundary_ends.ensures in
+    read.can_read t h.setting c.args.template.now c.args.pair h.own c.args.arena.now c.args.ends.now h.about c.args.arena.now refl refl c.args.points.now c.boundary_ends.result many
+    (let f = h.few in omega (arith, f, many)) h.begin.long
+
+pub begin_in-requires : goal.begin_in-requires
+begin_in-requires c =
+    let t = c.requires.ready.0 in
+    let h = c.requires.ready.1 in
+    let begin = subst (λ (m : MemberParts). CanBegin m c.args.arena.now c.args.points.now) (sym c.member.ensures) h.begin in (
+      read.live t h.setting c.args.template.now c.args.pair h.own c.args.arena.now c.args.ends.now h.about c.args.arena.now refl refl,
+      record { all = begin.all; free = begin.free; few = begin.few; long = (let l = begin.long in let a = c.read_ports.auto.points in omega (arith, l, a)) },
+    )
 
 pub write_over-requires-clause-ready : goal.write_over-requires-clause-ready
 write_over-requires-clause-ready c =
     let t = c.requires.ready.0 in
     let h = c.requires.ready.1 in
-    let b = c.begin_anew.ensures.begun in (
+    let p = c.args.template.now in
+    let b = c.begin_in.ensures.begun in
+    let begun = begun_there c.member.result.now p.member b.0 (retired c.args.pair c.args.arena.now) c.begin_in.new.arena c.member.ensures b.1 in (
       t,
       aside_of h.setting h.aside.0 h.aside.1,
       h.own,
       b.0,
-      anew.can_wire t h.setting c.args.template.now c.args.pair h.own c.args.arena.now c.args.ends.now h.about b.0 c.begin_anew.new.arena b.1 h.unmarked h.aside.0 h.aside.1 h.aside.2 c.begin_anew.new.points c.begin_anew.ensures.read b.2,
+      anew.can_wire t h.setting p c.args.pair h.own c.args.arena.now c.args.ends.now h.about b.0 c.begin_in.new.arena begun h.unmarked h.aside.0 h.aside.1 h.aside.2 c.begin_in.new.points
+          (read_still c.args.arena.now c.args.pair c.boundary_ends.result (length p.member.joints) c.read_ports.new.points c.begin_in.new.points c.boundary_ends.ensures h.few c.read_ports.ensures.read c.begin_in.ensures.ends) b.2,
     )
 
 pub write_over-requires-clause-room : goal.write_over-requires-clause-room
@@ -40,26 +65,30 @@ pub write_within-requires : goal.write_within-requires
 write_within-requires c =
     let t = c.requires.ready.0 in
     let h = c.requires.ready.1 in
-    let b = c.begin_anew.ensures.begun in
-    let start = anew.can_wire t h.setting c.args.template.now c.args.pair h.own c.args.arena.now c.args.ends.now h.about b.0 c.begin_anew.new.arena b.1 h.unmarked h.aside.0 h.aside.1 h.aside.2 c.begin_anew.new.points c.begin_anew.ensures.read b.2 in
+    let p = c.args.template.now in
+    let b = c.begin_in.ensures.begun in
+    let begun = begun_there c.member.result.now p.member b.0 (retired c.args.pair c.args.arena.now) c.begin_in.new.arena c.member.ensures b.1 in
+    let start = anew.can_wire t h.setting p c.args.pair h.own c.args.arena.now c.args.ends.now h.about b.0 c.begin_in.new.arena begun h.unmarked h.aside.0 h.aside.1 h.aside.2 c.begin_in.new.points
+    (read_still c.args.arena.now c.args.pair c.boundary_ends.result (length p.member.joints) c.read_ports.new.points c.begin_in.new.points c.boundary_ends.ensures h.few c.read_ports.ensures.read c.begin_in.ensures.ends) b.2 in
     record { ready = (t, aside_of h.setting h.aside.0 h.aside.1, h.own, b.0, c.write_over.ensures.written t (aside_of h.setting h.aside.0 h.aside.1) h.own b.0 start) }
 
 pub returns-clause-wired : goal.returns-clause-wired
 returns-clause-wired c = λ t h. (
     let p = c.args.template.now in
-    let b = c.begin_anew.ensures.begun in
-    let middle = c.begin_anew.new.arena in
-    let points = c.begin_anew.new.points in
-    let still = c.begin_anew.ensures.read in
+    let b = c.begin_in.ensures.begun in
+    let middle = c.begin_in.new.arena in
+    let points = c.begin_in.new.points in
+    let begun = begun_there c.member.result.now p.member b.0 (retired c.args.pair c.args.arena.now) middle c.member.ensures b.1 in
+    let still = read_still c.args.arena.now c.args.pair c.boundary_ends.result (length p.member.joints) c.read_ports.new.points points c.boundary_ends.ensures h.few c.read_ports.ensures.read c.begin_in.ensures.ends in
     record {
       cells = b.0;
       middle = middle;
       live = read.live t h.setting p c.args.pair h.own c.args.arena.now c.args.ends.now h.about c.args.arena.now refl refl;
-      begun = b.1;
+      begun = begun;
       kept = keep_on middle c.write_over.new.arena c.write_within.new.arena c.write_over.ensures.kept c.write_within.ensures.kept;
       at = b.2;
       written = λ s own n f about set. c.write_within.ensures.written t (aside_of s n f) own b.0 (c.write_over.ensures.written t (aside_of s n f) own b.0
-          (anew.can_wire t s p c.args.pair own c.args.arena.now c.args.ends.now about b.0 middle b.1 h.unmarked n f set points still b.2));
-      queued = λ s own n f about set. c.write_over.ensures.queued t (aside_of s n f) own b.0 (anew.can_wire t s p c.args.pair own c.args.arena.now c.args.ends.now about b.0 middle b.1 h.unmarked n f set points still b.2);
+          (anew.can_wire t s p c.args.pair own c.args.arena.now c.args.ends.now about b.0 middle begun h.unmarked n f set points still b.2));
+      queued = λ s own n f about set. c.write_over.ensures.queued t (aside_of s n f) own b.0 (anew.can_wire t s p c.args.pair own c.args.arena.now c.args.ends.now about b.0 middle begun h.unmarked n f set points still b.2);
     }
     )

@@ -15,8 +15,8 @@ use Rattle.in_reducer.proofs.wiring.wire_up.Goals as goal
 begun_there : (m n : MemberParts) (ns : List CellNo) (a b : ArenaView) → m ≡ n → HasBegun m ns a b → HasBegun n ns a b
 begun_there m n ns a b same h = subst (λ (m : MemberParts). HasBegun m ns a b) same h
 
-pub read_ports-requires-clause-can : goal.read_ports-requires-clause-can
-read_ports-requires-clause-can c =
+pub read_ports-requires : goal.read_ports-requires
+read_ports-requires c =
     let t = c.requires.ready.0 in
     let ready = c.requires.ready.1 in
     let q = ready.about in
