@@ -136,8 +136,16 @@ fn tell<R: Print + Threads + Wait>(
 ) -> io::Result<()> {
     let mut sheet = Sheet::new(alloc);
     match word(words, 1) {
-        "run" | "calls" | "gather" | "workers" | "round" | "rounds" | "steps" | "still"
-        | "written" | "phases" => add_checked(rt, &mut sheet, words, text),
+        "run"
+        | "calls"
+        | "gather"
+        | "workers"
+        | "round"
+        | "rounds"
+        | "steps"
+        | "still"
+        | "written"
+        | "phases" => add_checked(rt, &mut sheet, words, text),
         _ => add_answer(&mut sheet, words, text),
     }
     sheet.print(rt)
