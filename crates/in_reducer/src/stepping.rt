@@ -105,8 +105,8 @@ impl<'a> Reducer<'a> {
         self.template_by(templates, number, self.body.heads(number))
     }
 
-    /// How many cells of each class the interaction of the pair of that number needs: the agents of its rule's right member. They must be free
-    /// while the pair is still there. The templates are those of the program.
+    /// How many cells of each class the interaction of the pair of that number needs: the agents of its rule's right member. They have to
+    /// be free while the pair still stands. The templates are those of the program.
     pub fn need_of(&self, templates: &Templates, number: u32) -> Need
         requires templates { AreTemplatesOf self.now.program templates.now }
         requires pair { number < length self.now.queue }
@@ -195,8 +195,8 @@ impl<'a> Reducer<'a> {
 
     /// The interaction of the pair of that number, by the rule of its symbols: Lafont 1990's, which replaces the pair by the right member.
     /// The pair leaves the queue, and the new pairs come last: first those over boundary ends, by the lowest-numbered one on the path that
-    /// made each, then the right member's own. The cells of the pair are free, and those of the new agents aren't. The cells
-    /// that the pair needs must be free while it is still there. The templates are those of the program. It takes no memory.
+    /// made each, then the right member's own. The cells of the pair are free, and those of the new agents aren't. What the pair needs has
+    /// to be free while it still stands. The templates are those of the program. It takes no memory.
     pub fn step(&mut self, templates: &Templates, number: u32)
         requires templates { AreTemplatesOf self.old.program templates.now }
         requires pair { number < length self.old.queue }
@@ -207,24 +207,24 @@ impl<'a> Reducer<'a> {
         self.step_by(template, number);
     }
 
-    /// The interaction of the pair of that number, up to numbers, where neither symbol of the pair is marked: its cells are free before the right
-    /// member's agents are begun, so that these stand there where they can.
+    /// The interaction of the first pair, up to numbers, where neither symbol of the pair is marked: its cells are free before the right member's
+    /// agents are begun, so that these stand there where they can.
     #[inline(always)]
-    fn step_anew(&mut self, template: &Template, number: u32)
-        requires at { IsTemplateAt self.old number template.now }
-        requires room { HasRoomAt self.old number }
+    fn step_anew(&mut self, template: &Template)
+        requires at { IsTemplateAt self.old 0 template.now }
+        requires room { HasRoomAt self.old 0 }
         requires unmarked { IsTrue template.now.unmarked }
-        ensures { StepsUpToNumbers self.old number self.new }
+        ensures { StepsUpToNumbers self.old 0 self.new }
     {
         let body = &mut self.body;
-        let (one, other) = body.queue[number as usize];
+        let (one, other) = body.queue[0];
         let pair = Pair {
             one: CellNo(one),
             other: CellNo(other),
             first_ends: template.first_ends(),
         };
         use_promise!(body.arena.cells());
-        take_out(&mut body.queue, number as usize);
+        take_out(&mut body.queue, 0);
         wire_anew(
             template,
             pair,
@@ -240,17 +240,17 @@ impl<'a> Reducer<'a> {
         );
     }
 
-    /// The interaction of the pair of that number, up to numbers.
+    /// The interaction of the first pair, up to numbers.
     #[inline(always)]
-    pub(crate) fn step_here(&mut self, template: &Template, number: u32)
-        requires at { IsTemplateAt self.old number template.now }
-        requires room { HasRoomAt self.old number }
-        ensures { StepsUpToNumbers self.old number self.new }
+    fn step_here(&mut self, template: &Template)
+        requires at { IsTemplateAt self.old 0 template.now }
+        requires room { HasRoomAt self.old 0 }
+        ensures { StepsUpToNumbers self.old 0 self.new }
     {
         if template.is_unmarked() {
-            self.step_anew(template, number);
+            self.step_anew(template);
         } else {
-            self.step_beside(template, number);
+            self.step_beside(template, 0);
         }
     }
 
@@ -265,7 +265,7 @@ impl<'a> Reducer<'a> {
         if !self.fits(template, 0) {
             return false;
         }
-        self.step_here(template, 0);
+        self.step_here(template);
         true
     }
 }

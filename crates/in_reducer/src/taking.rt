@@ -6,7 +6,7 @@ ghost use Rattle.in_compile.specs.Cells.{count_of};
 ghost use Rattle.in_compile.specs.Templates.{AreTemplatesOf};
 ghost use Rattle.in_reducer.specs.Parting.{ReducesTo};
 ghost use Rattle.in_reducer.specs.Same.{RunsUpToNumbers, StepsUpToNumbers};
-ghost use Rattle.in_reducer.specs.Steps.{HasRoomAt};
+ghost use Rattle.in_reducer.specs.Steps.{HasRoomAt, StepsAt};
 ghost use Rattle.in_reducer.specs.Taking.{AreAhead, HasRoomBesides, TakesNoLast, together};
 ghost use Rattle.in_reducer.specs.Templates.{HasHeadsAt, IsTemplateAt};
 
@@ -139,13 +139,13 @@ impl<'a> Reducer<'a> {
         Need::free_in(&self.body.arena).has_besides(template.need(), floor)
     }
 
-    /// The interaction of the last pair, up to numbers, where what it needs is free and `floor` cells of each class besides. Returns whether it was
-    /// done. There is a pair.
+    /// The interaction of the last pair, as `step` says, where what it needs is free and `floor` cells of each class besides. Returns whether it
+    /// was done. There is a pair.
     #[inline(always)]
     fn step_last(&mut self, templates: &Templates, floor: u32) -> bool
         requires templates { AreTemplatesOf self.old.program templates.now }
         requires pair { 0 < length self.old.queue }
-        ensures done { result ≡ true → StepsUpToNumbers self.old (length self.old.queue - 1) self.new × HasRoomBesides self.old (length self.old.queue - 1) floor }
+        ensures done { result ≡ true → StepsAt self.old (length self.old.queue - 1) self.new × HasRoomBesides self.old (length self.old.queue - 1) floor }
         ensures none { result ≡ false → (self.new ≡ self.old) × (HasRoomBesides self.old (length self.old.queue - 1) floor → ⊥) }
     {
         let number = self.pairs() - 1;
@@ -153,13 +153,13 @@ impl<'a> Reducer<'a> {
         if !self.fits_besides(template, number, floor) {
             return false;
         }
-        self.step_here(template, number);
+        self.step_by(template, number);
         true
     }
 
-    /// Interactions of the last pair of the queue, one after another, at most `most`, the newest pair first: the newest agents are still in the
-    /// cache, and such a net stays small. Fewer only if no pair is left, or the cells of the last one aren't free with `floor` more of each class.
-    /// Returns the number of interactions. The templates are those of the program. It takes no memory.
+    /// Interactions of the last pair of the queue, one after another, at most `most`, the newest pair first: what was made last is still in the
+    /// cache, and a net that is reduced from there stays small. Fewer only where no pair is left, or what the last one needs isn't free with
+    /// `floor` cells of each class besides. Returns how many they were. The templates are those of the program. It takes no memory.
     pub fn take_newest(&mut self, templates: &Templates, floor: u32, most: u64) -> u64
         requires { AreTemplatesOf self.old.program templates.now }
         ensures reduces { ReducesTo self.old result self.new }
