@@ -1,5 +1,6 @@
 pub mod Certified
 pub mod Chain
+pub mod Declared
 pub mod OneAnswer
 pub mod OnePass
 pub mod Passes

@@ -16,6 +16,7 @@ use Rattle.in_typing.specs.Typed.{Types, TypesRule}
 use Rattle.in_cover.specs.Table.{Cells}
 use Rattle.in_cover.specs.Cover.{Covers}
 use Rattle.in_check.specs.declared.checked.Certificate.{Certificate}
+use Rattle.in_check.specs.declared.checking.Declared.{Declared}
 use Rattle.in_check.specs.Certificates.{CertifiesRules, CertifiesNet}
 use Rattle.in_check.specs.Programs.{Program}
 
@@ -101,6 +102,27 @@ ChecksNames s = Then (Tabulates s) (ChecksRules s)
 -- need not look inside.)
 unfoldable pub IsChecked : List ℕ → Result Program Fault → Type 0
 IsChecked text = Then (Parses text) ChecksNames
+
+-- ---- what a text declares, before the passes over it
+
+abbrev pub KeepsDeclared : Tables → List RuleParts → Parts → Result Declared Fault → Type 0
+KeepsDeclared t rules n (Ok d) = d ≡ record { symbols = t; rules = rules; net = n }
+KeepsDeclared t rules n (Err (Refused r)) = ⊥
+KeepsDeclared t rules n (Err (Memory e)) = Unit {0}
+
+abbrev pub DeclaresNet : Source → Tables → List RuleParts → Result Declared Fault → Type 0
+DeclaresNet s t rules = Then (Builds s t) (KeepsDeclared t rules)
+
+abbrev pub DeclaresRules : Source → Tables → Result Declared Fault → Type 0
+DeclaresRules s t = Then (BuildsRules s t) (DeclaresNet s t)
+
+abbrev pub Declares : Source → Result Declared Fault → Type 0
+Declares s = Then (Tabulates s) (DeclaresRules s)
+
+abbrev pub DeclaresText : List ℕ → Result Declared Fault → Type 0
+DeclaresText text = Then (Parses text) Declares
+
+-- ---- all passes
 
 -- the program of a text that all passes accept
 abbrev pub IsAccepted : List ℕ → Program → Type 0

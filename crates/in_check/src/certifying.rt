@@ -13,7 +13,7 @@ use in_open_nets::{OpenNet, Stuck, Undone};
 use in_open_nets_of_programs::{open_net, open_rule};
 use in_simple_deriving::derive;
 use in_symbols::Symbols;
-use in_syntax::{Code, Fault, Refusal};
+use in_syntax::{Code, Fault, Refusal, with_room};
 use sqlite_items::Items;
 use std::alloc::Global;
 
@@ -81,7 +81,7 @@ pub(crate) fn certify_rules(
     requires numbered { AreNumbered symbols.now }
     ensures { CertifiesRules symbols.now rules.now result }
 {
-    let mut certificates = Items::new(alloc);
+    let mut certificates = with_room(alloc, rules.len())?;
     for rule in rules {
         let certificate = certify_rule(alloc, symbols, rule, evidence)?;
         certificates.push(certificate)?;

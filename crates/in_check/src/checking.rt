@@ -2,17 +2,17 @@
 //!
 //! | Pass | Its call | Takes | Gives | Refuses with |
 //! |---|---|---|---|---|
-//! | `check_tree` | `parse` | the text | its tree, `Source` | E01, E02, E03 |
-//! | `check_names` | `Symbols::build` | the tree | the tables of names, `Symbols` | E04, E05, E06 |
-//! | `check_rules` | `build_rule` of each rule | the tree, the tables | each `Rule`: two heads and a right member | E03, E07, E08, E09 |
-//! | `check_net` | `build_net` | the tree, the tables | the `Net`, and with what came before `Declared` | E03, E07, E08, E09 |
+//! | `declare_text` | `parse` | the text | its tree, `Source` | E01, E02, E03 |
+//! | `declare` | `Symbols::build` | the tree | the tables of names, `Symbols` | E04, E05, E06 |
+//! | `declare_rules` | `build_rule` of each rule | the tree, the tables | each `Rule`: two heads and a right member | E03, E07, E08, E09 |
+//! | `declare_net` | `build_net` | the tree, the tables | the `Net`, and with what came before `Declared` | E03, E07, E08, E09 |
 //! | `check_types` | `type_rule` of each rule, `type_net` | `Declared` | nothing: its types fit | E11, E10 |
 //! | `check_pairs` | `cover` | the tables, the rules | the number of the rule of each pair, `RuleTable` | E14, E15 |
 //! | `check_rule_steps` | `open_rule` and `derive` of each rule | the tables, the rules | the steps of each rule, `Certificate` | E12 |
 //! | `check_net_steps` | `open_net` and `derive` | the tables, the net | the steps of the net, and with all that was given `Passed` | E13 |
 //!
-//! A pass makes its call and then the next pass, to which it hands all that was given so far. Where it refuses, it drops that by itself: the
-//! prover goes through a function way by way, and few ways then lead out. Each call but those on types may also end because memory ran out.
+//! A pass makes its call and then the next pass, to which it hands all that was given so far; `declare_net` is the last that needs the tree.
+//! Where a pass refuses, it drops what it was given by itself: the prover goes through a function way by way, and few ways then lead out. Each call but those on types may also end because memory ran out.
 ghost use Rattle.std.specs.Prelude.{◌≡◌, Err, IfOk, IsTrue, MatchOption, Ok, OnErr};
 ghost use Rattle.std.specs.List.{AllByRecursion};
 ghost use Rattle.in_syntax.specs.Order.{IsWrittenInOrder};
@@ -27,7 +27,7 @@ ghost use Rattle.in_check.specs.Certificates.{CertifiesRules};
 ghost use Rattle.in_check.specs.Programs.{Program};
 ghost use Rattle.in_check.specs.Promises.{ReachesAsPromised};
 ghost use Rattle.in_check.specs.Systems.{system_of};
-ghost use Rattle.in_check.specs.Checking.{AreOfText, BuildsRules, ChecksNames, ChecksNet, ChecksNetSteps, ChecksPairs, ChecksRules, ChecksRuleSteps, ChecksTypes, IsChecked, TypePasses, TypesAll, TypesRules};
+ghost use Rattle.in_check.specs.Checking.{AreOfText, BuildsRules, ChecksNames, ChecksNetSteps, ChecksPairs, ChecksRuleSteps, ChecksTypes, Declares, DeclaresNet, DeclaresRules, DeclaresText, IsChecked, TypePasses, TypesAll, TypesRules};
 
 use crate::certifying::{Evidence, certify_net, certify_rules};
 use crate::checked::{Certificate, Checked, Passed};
@@ -35,7 +35,7 @@ use crate::misfits::misfit_at;
 use in_cover::{RuleTable, cover};
 use in_net::{Net, Rule, build_net, build_rule};
 use in_symbols::Symbols;
-use in_syntax::{Code, Fault, Refusal, Source, parse};
+use in_syntax::{Code, Fault, Refusal, Source, parse, with_room};
 use in_typing::{type_net, type_rule};
 use sqlite_items::Items;
 use std::alloc::{AllocError, Global};
@@ -55,7 +55,7 @@ fn build_rules(alloc: Global, source: &Source, symbols: &Symbols) -> Result<Item
     requires tabled { IsTabled source.now symbols.now }
     ensures { BuildsRules source.now symbols.now result }
 {
-    let mut rules = Items::new(alloc);
+    let mut rules = with_room(alloc, source.rules.len())?;
     for index in 0..source.rules.len() as u32 {
         let rule = build_rule(alloc, source, symbols, index)?;
         rules.push(rule)?;
@@ -225,28 +225,24 @@ fn check_types(
     }
 }
 
-/// The net, and then the passes over all that is declared.
-fn check_net(
+/// The net, and with it all that is declared.
+fn declare_net(
     alloc: Global,
     source: &Source,
     symbols: Symbols,
     rules: Items<Rule>,
-    evidence: &mut Option<Evidence>,
-) -> Result<Passed, Fault>
+) -> Result<Declared, Fault>
     requires tree { IsOfText source.now }
     requires tables { Tabulates source.now (Ok symbols) }
     requires rules { BuildsRules source.now symbols (Ok rules) }
-    ensures { ChecksNet source.now symbols rules result }
+    ensures { DeclaresNet source.now symbols rules result }
 {
     match build_net(alloc, source, &symbols) {
-        Ok(net) => {
-            let declared = Declared {
-                symbols,
-                rules,
-                net,
-            };
-            check_types(alloc, declared, evidence)
-        }
+        Ok(net) => Ok(Declared {
+            symbols,
+            rules,
+            net,
+        }),
         Err(fault) => {
             drop((symbols, rules));
             Err(fault)
@@ -254,19 +250,14 @@ fn check_net(
     }
 }
 
-/// The rules, and then the net and the rest.
-fn check_rules(
-    alloc: Global,
-    source: &Source,
-    symbols: Symbols,
-    evidence: &mut Option<Evidence>,
-) -> Result<Passed, Fault>
+/// The rules, and then the net.
+fn declare_rules(alloc: Global, source: &Source, symbols: Symbols) -> Result<Declared, Fault>
     requires tree { IsOfText source.now }
     requires tables { Tabulates source.now (Ok symbols) }
-    ensures { ChecksRules source.now symbols result }
+    ensures { DeclaresRules source.now symbols result }
 {
     match build_rules(alloc, source, &symbols) {
-        Ok(rules) => check_net(alloc, source, symbols, rules, evidence),
+        Ok(rules) => declare_net(alloc, source, symbols, rules),
         Err(fault) => {
             drop(symbols);
             Err(fault)
@@ -274,7 +265,28 @@ fn check_rules(
     }
 }
 
-/// The names, and then the rules, the net and the rest.
+/// The names, and then the rules and the net.
+fn declare(alloc: Global, source: &Source) -> Result<Declared, Fault>
+    requires { IsOfText source.now }
+    ensures { Declares source.now result }
+{
+    match Symbols::build(alloc, source) {
+        Ok(symbols) => declare_rules(alloc, source, symbols),
+        Err(fault) => Err(fault),
+    }
+}
+
+/// The tree, and then all that it declares, which outlasts it: later passes take their memory when the tree's is given back.
+fn declare_text(alloc: Global, text: &[u8]) -> Result<Declared, Fault>
+    ensures { DeclaresText text.now result }
+{
+    match parse(alloc, text) {
+        Ok(source) => declare(alloc, &source),
+        Err(fault) => Err(fault),
+    }
+}
+
+/// All that the tree declares, and then the types and the rest.
 fn check_names(
     alloc: Global,
     source: &Source,
@@ -283,16 +295,20 @@ fn check_names(
     requires { IsOfText source.now }
     ensures { ChecksNames source.now result }
 {
-    let symbols = Symbols::build(alloc, source)?;
-    check_rules(alloc, source, symbols, evidence)
+    match declare(alloc, source) {
+        Ok(declared) => check_types(alloc, declared, evidence),
+        Err(fault) => Err(fault),
+    }
 }
 
-/// The tree, and then the names and the rest.
-fn check_tree(alloc: Global, text: &[u8], evidence: &mut Option<Evidence>) -> Result<Passed, Fault>
+/// All that the text declares, and then the types and the rest.
+fn check_text(alloc: Global, text: &[u8], evidence: &mut Option<Evidence>) -> Result<Passed, Fault>
     ensures { IsChecked text.now result }
 {
-    let source = parse(alloc, text)?;
-    check_names(alloc, &source, evidence)
+    match declare_text(alloc, text) {
+        Ok(declared) => check_types(alloc, declared, evidence),
+        Err(fault) => Err(fault),
+    }
 }
 
 /// Checks a program's text: its tokens and its tree, then its names, then rule by rule and the net at last its agents, variables
@@ -311,7 +327,7 @@ pub fn check(alloc: Global, text: &[u8]) -> Result<Checked, Fault>
     ensures promised { IfOk result (λ p. ReachesAsPromised (system_of p)) }
 {
     let mut evidence = None;
-    let passed = check_tree(alloc, text, &mut evidence)?;
+    let passed = check_text(alloc, text, &mut evidence)?;
     Ok(Checked { passed })
 }
 

@@ -13,7 +13,7 @@ use crate::joining::{Link, join_all};
 use crate::nets::{AgentNo, Cell, FreeEnd, Net, Point, Wire};
 use crate::reading::{Agent, Reading, Spot, read_net};
 use in_symbols::Symbols;
-use in_syntax::{Code, Fault, Place, Refusal, Source, SourceFree, Text};
+use in_syntax::{Code, Fault, Place, Refusal, Source, SourceFree, Text, with_room};
 use sqlite_items::Items;
 use std::alloc::{AllocError, Global};
 
@@ -58,7 +58,7 @@ fn cell(
     requires small { AreSmallSpots spots.now }
     ensures { IfOk result (λ c. (c.symbol ≡ agent.now.symbol) × (c.ends ≡ ends_from spots.now links.now agent.now.first (arity + 1))) }
 {
-    let mut ends = Items::new(alloc);
+    let mut ends = with_room(alloc, arity as usize + 1)?;
     for port in 0..=arity {
         ends.push(partner(spots, links, agent.first + port as usize))?;
     }
@@ -81,7 +81,7 @@ fn cells(
     requires small { AreSmallSpots spots.now }
     ensures { IfOk result (λ cells. cells ≡ cells_of symbols.now spots.now links.now agents.now) }
 {
-    let mut cells = Items::new(alloc);
+    let mut cells = with_room(alloc, agents.len())?;
     for agent in agents {
         let arity = symbols.arity(agent.symbol);
         cells.push(Some(cell(alloc, spots, links, agent, arity)?))?;
@@ -103,7 +103,7 @@ fn free_ends(
     requires small { AreSmallSpots spots.now }
     ensures { IfOk result (λ ends. ends.items ≡ free_ends_from symbols.now spots.now links.now 0 free.now) }
 {
-    let mut ends = Vec::new(alloc);
+    let mut ends = Vec::with_capacity(alloc, free.len())?;
     for (number, end) in free.iter().enumerate() {
         ends.push(FreeEnd {
             name: Text::from_str(alloc, end.name.text.as_str())?,
@@ -152,7 +152,8 @@ fn wires(alloc: Global, spots: &[Spot], links: &[Link]) -> Result<Items<Wire>, A
     requires small { AreSmallSpots spots.now }
     ensures { IfOk result (AreListedOf (wires_from spots.now links.now 0 (length spots.now))) }
 {
-    let mut wires = Vec::new(alloc);
+    // Each wire joins two spots; those of names are spots too, so this may be more than there are wires.
+    let mut wires = Vec::with_capacity(alloc, spots.len() / 2)?;
     for at in 0..spots.len() {
         add_wire(&mut wires, wire_from(spots, links, at))?;
     }
@@ -164,7 +165,7 @@ fn wires(alloc: Global, spots: &[Spot], links: &[Link]) -> Result<Items<Wire>, A
 fn places(alloc: Global, agents: &[Agent]) -> Result<Items<Place>, AllocError>
     ensures { IfOk result (λ places. places ≡ map (λ a. a.place) agents.now) }
 {
-    let mut places = Items::new(alloc);
+    let mut places = with_room(alloc, agents.len())?;
     for agent in agents {
         places.push(agent.place)?;
     }

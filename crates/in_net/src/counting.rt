@@ -2,7 +2,7 @@ ghost use Rattle.std.specs.Prelude.{◌≡◌, length, IfOk};
 ghost use Rattle.in_net.specs.Counting.{name_of, seen_again, none_seen, third_time, counts_spot, counts_from, nothing_counted, lonely_place, lonely, miscounted, IsNameInside, NamesInside};
 
 use crate::reading::Spot;
-use in_syntax::{Place, SourceFree};
+use in_syntax::{Place, SourceFree, with_room};
 use sqlite_items::Items;
 use std::alloc::{AllocError, Global};
 
@@ -41,7 +41,7 @@ pub(crate) fn once_more(seen: Seen, at: usize) -> Seen
 pub(crate) fn unseen(alloc: Global, names: usize) -> Result<Items<Seen>, AllocError>
     ensures { IfOk result (λ seen. seen ≡ none_seen names) }
 {
-    let mut seen = Items::new(alloc);
+    let mut seen = with_room(alloc, names)?;
     for _ in 0..names {
         seen.push(Seen::Never)?;
     }

@@ -4,7 +4,7 @@ ghost use Rattle.in_net.specs.Joining.{self_links, with_link, with_joints, merge
 
 use crate::counting::{Seen, name_of, once_more, unseen};
 use crate::reading::{Joint, Reading, Spot};
-use in_syntax::Place;
+use in_syntax::{Place, with_room};
 use sqlite_items::Items;
 use std::alloc::{AllocError, Global};
 
@@ -20,7 +20,7 @@ pub(crate) struct Link {
 fn unlinked(alloc: Global, count: usize) -> Result<Items<Link>, AllocError>
     ensures { IfOk result (λ links. links ≡ self_links 0 count) }
 {
-    let mut links = Items::new(alloc);
+    let mut links = with_room(alloc, count)?;
     for to in 0..count {
         links.push(Link {
             to,

@@ -5,8 +5,8 @@ ghost use Rattle.in_net.specs.TextNet.{body_of, heads_at};
 
 use in_symbols::{Names, SymbolNo, Symbols};
 use in_syntax::{
-    Equation, Head, Name, Place, SourceFree, SourceNet, SourceRule, Visitor, walk_equations,
-    walk_terms,
+    Equation, Head, Name, Place, SourceFree, SourceNet, SourceRule, Term, Visitor, walk_equations,
+    walk_terms, with_room,
 };
 use sqlite_items::Items;
 use std::alloc::{AllocError, Global};
@@ -64,16 +64,42 @@ impl Drop for Reading {
 impl Reading {
     ghost use Rattle.in_net.specs.Reading.{nothing_read};
 
-    pub(crate) fn new(alloc: Global) -> Reading
-        ensures { result ≡ nothing_read }
+    /// Nothing is read yet, with room for so many free or boundary ends and for so many terms. Its only error is running out of memory.
+    fn with_room(alloc: Global, ends: usize, terms: usize) -> Result<Reading, AllocError>
+        ensures { IfOk result (λ r. r ≡ nothing_read) }
     {
-        Reading {
-            spots: Items::new(alloc),
-            agents: Items::new(alloc),
-            joints: Items::new(alloc),
+        // A term has a spot for itself and one for each of its arguments, which are terms too.
+        let spots = terms.saturating_add(terms).saturating_add(ends);
+        Ok(Reading {
+            spots: with_room(alloc, spots)?,
+            agents: with_room(alloc, terms)?,
+            joints: with_room(alloc, terms)?,
             names: Names::new(alloc),
-        }
+        })
     }
+}
+
+/// How many terms these are, with all terms within them. It is the room that reading them takes, so no contract speaks of it.
+fn count_terms(terms: &[Term]) -> usize {
+    let mut count = terms.len();
+    for term in terms {
+        count = count.saturating_add(count_terms(term.args.as_slice()));
+    }
+    count
+}
+
+/// How many terms these equations have.
+fn count_terms_of(equations: &[Equation]) -> usize {
+    let mut count = 0usize;
+    for Equation { left, right, .. } in equations {
+        let of_left = count_terms(left.args.as_slice());
+        let of_right = count_terms(right.args.as_slice());
+        count = count
+            .saturating_add(2)
+            .saturating_add(of_left)
+            .saturating_add(of_right);
+    }
+    count
 }
 
 /// Adds an agent with its ports, and answers the number of its principal port among the spots.
@@ -192,11 +218,11 @@ fn read_equations(reader: &mut NetReader, equations: &[Equation]) -> Result<(), 
     walk_equations(reader, equations)
 }
 
-/// Reads the free ends.
-fn read_free(alloc: Global, free: &[SourceFree]) -> Result<Reading, AllocError>
+/// Reads the free ends, with room for so many terms.
+fn read_free(alloc: Global, free: &[SourceFree], terms: usize) -> Result<Reading, AllocError>
     ensures { IfOk result (λ r. r ≡ reads_free free.now) }
 {
-    let mut reading = Reading::new(alloc);
+    let mut reading = Reading::with_room(alloc, free.len(), terms)?;
     for (number, end) in free.iter().enumerate() {
         let name = number_of(alloc, &mut reading.names, end.name.text.as_str())?;
         reading.spots.push(Spot::Free(number, name))?;
@@ -212,21 +238,22 @@ pub(crate) fn read_net(
 ) -> Result<Reading, AllocError>
     ensures { IfOk result (λ r. r ≡ reading_of symbols.now (body_of net.now)) }
 {
-    let reading = read_free(alloc, net.free.as_slice())?;
+    let equations = net.equations.as_slice();
+    let reading = read_free(alloc, net.free.as_slice(), count_terms_of(equations))?;
     let mut reader = NetReader {
         alloc,
         symbols,
         reading,
     };
-    read_equations(&mut reader, net.equations.as_slice())?;
+    read_equations(&mut reader, equations)?;
     Ok(reader.reading)
 }
 
-/// Reads `count` boundary ends.
-fn read_ends(alloc: Global, count: usize) -> Result<Reading, AllocError>
+/// Reads `count` boundary ends, with room for so many terms.
+fn read_ends(alloc: Global, count: usize, terms: usize) -> Result<Reading, AllocError>
     ensures { IfOk result (λ r. r ≡ with_ends nothing_read count) }
 {
-    let mut reading = Reading::new(alloc);
+    let mut reading = Reading::with_room(alloc, count, terms)?;
     for number in 0..count {
         reading.spots.push(Spot::End(number))?;
     }
@@ -257,7 +284,11 @@ pub(crate) fn read_rule(
 ) -> Result<Reading, AllocError>
     ensures { IfOk result (λ r. r ≡ reads_equations symbols.now rule.now.equations (reads_heads symbols.now (heads_at rule.now first second) (with_ends nothing_read ends))) }
 {
-    let reading = read_ends(alloc, ends)?;
+    let equations = rule.equations.as_slice();
+    let terms = count_terms(rule.first.terms.as_slice())
+        .saturating_add(count_terms(rule.second.terms.as_slice()))
+        .saturating_add(count_terms_of(equations));
+    let reading = read_ends(alloc, ends, terms)?;
     let mut reader = NetReader {
         alloc,
         symbols,
@@ -265,6 +296,6 @@ pub(crate) fn read_rule(
     };
     read_head(&mut reader, &rule.first, first)?;
     read_head(&mut reader, &rule.second, second)?;
-    read_equations(&mut reader, rule.equations.as_slice())?;
+    read_equations(&mut reader, equations)?;
     Ok(reader.reading)
 }

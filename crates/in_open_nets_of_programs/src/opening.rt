@@ -8,6 +8,7 @@ ghost use Rattle.in_open_nets_of_programs.specs.Opening.{AreAllThere, AreClasses
 use in_net::{AgentNo, Net};
 use in_open_nets::{Node, OpenNet, OpenNode, OpenPoint};
 use in_symbols::{SymbolNo, Symbols};
+use in_syntax::with_room;
 use sqlite_items::Items;
 use std::alloc::{AllocError, Global};
 use std::marker::Model;
@@ -18,8 +19,8 @@ fn classes(alloc: Global, symbols: &Symbols, symbol: SymbolNo) -> Result<Items<u
     ensures classes { IfOk result (AreClassesOf symbols.now symbol) }
     ensures few { IfOk result (λ classes. length classes ≤ max_ports + 1) }
 {
-    let mut classes = Items::new(alloc);
     let arity = symbols.arity(symbol);
+    let mut classes = with_room(alloc, arity as usize + 1)?;
     for place in 0..=arity {
         classes.push(symbols.class_of(symbol, place))?;
     }
@@ -69,8 +70,8 @@ fn nodes(alloc: Global, built: &BuiltNet) -> Result<Items<OpenNode>, AllocError>
     ensures few { IfOk result (Each (λ n node. length node.class_of ≤ max_ports + 1)) }
     ensures whole { IsWhole built.now.net }
 {
-    let mut nodes = Items::new(alloc);
     let count = built.net.agents();
+    let mut nodes = with_room(alloc, count as usize)?;
     for agent in 0..count {
         nodes.push(node(alloc, built, AgentNo(agent))?)?;
     }
@@ -100,8 +101,8 @@ fn wire(net: &Net, number: u32) -> (OpenPoint, OpenPoint)
 fn wires(alloc: Global, net: &Net) -> Result<Items<(OpenPoint, OpenPoint)>, AllocError>
     ensures { IfOk result (AreWiresOf net.now) }
 {
-    let mut wires = Items::new(alloc);
     let count = net.wires();
+    let mut wires = with_room(alloc, count as usize)?;
     for number in 0..count {
         wires.push(wire(net, number))?;
     }

@@ -10,7 +10,7 @@ use crate::opening::{BuiltNet, node};
 use in_net::{AgentNo, Rule};
 use in_open_nets::{Node, OpenNet, OpenNode, OpenPoint};
 use in_symbols::{SymbolNo, Symbols};
-use in_syntax::Place;
+use in_syntax::{Place, with_room};
 use sqlite_items::Items;
 use std::alloc::{AllocError, Global};
 use std::marker::Model;
@@ -48,7 +48,7 @@ fn ports(alloc: Global, count: u8) -> Result<Items<u8>, AllocError>
     ensures size { IfOk result (λ ports. length ports ≡ count) }
     ensures numbers { IfOk result (Each (λ i k. k ≡ i)) }
 {
-    let mut ports = Items::new(alloc);
+    let mut ports = with_room(alloc, count as usize)?;
     for port in 0..count {
         ports.push(port)?;
     }
@@ -246,9 +246,9 @@ impl<'a> Layout<'a> {
         ensures few { IfOk result (Each (λ n node. length node.class_of ≤ max_ports + 1)) }
         ensures member { IsWhole self.now.rule.member }
     {
-        let mut nodes = Items::new(alloc);
         let rule = self.rule;
         let count = self.first + (self.second + rule.member().agents());
+        let mut nodes = with_room(alloc, count as usize)?;
         for number in 0..count {
             nodes.push(self.node(alloc, number)?)?;
         }
@@ -269,9 +269,9 @@ impl<'a> Layout<'a> {
     fn wires(&self, alloc: Global) -> Result<Items<(OpenPoint, OpenPoint)>, AllocError>
         ensures { IfOk result (AreRuleWires self.now.tables self.now.rule) }
     {
-        let mut wires = Items::new(alloc);
         let rule = self.rule;
         let count = rule.member().wires();
+        let mut wires = with_room(alloc, count as usize)?;
         for number in 0..count {
             wires.push(self.wire(number))?;
         }

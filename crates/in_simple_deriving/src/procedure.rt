@@ -13,6 +13,7 @@ use in_open_nets::{
     Derivation, NodeList, OpenNet, OpenPoint, Part, Step, Stuck, Trials, Undone, Wired,
     first_splitting,
 };
+use in_syntax::with_room;
 use sqlite_items::Items;
 use std::alloc::{AllocError, Global};
 
@@ -184,9 +185,11 @@ fn begin(alloc: Global, open: &OpenNet) -> Result<Work, AllocError>
     ensures steps { IfOk result (λ work. IsUnderWay «open».now (reverse work.tasks) work.steps work.roots) }
 {
     let tasks = start(alloc, open)?;
+    // There is a step for each node; how many wires need one isn't known yet, often few.
+    let nodes = open.nodes() as usize;
     let mut work = Work {
         tasks: Items::new(alloc),
-        steps: Items::new(alloc),
+        steps: with_room(alloc, nodes + nodes / 8 + 8)?,
         roots: Items::new(alloc),
     };
     work.expand(tasks)?;

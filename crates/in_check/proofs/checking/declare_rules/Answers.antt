@@ -1,5 +1,5 @@
 use Rattle.in_syntax.proofs.Public.{tree_in_order, tree_sized}
-use Rattle.in_check.proofs.checking.check_rules.Goals as goal
+use Rattle.in_check.proofs.checking.declare_rules.Goals as goal
 
 pub build_rules-requires-clause-sized : goal.build_rules-requires-clause-sized
 build_rules-requires-clause-sized c = tree_sized c.requires.tree.text c.args.source.now c.requires.tree.tree

@@ -1,5 +1,5 @@
 use Rattle.in_syntax.proofs.Public.{tree_in_order, tree_sized}
-use Rattle.in_check.proofs.checking.check_net.Goals as goal
+use Rattle.in_check.proofs.checking.declare_net.Goals as goal
 
 pub build_net-requires : goal.build_net-requires
 build_net-requires c =
