@@ -1,15 +1,18 @@
 #!/usr/bin/env python3
-"""The kit's command `rt` with these words, but for what takes it hours in this repository's chain of crates.
+"""The kit's command `rt` with these words, but for what takes it long in this repository's chain of crates.
 
 To list the crates below a crate, and to sum up their sources, `rt` goes from a crate to all below it, anew for each way that leads to one:
 225,000 ways where the chain is longest. Here each crate is met once in each such walk, with the same answer. And before `rt all` proves, it
 compiles the sources of all crates at once, so that an error shows early: here that is left out, since each crate is checked by itself anyway.
+And `rt ci` begins a proof with the processors that are idle at that moment, so that the crates for which all others wait are proved by one
+processor while mutants have the rest: here mutants only fill what proofs leave, with less priority, and the longest chain comes first.
 Where the kit's command is not one that this knows, it is called as it is.
 """
 import os
 import shutil
 import sys
 import threading
+from concurrent.futures import FIRST_COMPLETED, ThreadPoolExecutor, wait
 from functools import wraps
 from importlib.machinery import SourceFileLoader
 from importlib.util import module_from_spec, spec_from_loader
@@ -41,6 +44,58 @@ def copied(method):
     return lambda crate: list(method(crate))
 
 
+# A check was never seen to take more than this part of the memory that `rt` reckons with.
+MEMORY = 0.6
+
+# How many processors a proof gets at most, and how many one for which the longest chain waits gets at least: a check gains little from more.
+MOST_JOBS, LEAST_JOBS = 4, 2
+
+# A chain that is so much shorter than the longest one counts as one of the longest.
+NEARLY = 0.9
+
+
+def in_lanes(rt):
+    """The kit's function of that name, but that proofs do not wait for mutants: it runs tasks side by side and returns what each gave. A task is
+    what it waits for, its work in lines, its memory, and a call that takes what was given and how many jobs it may use."""
+    def run(tasks):
+        lanes, memory, behind = rt.processors(), 0.85 * rt.free(), dict.fromkeys(tasks, 0)
+        # A task comes after those that it waits for.
+        for key in reversed([*tasks]):
+            behind[key] += tasks[key][1]
+            for before in tasks[key][0]:
+                behind[before] = max(behind[before], behind[key])
+        is_proof = {key: key[1] in ("proof", "tests") for key in tasks}
+        left, running, given = sorted(tasks, key=lambda key: (not is_proof[key], -behind[key])), {}, {}
+        with rt.ending(), ThreadPoolExecutor(2 * lanes) as proofs, ThreadPoolExecutor(lanes, initializer=os.nice, initargs=(10,)) as mutants:
+            while left or running:
+                ready = [key for key in left if all(before in given for before in tasks[key][0])]
+                waiting = sum(is_proof[key] for key in ready)
+                longest = max((behind[key] for key in [*left, *(key for key, _, _ in running.values())] if is_proof[key]), default=0)
+                for key in ready:
+                    needs, call = MEMORY * tasks[key][2], tasks[key][3]
+                    room = memory - sum(taken for _, taken, _ in running.values())
+                    idle = lanes - sum(jobs for other, _, jobs in running.values() if is_proof[other] or not is_proof[key])
+                    jobs = 1
+                    if is_proof[key]:
+                        is_longest = behind[key] >= NEARLY * longest
+                        jobs = max(idle // waiting, LEAST_JOBS if is_longest else 1)
+                        jobs = max(1, min(jobs, MOST_JOBS, 1 + int((room / needs - 1) / 0.6)))
+                        waiting -= 1
+                        if idle <= 0 and not is_longest:
+                            continue
+                    elif idle <= 0:
+                        break
+                    if running and needs > room:
+                        continue
+                    left.remove(key)
+                    running[(proofs if is_proof[key] else mutants).submit(call, given, jobs)] = key, needs * (1 + 0.6 * (jobs - 1)), jobs
+                for ended in wait(running, return_when=FIRST_COMPLETED).done:
+                    given[running.pop(ended)[0]] = ended.result()
+        return given
+
+    return run
+
+
 def loaded(command):
     """The kit's command as a module, which asks once."""
     source = os.path.realpath(command)
@@ -53,6 +108,8 @@ def loaded(command):
     crates.below = copied(once_in_a_walk(crates.below, id))
     if hasattr(crates, "front_end") and sys.argv[1:2] == ["all"]:
         crates.front_end = lambda crate: 0
+    if all(hasattr(rt, name) for name in ("in_lanes", "processors", "free", "ending")) and "RT_JOBS" not in os.environ:
+        rt.in_lanes = in_lanes(rt)
     return rt
 
 

@@ -59,6 +59,14 @@ impl RuleWord {
             Some(RuleNo(self.number))
         }
     }
+
+    /// The number of a rule that is there.
+    fn known(self) -> RuleNo
+        requires { IsSome self }
+        ensures { self ≡ Some result }
+    {
+        RuleNo(self.number)
+    }
 }
 
 /// The numbers of the rules by their two symbols, in either order.
@@ -109,11 +117,7 @@ impl RuleTable {
         requires { IsSome (rule_at self.now c.0 d.0) }
         ensures { rule_at self.now c.0 d.0 ≡ Some result }
     {
-        match self.find(c, d) {
-            Some(rule) => rule,
-            // The two symbols have a rule: it is asked for.
-            None => unreachable!(),
-        }
+        self.words.as_slice()[self.word(c, d)].known()
     }
 
     /// The number of the rule for two symbols, if there is one.

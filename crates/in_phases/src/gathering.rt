@@ -24,8 +24,8 @@ impl Branch {
         ensures reached { OnOk result (numbers ≤ length self.new.marks.items) }
         ensures more { length self.old.marks.items ≤ length self.new.marks.items }
     {
-        for _place in self.marks.len()..numbers as usize {
-            self.marks.push(false)?;
+        if self.marks.len() < numbers as usize {
+            self.marks.resize(numbers as usize, false)?;
         }
         Ok(())
     }

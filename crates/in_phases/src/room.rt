@@ -37,8 +37,8 @@ impl Room {
         ensures grown { KeepsRoom self.old self.new }
         ensures branch { self.new.branch ≡ self.old.branch }
     {
-        for _place in self.names.len()..numbers {
-            self.names.push(CellNo(0))?;
+        if self.names.len() < numbers {
+            self.names.resize(numbers, CellNo(0))?;
         }
         Ok(())
     }
