@@ -45,7 +45,7 @@ fn by_parts<R: Threads>(
     if pace.waits(interactions) {
         return take_alone(machine, limits, TURN.min(left));
     }
-    let Some(sharing) = sharing(machine, limits, left) else {
+    let Some(sharing) = sharing(machine, limits, interactions, left) else {
         return machine.take_first(TURN.min(left));
     };
     let agents = machine.agents();

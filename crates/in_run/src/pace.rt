@@ -14,6 +14,11 @@ pub(crate) const PHASES_FROM: u64 = 16_384;
 /// From how many pairs on.
 const PHASE_PAIRS: u32 = 512;
 
+/// With fewer pairs than this, only from so many interactions on: most shorter runs end before a phase pays.
+const MANY_PAIRS: u32 = 1_024;
+
+const FEW_PAIRS_FROM: u64 = 524_288;
+
 /// .. and how many for each part.
 const PART_PAIRS: u32 = 64;
 
@@ -86,9 +91,14 @@ impl Pace {
     }
 }
 
-/// How a machine's net is shared out among the workers, where `left` interactions are left; nothing where a phase can't pay. Half of the
-/// cells are kept back, so that the order in which pairs are taken is no reason to stop.
-pub(crate) fn sharing(machine: &Machine, limits: Limits, left: u64) -> Option<Sharing>
+/// How a machine's net is shared out among the workers, where `interactions` interactions are done and `left` are left; nothing where a phase can't
+/// pay. Half of the cells are kept back, so that the order in which pairs are taken is no reason to stop.
+pub(crate) fn sharing(
+    machine: &Machine,
+    limits: Limits,
+    interactions: u64,
+    left: u64,
+) -> Option<Sharing>
     ensures parts { IfSome result (λ s. 1 ≤ s.parts) }
     ensures share { IfSome result (λ s. s.share ≤ most_cells) }
     ensures floor { IfSome result (λ s. HasFree machine.now s.floor) }
@@ -98,7 +108,8 @@ pub(crate) fn sharing(machine: &Machine, limits: Limits, left: u64) -> Option<Sh
     let parts = limits.workers().min(MOST_PARTS).min(pairs / PART_PAIRS);
     let floor = limits.cells() / 2;
     let free = machine.least_free();
-    if pairs < PHASE_PAIRS || parts < 2 || left < LEAST_LEFT || free < floor {
+    let is_early = pairs < MANY_PAIRS && interactions < FEW_PAIRS_FROM;
+    if is_early || pairs < PHASE_PAIRS || parts < 2 || left < LEAST_LEFT || free < floor {
         return None;
     }
     let spare = free - floor;
