@@ -115,8 +115,7 @@ fn boundary(
     requires small { AreSmallSpots spots.now }
     ensures { IfOk result (λ ends. ends.items ≡ boundary_of symbols.now spots.now links.now heads.0.0 0 ++ boundary_of symbols.now spots.now links.now heads.1.0 (arity_of symbols.now heads.0.0)) }
 {
-    let arity = symbols.arity(heads.0) as usize + symbols.arity(heads.1) as usize;
-    let mut ends = Vec::with_capacity(alloc, arity)?;
+    let mut ends = Vec::new(alloc);
     add_boundary(alloc, symbols, spots, links, heads.0, &mut ends)?;
     add_boundary(alloc, symbols, spots, links, heads.1, &mut ends)?;
     Ok(ends)
