@@ -6,7 +6,7 @@ use Rattle.in_check.proofs.certifying.certify_rules.Goals as goal
 
 pub returns-in_err-certificate : goal.returns-in_err-certificate
 returns-in_err-certificate c =
-    let p = err_from_is_err_and c.from_residual.result c.from_residual.ensures.1 in
+    let p = err_from_is_err_and c.from_residual-in_err-certificate.result c.from_residual-in_err-certificate.ensures.1 in
     rw (p.1, p.2)
     (at_stuck_rule c.args.symbols.now c.args.rules.now c.loop-rule.certificates c.loop-rule.rule-index c.rule-item.result c.in_err-certificate.field-0.0
     (slice_get-get_or c.args.rules.now c.loop-rule.rule-index c.rule-item.result c.loop-rule-test.true ∙ ap Some (sym c.rule-item.is))

@@ -6,7 +6,7 @@ use Rattle.in_check.proofs.checking.build_rules.Goals as goal
 
 pub returns-in_err-rule : goal.returns-in_err-rule
 returns-in_err-rule c =
-    let p = err_from_is_err_and c.from_residual.result c.from_residual.ensures.1 in
+    let p = err_from_is_err_and c.from_residual-in_err-rule.result c.from_residual-in_err-rule.ensures.1 in
     rw (p.1, p.2) (at_rule c.args.source.now c.args.symbols.now c.loop-index.rules c.loop-index.index c.in_err-rule.field-0.0 c.loop-index.invariant.count c.loop-index.invariant.each c.in_err-rule.ensures)
 
 pub loop-index-preserved : goal.loop-index-preserved

@@ -17,5 +17,5 @@ returns-clause-steps c =
     let ts = c.in_ok-tasks.tasks in
     let x = c.expand.new.self in
     let e = c.in_ok-expand.ensures.tasks ∙ ap (λ z. ts ++ reverse z) c.new.ensures ∙ none_more ts in
-    subst (λ z. IsUnderWay o (reverse x.tasks) x.steps z) (sym (c.in_ok-expand.ensures.roots ∙ c.new-3.ensures))
-    (subst (λ z. IsUnderWay o (reverse x.tasks) z []) (sym (c.in_ok-expand.ensures.steps ∙ c.new-2.ensures)) (subst (λ z. IsUnderWay o z [] []) (sym e) c.in_ok-tasks.ensures.steps))
+    subst (λ z. IsUnderWay o (reverse x.tasks) x.steps z) (sym (c.in_ok-expand.ensures.roots ∙ c.new-2.ensures))
+    (subst (λ z. IsUnderWay o (reverse x.tasks) z []) (sym (c.in_ok-expand.ensures.steps ∙ c.in_ok-with_room.ensures)) (subst (λ z. IsUnderWay o z [] []) (sym e) c.in_ok-tasks.ensures.steps))
