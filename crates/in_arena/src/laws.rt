@@ -94,7 +94,7 @@ pub fn lendings_join()
     ensures { LendingsJoin }
 {}
 
-/// Where all leases of a lending are given back, the arena is what it was.
+/// Once all leases of a lending are given back, the arena is as before.
 pub fn lending_goes_back()
     ensures { LendingGoesBack }
 {}

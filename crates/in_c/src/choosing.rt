@@ -85,7 +85,7 @@ fn status_after(outcome: &Chosen, limit: u64) -> Status
     }
 }
 
-/// The status of what such a run came to.
+/// The status that reports how the run ended.
 fn status_of(outcome: &Chosen, choices: &[u32], limit: u64) -> Status
     ensures { EndsSo choices.now limit outcome.now result }
 {
@@ -95,7 +95,7 @@ fn status_of(outcome: &Chosen, choices: &[u32], limit: u64) -> Status
     }
 }
 
-/// Where a run stands.
+/// The counts of a run so far: choices taken, further interactions, active pairs and agents.
 fn numbers_of(outcome: &Chosen) -> RunNumbers
     ensures { result ≡ run_numbers outcome.now }
 {
@@ -107,7 +107,7 @@ fn numbers_of(outcome: &Chosen) -> RunNumbers
     }
 }
 
-/// What such a run came to.
+/// The numbers, the net and the status at the end of the run.
 fn shown_of(alloc: Global, outcome: &Chosen, choices: &[u32], limit: u64) -> Shown
     ensures { ShowsRun choices.now limit outcome.now result }
 {
@@ -121,7 +121,7 @@ fn shown_of(alloc: Global, outcome: &Chosen, choices: &[u32], limit: u64) -> Sho
     }
 }
 
-/// What such a run of an accepted program comes to.
+/// Runs an accepted program by these choices, and returns what its end shows.
 fn run_by(alloc: Global, checked: &Checked, choices: &[u32], limits: Limits) -> Shown
     ensures { ShowsProgram checked.now choices.now limits result }
 {

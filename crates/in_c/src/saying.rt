@@ -11,7 +11,7 @@ use in_program::{Status, report_text, run_text};
 use in_run::Limits;
 use std::alloc::{AllocError, Global};
 
-/// What was written with this status. A write fails only when out of memory, and then there is no answer.
+/// The bytes written, with this status. A write fails only when out of memory, and then this fails too.
 fn answer(writer: Collected, status: Status) -> Result<Answer, AllocError>
     ensures { IfOk result (λ a. (a.bytes ≡ writer.bytes) × (a.status ≡ status) × (status ≢ fault_status)) }
 {
@@ -31,7 +31,7 @@ pub fn reported(alloc: Global, derive: bool, text: &[u8]) -> Result<Answer, Allo
     answer(writer, status)
 }
 
-/// What `run` says of a text, within limits, in turn.
+/// The output and the status of `run` with one worker on a text, within limits.
 fn run_said(alloc: Global, limits: Limits, text: &[u8]) -> Result<Answer, AllocError>
     ensures { IfOk result (λ a. IsSaid (Run limits) text.now a.bytes.items a.status) }
 {

@@ -51,7 +51,7 @@ fn graft(alloc: Global, given: GivenStep, parts: &[u32]) -> Result<Option<Step>,
     }
 }
 
-/// The step that these numbers are; nothing where they are none.
+/// The step with these numbers; `None` if they are those of no step.
 fn step_of(alloc: Global, given: GivenStep, parts: &[u32]) -> Result<Option<Step>, AllocError>
     ensures { IfOk result (λ found. found ≡ step_of parts.now given) }
 {

@@ -85,7 +85,7 @@ fn type_all(symbols: &Symbols, rules: &[Rule], net: &Net) -> Result<(), Refusal>
     type_net(symbols, net)
 }
 
-/// The same as an answer of a pass.
+/// Types the rules and the net; a refusal is a fault, as other passes return it.
 fn type_pass(symbols: &Symbols, rules: &[Rule], net: &Net) -> Result<(), Fault>
     requires rules { AllByRecursion (IsRuleOver symbols.now) rules.now }
     requires net { IsOver symbols.now net.now }
@@ -98,7 +98,7 @@ fn type_pass(symbols: &Symbols, rules: &[Rule], net: &Net) -> Result<(), Fault>
     }
 }
 
-/// What the passes answered is kept, once the steps of the net are found.
+/// Derives the net, and puts the results of all passes together.
 fn check_net_steps(
     alloc: Global,
     declared: Declared,

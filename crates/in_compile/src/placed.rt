@@ -32,7 +32,7 @@ impl Model for Placed {
     ghost invariant = { KeepsPlaced };
 }
 
-/// The cells of a bag are live with what is written in them.
+/// Makes the cells of a bag live, with the words written in them.
 fn settle_all(numbers: &[CellNo], bag: &mut Bag, arena: &mut Arena)
     requires of { IsBagOf bag.old arena.old }
     requires all { HasAllCells arena.old }

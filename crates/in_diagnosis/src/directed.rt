@@ -58,7 +58,7 @@ impl Field<'_> {
         true
     }
 
-    /// The port that gives what is taken at this one.
+    /// The output of the part that an input is connected to.
     fn giver(&self, input: Port) -> Option<Port> {
         let output = self.wires.end(input)?;
         if self.takes(input) && self.gives(output) {
@@ -68,7 +68,7 @@ impl Field<'_> {
         }
     }
 
-    /// The port that takes what is given at this one.
+    /// The input of the part that an output is connected to.
     fn taker(&self, output: Port) -> Option<Port> {
         let input = self.wires.end(output)?;
         if self.takes(input) && self.gives(output) {
@@ -89,7 +89,7 @@ impl Field<'_> {
         count
     }
 
-    /// Takes out a node: those that take what it gives take less.
+    /// Removes a node: each node that takes one of its outputs has an input less.
     fn take_out(
         &self,
         node: u32,
@@ -123,7 +123,7 @@ impl Field<'_> {
         Ok(())
     }
 
-    /// Takes out nodes that take nothing, again and again: what is left takes something from what is left.
+    /// Removes nodes that take no output of the part, again and again. Each node that is left takes an output of one that is left.
     fn take_out_all(&self, taken: &mut [usize], ready: &mut Vec<u32>) -> Result<(), AllocError> {
         self.count_taken(taken, ready)?;
         for index in 0..self.open.nodes() as usize {
@@ -151,7 +151,7 @@ impl Field<'_> {
         None
     }
 
-    /// Goes back from a node that is left, against the wires, until a node comes again, which is the answer.
+    /// Goes back from a node that is left, against the wires, until a node comes again, and returns that node.
     fn go_back(
         &self,
         first: u32,

@@ -74,7 +74,7 @@ fn is_stuck(code: Code) -> bool
     }
 }
 
-/// What `in_check::check` answers a text.
+/// The outcome of `in_check::check` on a text.
 fn answer_to(alloc: Global, text: &[u8]) -> Result<Outcome, AllocError>
     ensures { IfOk result (IsAnsweredWith text.now) }
 {
@@ -111,12 +111,12 @@ enum Effect {
 }
 
 impl Refused<'_> {
-    /// The number of the rule in which a byte stands; that of the net is larger.
+    /// The number of the rule around a byte; that of the net is larger.
     fn number(&self, at: usize) -> usize {
         rule_at(self.source, at).unwrap_or(usize::MAX)
     }
 
-    /// What a change does with which a rule or the net is refused, in which this byte of the text stands.
+    /// The effect of a change after which the rule or the net around this byte of the text is refused.
     fn effect_at(&self, at: usize) -> Effect {
         let (here, there) = (self.number(self.place.from), self.number(at));
         if here < there {
@@ -128,7 +128,7 @@ impl Refused<'_> {
         }
     }
 
-    /// What a change does.
+    /// The effect of a change, found by a check of the changed text.
     fn effect(&self, alloc: Global, change: Change) -> Result<Effect, AllocError> {
         let edits = change.edits(alloc, self.text, self.source)?;
         let changed = Changed::new(alloc, self.text, edits.as_slice())?;
@@ -140,7 +140,7 @@ impl Refused<'_> {
         }
     }
 
-    /// What the usual braces do, where some symbol is declared in others.
+    /// The effect of the usual braces, if some symbol is declared in others.
     fn usual_effect(&self, alloc: Global) -> Result<Effect, AllocError> {
         if Change::AllUsual.count(self.source) == 0 {
             return Ok(Effect::Nothing);
@@ -156,7 +156,7 @@ struct Trial<'a> {
     effect: Effect,
 }
 
-/// How much is known of a remedy by what it does: the more, the better.
+/// The rank of an effect: a better one is higher.
 fn rank(effect: Effect) -> u8 {
     match effect {
         Effect::Accepts => 3,
@@ -174,7 +174,7 @@ fn better<'a>(best: Option<Trial<'a>>, tried: Trial<'a>) -> Trial<'a> {
     }
 }
 
-/// The first of these remedies with which the text is accepted; where there is none, the first one of the best.
+/// The first of these remedies after which the text is accepted; if there is none, the first of the highest rank.
 fn best_of<'a>(
     alloc: Global,
     refused: Refused,
@@ -201,7 +201,7 @@ fn to_try<'r, 'a>(text: &[u8], remedies: &'r [Remedy<'a>]) -> &'r [Remedy<'a>] {
     remedies.get(..most).unwrap_or(remedies)
 }
 
-/// Says a sentence with the declaration of a remedy, what was refused, and a place.
+/// Writes a sentence with the declaration of a remedy, the refused rule or net, and a place.
 fn say_remedy<'s>(
     words: &mut Words,
     sentence: &str,
@@ -217,7 +217,7 @@ fn say_remedy<'s>(
     words.fill(sentence, &slots);
 }
 
-/// Adds what a remedy does, by a sentence with its declaration.
+/// Adds a sentence on a remedy, with its declaration.
 fn add_declaration(
     report: &mut Report,
     kind: Kind,
@@ -236,7 +236,7 @@ fn add_declaration(
     }
 }
 
-/// Adds a change of the text, which was tried, to what was told last.
+/// Adds a change of the text, which was tried, to the last message.
 fn add_change(report: &mut Report, refused: Refused, change: Change, accepted: bool) {
     match change.edits(report.alloc, refused.text, refused.source) {
         Ok(edits) => report.change_by(edits, accepted),
@@ -244,7 +244,7 @@ fn add_change(report: &mut Report, refused: Refused, change: Change, accepted: b
     }
 }
 
-/// Adds what a remedy does that builds what was refused, by a sentence with its declaration.
+/// Adds a remedy that builds what was refused, by a sentence with its declaration.
 fn add_mending(
     report: &mut Report,
     refused: Refused,
@@ -258,7 +258,7 @@ fn add_mending(
     add_change(report, refused, change, accepted);
 }
 
-/// Adds what a remedy does, where it does anything. Says whether it builds what was refused.
+/// Adds the effect of a remedy, if it has one. Returns whether the remedy builds the refused rule or net.
 fn add_tried(report: &mut Report, refused: Refused, tried: Trial) -> bool {
     let remedy = tried.remedy;
     match tried.effect {
@@ -304,7 +304,7 @@ fn first_without(source: &Source) -> Option<&SourceSymbol> {
     None
 }
 
-/// Adds what is known where nothing that was tried helps, or nothing was tried.
+/// Adds general help if nothing that was tried helps, or nothing was tried.
 fn add_without(report: &mut Report, source: &Source, best: Option<Trial>) {
     report.help(match best {
         Some(_) => sentences::NO_BRACES_TRIED,
@@ -323,7 +323,7 @@ fn add_without(report: &mut Report, source: &Source, best: Option<Trial>) {
     }
 }
 
-/// Adds what the usual braces do, or else one declaration, which was tried, or else what is known.
+/// Adds the effect of the usual braces if they help, else one declaration that was tried, else general help.
 fn add_usual_or(report: &mut Report, refused: Refused, best: Option<Trial>, usual: Effect) {
     match (usual, best) {
         (Effect::Accepts, _) => add_usual(report, refused, sentences::USUAL_MENDS, true),

@@ -21,12 +21,12 @@ const FIRST_TOLD: usize = 4;
 /// On a circle of at most this many nodes the line of the text is shown for each.
 const MOST_SHOWN: usize = 3;
 
-/// Whether the node of this number in a list of `count` is told.
+/// Whether the message names the node of this index in a list of `count`.
 fn is_told(index: usize, count: usize) -> bool {
     count <= MOST_TOLD || index < FIRST_TOLD || index == count - 1
 }
 
-/// How many nodes of a list of `count` are not told.
+/// How many nodes of a list of `count` the message leaves out.
 fn left_out(count: usize) -> usize {
     if count <= MOST_TOLD {
         0
@@ -52,7 +52,7 @@ fn symbol_of<'a>(
     }
 }
 
-/// Where a node stands in the text.
+/// The place of a node in the text.
 fn place_of(open: &OpenNet, node: u32) -> Option<Place> {
     if node < open.nodes() {
         Some(open.node_place(node))
@@ -71,7 +71,7 @@ fn say_node(words: &mut Words, source: &Source, open: &OpenNet, node: u32) {
     }
 }
 
-/// What stands before the node of this number in a list of `count`.
+/// The separator before the node of this index in a list of `count`.
 fn before_node(index: usize, count: usize) -> &'static str {
     if index == 0 {
         ""
@@ -115,21 +115,21 @@ fn add_ports(report: &mut Report, symbol: &SourceSymbol, class: Option<usize>, c
     report.add(Kind::Note, None, words);
 }
 
-/// Where a node stands in the text.
+/// Adds the place of a node in the text.
 fn add_place(report: &mut Report, open: &OpenNet, node: u32) {
     if let Some(place) = place_of(open, node) {
         report.note(place, sentences::THROUGH_THIS);
     }
 }
 
-/// The lines of the text in which the nodes on the way of a circle stand.
+/// Adds the lines of the text with the nodes of a circle.
 fn add_places(report: &mut Report, open: &OpenNet, way: &[u32]) {
     for node in way {
         add_place(report, open, *node);
     }
 }
 
-/// The nodes on the way of a circle: where they are few, with the lines of the text in which they stand.
+/// Adds the nodes of a circle; if they are few, with the lines of the text around them.
 fn add_way(report: &mut Report, field: Field, way: &[u32]) {
     if way.len() <= MOST_SHOWN {
         add_places(report, field.open, way);
@@ -170,7 +170,7 @@ fn add_passed(report: &mut Report, field: Field, way: (u32, u32, u32), shown: &m
     }
 }
 
-/// The same for the nodes on the way of a circle that are told, each symbol once.
+/// The same for those nodes of a circle that the message names, each symbol once.
 fn add_braces_on_the_way(
     report: &mut Report,
     field: Field,
@@ -365,7 +365,7 @@ fn add_flow(report: &mut Report, field: Field, flow: Flow, shown: Option<Place>)
     report.add(Kind::Note, shown, words);
 }
 
-/// Where the agent stands that gives something.
+/// The place of the agent whose output a flow comes from.
 fn giver_place(open: &OpenNet, flow: Flow) -> Option<Place> {
     let (from, _) = flow.output;
     place_of(open, from)
@@ -464,7 +464,7 @@ fn add_value(report: &mut Report, field: Field, circle: &[Flow], refused: Refuse
     }
 }
 
-/// A directed circle of agents in an open net; without a wire where there is none.
+/// A directed circle of agents in an open net; without wires if there is none.
 fn value_circle(
     alloc: Global,
     source: &Source,

@@ -81,7 +81,7 @@ fn add_end(report: &mut Report, end: &ToldEnd) {
     report.note_with(end.place, sentence, &slots);
 }
 
-/// Adds what is wrong with a wire of these two ends, at a place of the text.
+/// Adds why a wire of these two ends doesn't fit, at a place of the text.
 fn add_misfit(report: &mut Report, place: Place, one: &ToldEnd, other: &ToldEnd) {
     let first = Value::Text(one.port.kind.text.as_str());
     let second = Value::Text(other.port.kind.text.as_str());
@@ -171,8 +171,7 @@ fn result_beside<'a>(end: &ToldEnd<'a>) -> Option<Giving<'a>> {
     }
 }
 
-/// The agent of which an end is an auxiliary output, and its first auxiliary port that is an input of the same type, for which the end may
-/// have been taken.
+/// If an end is an auxiliary output: its agent, and the agent's first auxiliary input of the same type, which may have been meant.
 fn input_beside<'a>(end: &ToldEnd<'a>) -> Option<(&'a SourceSymbol, usize)> {
     let Owner::Agent(symbol, number) = end.owner else {
         return None;
@@ -188,7 +187,7 @@ fn input_beside<'a>(end: &ToldEnd<'a>) -> Option<(&'a SourceSymbol, usize)> {
     None
 }
 
-/// What stands before the next one of `count`, where `told` are told.
+/// The separator before the next of `count` elements, after the first `told`.
 fn separator(told: usize, count: usize) -> &'static str {
     if told == 0 {
         ""
@@ -300,7 +299,7 @@ fn free_end_of<'a>(one: &ToldEnd<'a>, other: &ToldEnd<'a>) -> Option<(&'a str, &
     }
 }
 
-/// Where an agent gives what may be wanted from one of these ends, of which a term may have been taken for that.
+/// The outputs of an agent that may have been meant at one of these ends, if a term there was taken for the result.
 fn result_of<'a>(one: &ToldEnd<'a>, other: &ToldEnd<'a>) -> Option<Giving<'a>> {
     match result_at(one) {
         Some(result) => Some(result),

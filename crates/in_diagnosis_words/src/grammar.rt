@@ -27,7 +27,7 @@ fn after_term(part: PartOf, name: bool) -> &'static str {
     }
 }
 
-/// What is expected, in words.
+/// The expected token, in words.
 fn words(expected: Expected) -> &'static str {
     match expected {
         Expected::Item => "`type`, `symbol`, `rule` or `net`",
@@ -94,7 +94,7 @@ struct Unexpected<'a> {
 }
 
 impl Unexpected<'_> {
-    /// Whether a name is expected, and this is a word that is none.
+    /// Whether a name is expected, and this is a reserved word.
     fn is_no_name(&self) -> bool {
         is_reserved(self.found)
             && matches!(
@@ -128,7 +128,7 @@ impl Unexpected<'_> {
         }
     }
 
-    /// Whether what is open before it may have been meant to be closed.
+    /// Whether a bracket that is open before the token may lack its end.
     fn may_be_open(&self) -> bool {
         self.is_next_item() && !self.is_no_name()
             || matches!(
@@ -196,7 +196,7 @@ impl Unexpected<'_> {
         }
     }
 
-    /// What helps where it was found in the place of a name, or of what stands after one.
+    /// Help for a token in the place of a name, or of a token after one.
     fn help_with_name(&self) -> Option<&'static str> {
         match self.expected {
             Expected::Colon if begin_symbol(self.before) => Some(sentences::SYMBOL_DECLARATION),
@@ -320,7 +320,7 @@ fn add_help(report: &mut Report, unexpected: &Unexpected) {
     }
 }
 
-/// Adds what belongs to a token with which no program goes on, and what helps.
+/// Adds the notes on a token that no program has there, and help.
 fn add_reasons(report: &mut Report, unexpected: &Unexpected) {
     if unexpected.misses_semicolon() {
         add_missing_semicolon(report, unexpected.before);
@@ -331,14 +331,14 @@ fn add_reasons(report: &mut Report, unexpected: &Unexpected) {
     }
 }
 
-/// What stands before a place, and right after it.
+/// The tokens before a place, and the one right after it.
 fn around(report: &Report, place: Place) -> Result<(Vec<Token>, Option<TokenKind>), AllocError> {
     let before = tokens_before(report, place)?;
     let after = kind_after(report, place)?;
     Ok((before, after))
 }
 
-/// What was found in the place of what is expected.
+/// Adds which token was found in the place of an expected one.
 fn wrong_token(report: &mut Report, place: Place, found: &str, expected: Expected) {
     let sentence = if found.is_empty() {
         sentences::ENDS_HERE

@@ -85,7 +85,7 @@ fn add_name(report: &mut Report, name: &Name, further: bool) {
     }
 }
 
-/// Adds those names that differ by `distance` characters, where `told` are told already; answers how many are told now.
+/// Adds the names that differ by `distance` characters, after the first `told`. Returns how many there are now.
 fn add_at(report: &mut Report, found: &[Near], distance: usize, told: usize) -> usize {
     let mut count = told;
     for near in found {

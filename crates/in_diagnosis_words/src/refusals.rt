@@ -29,7 +29,7 @@ pub fn add_text_fault(report: &mut Report, refusal: Refusal, expected: Expected)
     }
 }
 
-/// What is wrong with a name, or with how often it stands.
+/// Adds what is wrong with a name, or with how often it occurs.
 fn add_name_fault(report: &mut Report, source: &Source, code: Code, place: Place) {
     match code {
         Code::E04 => add_declared_twice(report, source, place),
@@ -40,7 +40,7 @@ fn add_name_fault(report: &mut Report, source: &Source, code: Code, place: Place
     }
 }
 
-/// What is wrong with a pair of symbols, or the wire that is closed.
+/// Adds what is wrong with a pair of symbols, or which wire is closed.
 fn add_pair_fault(report: &mut Report, source: &Source, refusal: Refusal) {
     let Refusal { code, place, other } = refusal;
     match code {

@@ -248,7 +248,7 @@ fn text_of(alloc: Global, text: &[u8], parts: &[Part]) -> Result<String, AllocEr
     page.into_text()
 }
 
-/// What stands before a sentence of this kind.
+/// The words before a sentence of this kind.
 fn head(kind: Kind) -> &'static str {
     match kind {
         Kind::Error => "error: ",

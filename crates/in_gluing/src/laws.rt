@@ -13,7 +13,7 @@ pub fn interactions_commute()
     ensures { InteractionsCommute }
 {}
 
-/// Under birth names, whatever two interactions lead to in either order is one net.
+/// Under birth names, two interactions lead to one net in either order.
 pub fn orders_are_one()
     ensures { OrdersAreOne }
 {}
@@ -75,7 +75,7 @@ pub fn join_exists()
     ensures { JoinExists }
 {}
 
-/// Whatever net a joint makes, its partners lead back.
+/// In each net that a joint makes, partners lead back.
 pub fn joins_lead_back()
     ensures { JoinsLeadBack }
 {}

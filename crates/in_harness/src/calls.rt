@@ -121,7 +121,7 @@ fn rounded<R: Threads + Wait>(
     }
 }
 
-/// The same of a machine of which it is looked at first how it is before.
+/// The same for a machine whose net was read first, before the call.
 fn looked_at_and_rounded<R: Threads + Wait>(
     rt: &R,
     alloc: Global,
@@ -150,7 +150,7 @@ enum Question {
     Round,
 }
 
-/// What comes of a question. The view is what a machine shows after the steps.
+/// Adds the answer to a question. The view is the net that a machine shows after the steps.
 fn asked<R: Threads + Wait>(
     rt: &R,
     alloc: Global,

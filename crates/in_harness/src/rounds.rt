@@ -75,7 +75,7 @@ fn add_done(sheet: &mut Sheet, machine: &mut Machine, done: Round, steps: u64) {
     add_printed(sheet, machine);
 }
 
-/// A round among others, and what the machine shows after it.
+/// Adds one of several rounds, and the net that the machine shows after it.
 fn add_one_of_rounds<R: Threads + Wait>(
     rt: &R,
     sheet: &mut Sheet,

@@ -17,7 +17,7 @@ pub enum Told {
     Counted(u64),
 }
 
-/// What a run came to.
+/// Adds the outcome of a run.
 fn add_outcome(sheet: &mut Sheet, outcome: &Outcome, told: Told) {
     match told {
         Told::All => {

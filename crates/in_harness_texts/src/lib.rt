@@ -27,7 +27,7 @@ pub use only::answer;
 pub use sheet::Sheet;
 pub use words::{number, small, word};
 
-/// What is asked of an accepted program.
+/// Adds the answer to a question about an accepted program.
 fn add_of_program(sheet: &mut Sheet, program: &Checked, words: &[String]) {
     match word(words, 1) {
         "program" => add_program(sheet, program),

@@ -173,7 +173,7 @@ pub fn add_net(sheet: &mut Sheet, symbols: &Symbols, net: &Net)
     add_active(sheet, symbols, net);
 }
 
-/// A rule: its symbols as they are written and constructor first, where they stand, and its right member.
+/// Adds a rule: its symbols as written and the constructor first, the places of its heads, and its right member.
 fn add_rule(sheet: &mut Sheet, symbols: &Symbols, rule: &Rule)
     requires { IsBuiltRule symbols.now rule.now }
 {

@@ -6,7 +6,7 @@ use in_check::{Checked, check};
 use in_syntax::Fault;
 use std::alloc::Global;
 
-/// The answer to a text, and the definitions allow no other.
+/// The result of `check` on a text, which the definitions make unique.
 fn only_answer(alloc: Global, text: &[u8]) -> Result<Checked, Fault>
     ensures { IsOnlyAnswer text.now result }
 {

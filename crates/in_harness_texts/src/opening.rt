@@ -60,7 +60,7 @@ fn add_opened(sheet: &mut Sheet, opened: Result<OpenNet, Fault>) {
     }
 }
 
-/// What is said of a pair without a rule, where there are no rules at all.
+/// Adds the first pair that requires a rule, if the program had no rules at all.
 fn add_uncovered(sheet: &mut Sheet, symbols: &Symbols) {
     match cover(sheet.alloc, symbols, &[]) {
         Ok(table) => {

@@ -72,7 +72,7 @@ fn add_shape(sheet: &mut Sheet, shape: &OpenNet, steps: &Derivation) {
     add_answer(sheet, answer);
 }
 
-/// What `verify` answers.
+/// Adds the result of `verify`.
 fn add_answer(sheet: &mut Sheet, answer: Result<bool, AllocError>) {
     match answer {
         Ok(true) => sheet.say("built\n"),
@@ -199,7 +199,7 @@ fn add_asked(sheet: &mut Sheet, request: &Request) {
     sheet.say("\n");
 }
 
-/// Why words ask nothing of it.
+/// Adds why words of a command line make no request.
 fn add_usage(sheet: &mut Sheet, usage: &Usage) {
     match usage {
         Usage::Help(_) => sheet.say("help: "),

@@ -49,7 +49,7 @@ impl Sheet {
         }
     }
 
-    /// Goes on with a character.
+    /// Writes a character.
     fn push(&mut self, c: char) {
         if self.lines.push(c).is_err() {
             self.fail();

@@ -42,7 +42,7 @@ pub enum Shown {
     Sizes,
 }
 
-/// What stands at a place of the text, where that is UTF-8.
+/// The text at a place; empty if it isn't UTF-8.
 fn words_at(text: &[u8], place: Place) -> &str {
     match text.get(place.from..place.to) {
         Some(bytes) => str::from_utf8(bytes).unwrap_or(""),
@@ -95,7 +95,7 @@ fn add_uses(sheet: &mut Sheet, text: &[u8], uses: Result<Items<NameUse>, AllocEr
     }
 }
 
-/// Where the signs of these equations stand.
+/// Adds the places of the `~` of these equations.
 fn add_signs(sheet: &mut Sheet, equations: &[Equation]) {
     for equation in equations {
         sheet.say("sign");

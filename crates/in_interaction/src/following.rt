@@ -67,7 +67,7 @@ impl<'a> Site<'a> {
         }
     }
 
-    /// Where the path goes on to that came by an outer wire to this point: to the point itself, unless it is a boundary end.
+    /// The end of a path that came by an outer wire to this point: the point itself, unless it is a boundary end.
     fn land(&self, arrived: Point) -> Point
         requires { (v : _) × Lands self.now most_turns arrived v }
         ensures { (v : _) → Lands self.now most_turns arrived v → result ≡ v }

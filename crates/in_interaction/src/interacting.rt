@@ -170,7 +170,7 @@ impl<'a> Site<'a> {
         Ok(ends)
     }
 
-    /// What is new after the interaction.
+    /// The agents, wires and free ends after the interaction.
     fn after(&self, alloc: Global) -> Result<After, AllocError>
         ensures { IfOk result (IsAfter self.now) }
     {

@@ -1,7 +1,7 @@
 // What follows of parting a row among owners.
 ghost use Rattle.in_memory.specs.Splitting.{PartsAreAll, WrittenInPartIsWritten};
 
-/// Two owners among whom cells were parted have together what the one had, whichever takes in the other.
+/// Cells that are parted between two owners and joined again are those of the first owner, whichever takes in the other.
 pub fn parts_are_all<T>()
     ensures { PartsAreAll T }
 {}

@@ -17,7 +17,7 @@ use in_syntax::{Code, Fault, Place, Refusal, Source, SourceFree, Text};
 use sqlite_items::Items;
 use std::alloc::{AllocError, Global};
 
-/// The point that a spot is; an occurrence is none.
+/// The point of a spot; an occurrence has none.
 fn point_of(spot: Spot) -> Option<Point>
     requires { IsSmall spot }
     ensures { result ≡ point_of spot }
@@ -160,7 +160,7 @@ fn wires(alloc: Global, spots: &[Spot], links: &[Link]) -> Result<Items<Wire>, A
     Ok(Items::from_vec(wires))
 }
 
-/// Where the agents' names stand.
+/// The places of the agents' names.
 fn places(alloc: Global, agents: &[Agent]) -> Result<Items<Place>, AllocError>
     ensures { IfOk result (λ places. places ≡ map (λ a. a.place) agents.now) }
 {
@@ -199,7 +199,7 @@ pub(crate) fn closed_at(place: Place) -> Fault
     Fault::Refused(Refusal::at(Code::E09, place))
 }
 
-/// The net of what was read, where nothing in it is refused, with its links.
+/// The net of a reading without faults, with its links.
 fn linked_net(
     alloc: Global,
     source: &Source,
@@ -219,7 +219,7 @@ fn linked_net(
     Ok(assemble(alloc, symbols, reading, links, free)?)
 }
 
-/// The net of what was read, where no agent and no name in it is refused.
+/// The net of a reading whose agents and names have no fault.
 fn joined_net(
     alloc: Global,
     source: &Source,
@@ -238,7 +238,7 @@ fn joined_net(
     }
 }
 
-/// The net of what was read.
+/// The net of a reading.
 fn net_of(
     alloc: Global,
     source: &Source,

@@ -55,7 +55,7 @@ struct Counting {
     third: Option<Place>,
 }
 
-/// Where the spot stands as the third one of its name, by what was seen of that before.
+/// The place of the spot, if it is the third one of its name.
 fn third_time(seen: Seen, spot: Spot) -> Option<Place>
     ensures { result ≡ third_time seen spot }
 {
@@ -77,7 +77,7 @@ fn count(counting: &mut Counting, at: usize, spot: Spot)
     }
 }
 
-/// How often each name stands.
+/// Counts how often each name occurs.
 fn counts(alloc: Global, names: usize, spots: &[Spot]) -> Result<Counting, AllocError>
     requires { NamesInside names spots.now }
     ensures { IfOk result (λ counting. counting ≡ counts_from 0 spots.now (nothing_counted names)) }
@@ -92,7 +92,7 @@ fn counts(alloc: Global, names: usize, spots: &[Spot]) -> Result<Counting, Alloc
     Ok(counting)
 }
 
-/// Where the only spot of a name stands, if it is seen once: a variable's occurrence, or the declaration of a free name.
+/// The place of the only spot of a name, if it occurs once: a variable's occurrence, or the declaration of a free name.
 fn lonely_place(seen: Seen, spots: &[Spot], free: &[SourceFree]) -> Option<Place>
     ensures { result ≡ lonely_place spots.now free.now seen }
 {

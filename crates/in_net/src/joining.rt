@@ -63,8 +63,8 @@ fn later(one: Place, other: Place) -> Place
     if other.from < one.from { one } else { other }
 }
 
-/// Joins what two spots of one name are joined to, so that the wire goes on through them; answers the wire's place where they
-/// are joined to each other, so that it is closed.
+/// Connects the partners of two spots of one name, so that the wire leads on through both. If the two spots are each other's partners, the wire is
+/// closed, and its place is returned.
 fn merge(links: &mut Items<Link>, one: usize, other: usize) -> Option<Place>
     requires one { one < length links.old }
     requires other { other < length links.old }
@@ -94,7 +94,7 @@ fn merge(links: &mut Items<Link>, one: usize, other: usize) -> Option<Place>
     None
 }
 
-/// Meets a spot of a name, of which this was seen before: the second spot is joined to the first.
+/// Adds a spot of a name whose earlier spots are `seen`: the second spot is joined to the first.
 fn meet(links: &mut Items<Link>, seen: Seen, at: usize) -> Option<Place>
     requires at { at < length links.old }
     requires seen { IsSeenInside (length links.old) seen }
@@ -126,7 +126,7 @@ fn begun(alloc: Global, links: Items<Link>, names: usize) -> Result<Joining, All
     })
 }
 
-/// Goes on to the next spot, and joins it where it is the second one of a name.
+/// Adds the next spot, and joins it if it is the second one of a name.
 fn step(joining: &mut Joining, at: usize, spot: Spot)
     requires at { at < length joining.old.links }
     requires name { IsNameInside (length joining.old.seen) spot }

@@ -76,7 +76,7 @@ impl Reading {
     }
 }
 
-/// Adds an agent with its ports, and answers the number of its principal port among the spots.
+/// Adds an agent with its ports, and returns the number of its principal port among the spots.
 fn add_agent(
     reading: &mut Reading,
     symbol: SymbolNo,
@@ -110,7 +110,7 @@ fn number_of(alloc: Global, names: &mut Names, name: &str) -> Result<usize, Allo
     Ok(number)
 }
 
-/// Adds the occurrence of a variable or free name, and answers its number among the spots.
+/// Adds the occurrence of a variable or free name, and returns its number among the spots.
 fn add_occurrence(alloc: Global, reading: &mut Reading, name: &Name) -> Result<usize, AllocError>
     ensures { IfOk result (λ spot. (spot ≡ length reading.old.spots) × (reading.new ≡ with_occurrence reading.old name.now)) }
 {
@@ -233,7 +233,7 @@ fn read_ends(alloc: Global, count: usize) -> Result<Reading, AllocError>
     Ok(reading)
 }
 
-/// Reads the terms of a head, the first boundary end of which has that number.
+/// Reads the terms of a head whose first boundary end has that number.
 fn read_head(reader: &mut NetReader, head: &Head, first: usize) -> Result<(), AllocError>
     ensures { OnOk result (reader.new ≡ reads_on reader.old (reads_arguments first (map (reader_of (reader.old).symbols.now) head.now.terms) 0 (reader.old).reading)) }
 {

@@ -143,7 +143,7 @@ impl Search {
         }
     }
 
-    /// Comes by the wire at a port of the node `at`, reached by a class. Answers where it meets another class.
+    /// Follows the wire at a port of the node `at`, reached by a class. Returns where it meets another class.
     fn visit(
         &mut self,
         candidate: &Candidate,
@@ -190,7 +190,7 @@ impl Search {
         }))
     }
 
-    /// Reaches what the ports of the candidate lead to, each by its class.
+    /// Reaches the neighbours of the candidate, each by the class of the port that leads to it.
     fn start(&mut self, candidate: &Candidate) -> Result<Option<Meeting>, AllocError> {
         let wired = candidate.part.wired;
         let node = candidate.node;

@@ -22,7 +22,7 @@ pub fn overwritten_is_one()
     ensures { OverwrittenIsOne }
 {}
 
-/// Where a wire leads back to the pair there is none.
+/// There is no such net if a wire leads back to the pair.
 pub fn overwritten_leads_none_back()
     ensures { OverwrittenLeadsNoneBack }
 {}

@@ -11,8 +11,8 @@ use crate::branch::Branch;
 use in_base::use_promise;
 use in_reducer::{CellNo, End, MOST_FREE_ENDS, Reducer};
 
-/// Whether the wire at this place of an agent leads out of the branch. That of a pair doesn't count, of which the branch has both agents or
-/// none.
+/// Whether the wire at this place of an agent leads out of the branch. The wire of an active pair doesn't count: the branch has both of its agents
+/// or neither.
 fn leads_out(reducer: &Reducer, branch: &Branch, cell: CellNo, place: u8) -> bool
     requires branch { IsBranch reducer.now branch.now }
     requires there { HasPlace reducer.now cell.0 place }

@@ -141,7 +141,7 @@ fn tell_run_fault<W: TextOut>(alloc: Global, writer: &mut W, fault: &RunFault) -
     }
 }
 
-/// Writes what a run came to, with its net or without.
+/// Writes the outcome of a run, with its net or without.
 fn tell_end<W: TextOut>(alloc: Global, writer: &mut W, net: bool, outcome: &Outcome) -> Status
     requires { (W.device writer.old).failures < 2 ^ 64 - 1 }
     ensures { TellsOne (AreThese (net_shown net (text_of outcome.now.machine) ++ run_lines outcome.now.interactions outcome.now.stop) (stop_status outcome.now.stop))
@@ -154,7 +154,7 @@ fn tell_end<W: TextOut>(alloc: Global, writer: &mut W, net: bool, outcome: &Outc
     }
 }
 
-/// Runs an accepted program, and writes what its run came to, or that its net doesn't fit.
+/// Runs an accepted program, and writes the outcome, or that its net doesn't fit.
 fn tell_run<T: Threads, W: TextOut, H: Watch>(
     rt: &T,
     alloc: Global,
@@ -227,7 +227,7 @@ pub fn report_text<W: TextOut>(alloc: Global, writer: &mut W, derive: bool, text
     }
 }
 
-/// Writes what `run` says of a text.
+/// Writes the output of `run` on a text.
 fn tell_reply<T: Threads, W: TextOut, H: Watch>(
     rt: &T,
     alloc: Global,

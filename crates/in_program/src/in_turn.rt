@@ -29,7 +29,7 @@ fn tell_no_start<W: TextOut>(alloc: Global, writer: &mut W, fault: StartFault) -
     }
 }
 
-/// Runs an accepted program in turn, and writes what its run came to, or that its net doesn't fit.
+/// Runs an accepted program with one worker, and writes the outcome, or that its net doesn't fit.
 fn tell_run_in_turn<W: TextOut>(
     alloc: Global,
     writer: &mut W,

@@ -115,7 +115,7 @@ fn glue_free(rest: &[OwnEnd], part: &[OwnEnd], free: &mut Vec<OwnEnd>)
     add_free_in_turn(part, &rest[own..], free);
 }
 
-/// What the free ends of both lead to, under the new numbers. No memory is taken.
+/// Writes the other ends of the free ends of both halves, under the new numbers. It takes no memory.
 fn glue_ends(halves: &Halves, ends: &mut Vec<EndWord>)
     requires { IsReserved (length halves.now.part.now + length halves.now.rest.now) ends.old }
     ensures items { (own : ℕ) → length halves.now.rest.now ≡ own + length halves.now.part.now → ends.new.items

@@ -42,7 +42,7 @@ impl Pair {
         }
     }
 
-    /// The outer side of a boundary end at whose port this end stands, where the sides are numbered from here on.
+    /// If an end is a port of the pair: the outer side of that boundary end, where the sides are numbered from `from` on. Any other end stays.
     #[inline(always)]
     fn outer(self, from: u32, end: End) -> End
         requires from { from < 2 ^ 31 }

@@ -61,8 +61,8 @@ struct Whole<'b> {
     ghost all_ends: { length ends.now ≡ cuts.own + (cuts.count + cuts.count) },
 }
 
-/// The numbers of the free ends in the rest: those that were there before the cuts keep theirs, and then come the second ends of the cuts.
-/// (What the first ends get doesn't matter.)
+/// The numbers of the free ends in the rest: those that were there before the cuts keep theirs, and the second ends of the cuts follow. (The numbers
+/// of the first ends don't matter.)
 fn rest_numbers(alloc: Global, cuts: Cuts) -> Result<Vec<u32>, AllocError>
     ensures { IfOk result (λ v. AreNumbersOfTwo cuts.own cuts.count 0 (cuts.own + cuts.count) v.items) }
 {

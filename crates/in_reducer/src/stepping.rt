@@ -124,7 +124,7 @@ impl<'a> Reducer<'a> {
         self.fits(self.template(templates, number), number)
     }
 
-    /// Whether what the template of the pair of that number needs is free.
+    /// Whether the cells that the template of the pair of that number needs are free.
     #[inline(always)]
     fn fits(&self, template: &Template, number: u32) -> bool
         requires { IsTemplateAt self.now number template.now }
@@ -135,7 +135,7 @@ impl<'a> Reducer<'a> {
         short.is_none()
     }
 
-    /// The interaction of the pair of that number, as `step` says, whatever wires lead back to the pair.
+    /// The interaction of the pair of that number, as by `step`. Wires may lead back to the pair.
     fn step_beside(&mut self, template: &Template, number: u32)
         requires at { IsTemplateAt self.old number template.now }
         requires room { HasRoomAt self.old number }
@@ -207,8 +207,8 @@ impl<'a> Reducer<'a> {
         self.step_by(template, number);
     }
 
-    /// The interaction of the first pair, up to numbers, where neither symbol of the pair is marked: its cells are free before the right member's
-    /// agents are begun, so that these stand there where they can.
+    /// The interaction of the first pair, up to numbers, if neither symbol of the pair is marked. The pair's cells are freed before the agents of
+    /// the right member are placed, which then reuse them where they can.
     #[inline(always)]
     fn step_anew(&mut self, template: &Template)
         requires at { IsTemplateAt self.old 0 template.now }

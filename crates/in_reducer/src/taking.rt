@@ -64,7 +64,7 @@ impl<'a> Reducer<'a> {
         }
     }
 
-    /// Reads the symbols of the first pairs, of which there are so many.
+    /// Reads the symbols of the first `TOGETHER` pairs. There are at least as many.
     #[inline(always)]
     fn read_heads(&self, heads: &mut [(SymbolNo, SymbolNo); TOGETHER])
         requires { together ≤ length self.now.queue }
@@ -88,7 +88,7 @@ impl<'a> Reducer<'a> {
         }
     }
 
-    /// The interaction of the first pair, up to numbers, where there is one and what it needs is free. Returns whether it was done. The
+    /// The interaction of the first pair, up to numbers, if there is a pair and the cells that it needs are free. Returns whether it was done. The
     /// templates are those of the program. It takes no memory.
     #[inline(always)]
     fn step_next(&mut self, templates: &Templates, ahead: &mut Ahead) -> bool
@@ -129,7 +129,7 @@ impl<'a> Reducer<'a> {
         count
     }
 
-    /// Whether what the template of the pair of that number needs is free, and `floor` cells of each class besides.
+    /// Whether the cells that the template of the pair of that number needs are free, and `floor` more of each class.
     #[inline(always)]
     fn fits_besides(&self, template: &Template, number: u32, floor: u32) -> bool
         requires { IsTemplateAt self.now number template.now }
@@ -139,8 +139,8 @@ impl<'a> Reducer<'a> {
         Need::free_in(&self.body.arena).has_besides(template.need(), floor)
     }
 
-    /// The interaction of the last pair, as `step` says, where what it needs is free and `floor` cells of each class besides. Returns whether it
-    /// was done. There is a pair.
+    /// The interaction of the last pair, as by `step`, if the cells that it needs are free and `floor` more of each class. Returns whether it was
+    /// done. There is a pair.
     #[inline(always)]
     fn step_last(&mut self, templates: &Templates, floor: u32) -> bool
         requires templates { AreTemplatesOf self.old.program templates.now }

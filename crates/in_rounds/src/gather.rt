@@ -95,7 +95,7 @@ fn is_fresh(slots: &[Slot], job: u32) -> bool
     }
 }
 
-/// Gives back what is kept.
+/// Gives back the cells of all slots.
 fn spend_all(mut slots: Vec<Slot>, arena: &mut Arena)
     requires { AreBagsOf (bags_of slots.items) arena.old }
     ensures { Returns (bags_of slots.entry.items) [] arena.old arena.new }

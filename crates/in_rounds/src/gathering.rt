@@ -19,8 +19,8 @@ use std::alloc::{AllocError, Global};
 use std::sync::Wait;
 use std::thread::Threads;
 
-/// A worker for each seat places jobs of the plan, in as many rooms as each has, and what they did is gathered, where nothing was yet. Says how many
-/// threads were started.
+/// A worker for each seat places jobs of the plan, as many as it has rooms, and the results are gathered. Nothing was gathered before. Returns how
+/// many threads were started.
 fn place_jobs<'t, R: Threads + Wait, G: Gate + Sync>(
     rt: &R,
     alloc: Global,

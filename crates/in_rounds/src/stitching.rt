@@ -26,7 +26,7 @@ fn is_for_first(body: &Body, done: &Done) -> bool
     constructor == first && destructor == second
 }
 
-/// Gives back the cells of what was done.
+/// Gives back the cells of a job that was placed.
 fn put_back(body: &mut Body, done: Done)
     requires all { KeepsAll body.old }
     requires of { IsBagOf done.placed.placed.bag body.old.arena }

@@ -22,7 +22,7 @@ pub trait Watch {
     /// How many interactions one worker does at most before the watch looks again; 0 is as 1.
     fn turn(&self) -> u64;
 
-    /// The run goes on.
+    /// Gets the progress of a run that continues.
     fn look(&mut self, progress: Progress);
 
     /// The run has stopped.

@@ -79,7 +79,7 @@ fn add_ends(more: &Items<(u32, u32)>, ends: &mut Items<(u32, u32)>) -> Result<()
     Ok(())
 }
 
-/// Puts one beside another; or answers that they share a node or a Link.
+/// Puts one net beside another; or returns that they share a node or a Link.
 fn beside(open: &OpenNet, more: &Built, built: &mut Built) -> Result<bool, AllocError>
     requires more { IsSizedBuilt «open».now more.now }
     requires built { IsSizedBuilt «open».now built.old }
@@ -535,7 +535,7 @@ fn mix_of(
     }
 }
 
-/// What a step builds out of the earlier ones; or that it builds nothing.
+/// The net that a step builds from the earlier ones; `None` if it builds none.
 fn built_by(
     alloc: Global,
     open: &OpenNet,

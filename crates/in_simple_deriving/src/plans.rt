@@ -231,8 +231,8 @@ impl Plan {
         }
     }
 
-    /// The component that an agent's auxiliary port touches, unless it is derived; else the port's wire, where it leads out of the
-    /// part or to a later port. Answers whether something came.
+    /// The component that an agent's auxiliary port touches, unless it is derived; else the port's wire, if it leads out of the part or to a later
+    /// port. Returns whether something was added.
     fn port(
         self,
         alloc: Global,
@@ -491,7 +491,7 @@ impl<'a> Classes<'a> {
         }
     }
 
-    /// The agent over its classes, of which the last ones have no port.
+    /// Grafts the agent on its classes, of which the last ones have no port.
     fn graft(self) -> Result<Joined<'a>, AllocError>
         requires { self.next ≡ 1 + (ports_of self.net self.node - 1) }
         ensures { IfOk result (λ joined. joined ≡ self.entry) }

@@ -84,7 +84,7 @@ impl Symbols {
         }
     }
 
-    /// The tables of a program in whose names no fault stands.
+    /// The tables of a program whose names have no fault.
     fn of_names(
         alloc: Global,
         source: &Source,

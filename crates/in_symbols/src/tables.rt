@@ -61,7 +61,7 @@ fn add_places(shape: &mut Shape, types: &Names, symbol: &SourceSymbol) -> Result
     Ok(())
 }
 
-/// What is declared of a symbol.
+/// The declaration of a symbol, as the tables have it.
 fn shape(alloc: Global, types: &Names, symbol: &SourceSymbol) -> Result<Shape, AllocError>
     requires sized { IsSizedSymbol symbol.now }
     requires types { length types.now < 2 ^ 32 }

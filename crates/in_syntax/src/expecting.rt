@@ -72,7 +72,7 @@ pub enum Expected {
     Nothing,
 }
 
-/// What a term of this nest is a part of.
+/// The part of the program that a term of this nest belongs to.
 fn part_of(nest: &Nest) -> PartOf
     ensures { result ≡ steps.part_of nest.now }
 {

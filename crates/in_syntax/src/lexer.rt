@@ -47,7 +47,7 @@ fn comment(spot: Spot, text: &str) -> Move<'_>
     Move::Past(None, end, rest)
 }
 
-/// How many characters with which a name goes on the text begins with, where they end, and the text from there on.
+/// How many characters at the beginning of the text continue a name, the spot after them, and the rest of the text.
 fn run(spot: Spot, text: &str) -> (usize, Spot, &str)
     requires { IsWithin spot text.now }
     ensures { (w : List ℕ) × IsRun continues_name spot text.now w (result.0, result.1, result.2.now) }
@@ -115,7 +115,7 @@ fn mark_kind(c: char) -> Option<TokenKind>
     }
 }
 
-/// A sign, or the fault that there is none.
+/// A sign at the beginning of the text, or the fault that there is none.
 fn sign(spot: Spot, text: &str) -> Move<'_>
     requires within { IsWithin spot text.now }
     requires first { FirstIs BeginsSigns (chars text.now) }
@@ -142,7 +142,7 @@ fn sign(spot: Spot, text: &str) -> Move<'_>
     Move::Wrong(Code::E01, spot)
 }
 
-/// What the text begins with, at the spot where it stands.
+/// The token, blank or fault at the beginning of the text, which begins at this spot.
 fn next(spot: Spot, text: &str) -> Move<'_>
     requires { IsWithin spot text.now }
     ensures { IsMove spot text.now result }

@@ -66,7 +66,7 @@ pub fn write(state: &mut State, next: State)
     }
 }
 
-// The next token stands in this state.
+// Reads the next token in this state.
 fn goes(state: &mut State, next: State) -> Event
     ensures { led result state.new ≡ move.Goes next }
 {

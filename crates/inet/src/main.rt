@@ -77,8 +77,8 @@ fn words_read(alloc: Global, words: io::Result<Args>) -> Result<Vec<String>, Usa
     }
 }
 
-/// Does what the words ask for with the text of this reader, and tells what is wrong with a text that is refused, why it can't be read, what helps
-/// where a run has stopped early, and the figures that are wanted.
+/// Answers the request on the text of this reader, and writes why a text is refused or can't be read, what helps after a run that stopped early, and
+/// the wanted figures.
 fn answer_text<T: Threads + Clock, R: Read + Drop, W: TextOut, E: Write>(
     rt: &T,
     alloc: Global,
@@ -194,7 +194,7 @@ fn answer_words<T: Threads + Clock + Files, R: Read + Drop, W: TextOut, E: Write
     }
 }
 
-/// Does what the program's words ask for, or tells why they can't be had.
+/// Answers the program's words, or writes why they can't be read.
 fn answer_program<T: Threads + Clock + Files, R: Read + Drop, W: TextOut, E: Write>(
     rt: &T,
     alloc: Global,

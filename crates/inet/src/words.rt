@@ -101,7 +101,7 @@ pub fn in_colours(alloc: Global, words: &str) -> Result<String, AllocError> {
     Ok(told)
 }
 
-/// What is wrong with a text that is refused, in words for people, after a line with its file.
+/// The diagnosis of a refused text, for people, after a line with its file.
 fn told(
     alloc: Global,
     file: Option<&str>,

@@ -63,7 +63,7 @@ enum Usage {
     Memory,
 }
 
-/// What one word asks for.
+/// The request of one word.
 fn asked_by(word: String) -> Result<Request, Usage> {
     match word.as_str() {
         "-h" | "--help" => Ok(Request::Help),
@@ -74,7 +74,7 @@ fn asked_by(word: String) -> Result<Request, Usage> {
     }
 }
 
-/// What these words ask for, of which the first is the program's name.
+/// The request of these words. The first is the program's name.
 fn asked(words: io::Result<Args>) -> Result<Request, Usage> {
     let mut words = match words {
         Ok(words) => words,
@@ -170,8 +170,7 @@ fn tell_version<W: TextOut>(alloc: Global, output: &mut W) -> Status
     }
 }
 
-/// Does what the program's words ask for, or tells how it is called; and tells why its output can't be written, where it isn't that its reader
-/// went away.
+/// Answers the program's words, or writes its usage; and writes why its output can't be written, unless its reader closed the stream.
 fn serve<T: Files, R: Read, W: Write + Drop, E: Write>(
     rt: &T,
     alloc: Global,
