@@ -1,4 +1,4 @@
--- What the state of a cell says of its number.
+-- The number of a cell, from its state.
 use Rattle.std.proofs.Common.{◌≡◌, ℕ, ◌<◌, Some, None, length, subst, ⊎_elim, sym, ap, ◌∙◌, arith}
 use Rattle.std.proofs.lemmas.List.{get_or_past}
 use Rattle.std.proofs.lemmas.Bool.{cases_lt}

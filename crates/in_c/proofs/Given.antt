@@ -1,4 +1,4 @@
--- What is given of an answer, or when out of memory.
+-- Properties of an answer to the caller, and of the result when out of memory.
 use Rattle.std.proofs.Common.{◌≡◌, List, ℕ, sym, subst, Result, Ok, Err, IfOk, OnErr}
 use Rattle.in_program.specs.declared.acting.Status.{Status}
 use Rattle.in_program.specs.Acting.{memory_status, status}

@@ -1,4 +1,4 @@
--- What was written to a writer that took nothing before is what was said.
+-- The bytes in a writer that was empty are the output.
 use Rattle.std.proofs.Common.{◌≡◌, ◌≢◌, ◌⊎◌, List, ℕ, Vec, Global, [], Option, Some, IfOk, Result, Ok, Err, sym, subst, ap, ◌∙◌, inl, inr}
 use Rattle.std.proofs.lemmas.Option.{same_Some}
 use Rattle.in_syntax.specs.Streams.{Device}

@@ -1,4 +1,4 @@
--- A net from which agents were taken out is what is left and their copies side by side.
+-- A net is the agents left after some were taken out, and copies of those, side by side.
 use Rattle.std.proofs.Common.{◌≡◌, ◌⊎◌, ◌<◌, inl, inr, ℕ, zero, suc, true, false, Some, None, List, map, slice_get, refl, sym, ap, subst, ◌∙◌, arith}
 use Rattle.std.specs.Prelude.{option_map, IsSome}
 use Rattle.std.proofs.lemmas.Option.{same_Some, slice_get_within}

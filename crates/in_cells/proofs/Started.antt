@@ -1,4 +1,4 @@
--- Where the right member stands beside the net and the pair is retired, the cells show the net taken apart.
+-- Once the right member is beside the net and the pair is retired, the cells show the net taken apart.
 use Rattle.std.proofs.Common.{◌≡◌, ◌≢◌, ◌⊎◌, ◌+◌, ◌<◌, ◌≤◌, ℕ, suc, List, length, take, slice_get, Option, Some, None, option_map, refl, sym, ap, subst, ◌∙◌, inl, inr, arith}
 use native.Mathlib.Decide.{ℕ_discrete}
 use Rattle.std.specs.Prelude.{IsSome, IsSomeAnd}

@@ -1,4 +1,4 @@
--- What the rule of a board says of claims: none is made twice, none is left out once a seat is done, and none was made where all seats are new.
+-- The claims under the rule of a board: none is made twice, none is left out once a seat is done, and none was made while all seats are new.
 use Rattle.std.proofs.Common.{◌≡◌, inl, inr, ℕ, zero, suc, ◌≤◌, ◌<◌, min, true, false, cond, nat_lt, Some, List, [], ◌∷◌, map, length, get_or, replicate, refl, sym, ap, subst, ◌∙◌, arith, eqb, Contains, count_by, slice_get}
 use Rattle.std.proofs.Math.ListN.{get_or-eq_default}
 use Rattle.std.proofs.lemmas.Bool.{cases_lt, cases_eq}

@@ -1,4 +1,4 @@
--- What the getters of a match say of its subcommand, and how an error is told.
+-- The subcommand of a match by its getters, and the usage that reports an error.
 use Rattle.std.proofs.Common.{◌≡◌, ◌∙◌, List, Option, Some, None, refl, sym, ap, subst, inl, inr}
 use Rattle.std.proofs.lemmas.Option.{same_Some}
 use Rattle.std.specs.Box.{box_value}

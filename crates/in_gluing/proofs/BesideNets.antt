@@ -1,4 +1,4 @@
--- What stands side by side in a net is a net.
+-- Nets side by side are a net.
 use Rattle.std.proofs.Common.{◌≡◌, ℕ, zero, suc, Option, Some, IsSome, IsSomeAnd, ◌≤◌, List, sym, subst, ◌∙◌}
 use Rattle.in_net.specs.Nets.{Point, Port, Free, Net, Signature, IsPoint, IsNet}
 use Rattle.in_interaction.proofs.Public.{has_value}

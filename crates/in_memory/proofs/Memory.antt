@@ -1,4 +1,4 @@
--- What the walks over a row of cells share: a base and an owner of cells as machine values, and what stands in one cell. Assumes `Logic`.
+-- The common part of the walks over a row of cells: a base and an owner of cells as machine values, and the contents of one cell. Assumes `Logic`.
 use mathlib.Core.Path.{◌≡◌, refl, subst}
 use Prim.Native.Nat.{ℕ}
 use mathlib.Core.List.{List, [], ◌∷◌, ◌++◌}

@@ -1,4 +1,4 @@
--- What is built in tests and numbers is what a step makes.
+-- A net built by tests and numbers is the one that a step makes.
 use Rattle.std.proofs.Common.{◌≡◌, ◌⊎◌, ◌↔◌, ◌<◌, ◌≤◌, ◌+◌, ◌-◌, ℕ, zero, suc, Bool, true, false, cond, ◌||◌, nat_eq, Some, None, List, [], ◌∷◌, length, slice_get, refl, eq-eqb, ne_eqb, sym, subst, ap, inl, inr, ◌∙◌, arith}
 use Rattle.std.proofs.Math.ListN.{set}
 use Rattle.std.proofs.lemmas.Bool.Decides.{eqb_tells}

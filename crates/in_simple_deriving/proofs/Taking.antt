@@ -1,4 +1,4 @@
--- What the tasks of a plan come to, turn by turn.
+-- The results of the tasks of a plan, turn by turn.
 use Rattle.std.proofs.Common.{◌≡◌, ◌⊎◌, inl, inr, ℕ, zero, suc, ◌+◌, ◌-◌, ◌<◌, ◌≤◌, Bool, true, false, cond, nat_eq, nat_lt, Option, Some, None, IsSomeAnd, List, [], ◌∷◌, ◌++◌, length, map, slice_get, get_or, append_assoc, append-nil, refl, sym, ◌∙◌, ap, subst, arith, lt-ltb, le-ltb, eq-eqb, ne_eqb}
 use Rattle.in_open_nets.specs.declared.open_nets.Node.{Node}
 use Rattle.in_open_nets.specs.declared.open_nets.Node.TheVariants.{AgentNode, ClassNode}

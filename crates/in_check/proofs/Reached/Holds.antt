@@ -1,4 +1,4 @@
--- Where an agent or a variable stands in the text: at the end of its climb, once.
+-- The place of an agent or a variable in the text: at the end of its climb, once.
 use Rattle.std.proofs.Common.{◌≡◌, ◌≢◌, ◌⊎◌, ◌≤◌, ◌<◌, ◌+◌, ℕ, zero, suc, Option, Some, None, IsSome, IsSomeAnd, List, [], ◌∷◌, ◌++◌, length, refl, sym, subst, ap, inl, inr, ◌∙◌, arith}
 use Rattle.std.specs.List.{AllByRecursion}
 use native.Mathlib.Decide.{ℕ_discrete}

@@ -1,4 +1,4 @@
--- The first fault of a net's agents and names, and what holds where there is none.
+-- The first fault of a net's agents and names, and the properties of a net without any.
 use Rattle.std.proofs.Common.{◌≡◌, ◌⊎◌, inl, inr, ℕ, length, Option, Some, None, true, refl, sym, ◌∙◌, ap, subst, arith}
 use Rattle.in_syntax.specs.declared.faults.Code.{Code}
 use Rattle.in_syntax.specs.declared.faults.Code.TheVariants.{E03, E07, E08}

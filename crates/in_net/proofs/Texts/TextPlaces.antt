@@ -1,4 +1,4 @@
--- Where terms, joints and chains of a body stand.
+-- The places of terms, joints and chains of a body.
 use Rattle.std.proofs.Common.{inl, inr, List, ◌∷◌, ◌++◌, map, refl, sym, subst}
 use Rattle.std.specs.List.{flat_map}
 use Rattle.in_syntax.specs.declared.places.Place.{Place}

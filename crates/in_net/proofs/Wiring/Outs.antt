@@ -1,4 +1,4 @@
--- Where a chain leads from each occurrence whose name is joined: to an end of what is joined so far, or round a closed wire.
+-- The end of the chain from each occurrence whose name is joined: an end of what is joined so far, or round a closed wire.
 use Rattle.std.proofs.Common.{if◌then◌else◌, ◌≡◌, ◌≢◌, ◌⊎◌, inl, inr, ℕ, ◌<◌, ◌≤◌, Bool, true, false, nat_lt, ltb-true, ltb-false, List, ◌++◌, length, Option, Some, None, refl, sym, ◌∙◌, ap, subst, arith, set}
 use Rattle.std.proofs.lemmas.List.{get_or-set_same}
 use Rattle.std.proofs.lemmas.Option.{same_Some}

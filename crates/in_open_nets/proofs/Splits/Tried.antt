@@ -1,4 +1,4 @@
--- What a cycle and labels show of one node.
+-- A cycle or labels show whether one node splits a part.
 use Rattle.std.proofs.Common.{◌≡◌, ◌≢◌, ◌⊎◌, ◌+◌, ℕ, List, Bool, Option, Some, None, refl, sym, subst, ap, inl, inr, ◌∙◌, arith}
 use Rattle.std.proofs.lemmas.Option.{same_Some}
 use Rattle.std.specs.Prelude.{IsSomeAnd}

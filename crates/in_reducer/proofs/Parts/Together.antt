@@ -1,4 +1,4 @@
--- The nets of two reducers in the cells of one of them, side by side, whatever the order of their free ends.
+-- The nets of two reducers in the cells of one of them, side by side, in any order of their free ends.
 use Rattle.std.proofs.Common.{◌≡◌, ◌⊎◌, inl, inr, ◌<◌, ◌≤◌, ◌+◌, ℕ, zero, suc, true, Some, List, [], ◌∷◌, ◌++◌, length, map, take, drop, get_or, count_by, slice_get, refl, sym, ap, subst, ◌∙◌, length-append, arith}
 use Rattle.std.specs.Prelude.{All, option_map}
 use Rattle.std.specs.VecDeque.{deque_capacity}

@@ -1,5 +1,5 @@
--- An interaction of a reducer whose new agents may stand in the cells of the pair: what its steps owe, and what it leaves. It is one of the
--- reducer in which the pair has numbers of no cell.
+-- An interaction of a reducer whose new agents may be in the cells of the pair: the goals of its steps, and its result. It is one of the reducer in
+-- which the pair has numbers of no cell.
 use Rattle.std.proofs.Common.{◌≡◌, ◌≢◌, ◌≤◌, ◌+◌, ℕ, suc, List, ◌++◌, map, take, remove, length, length-append, Option, Some, None, refl, sym, ap, subst, ◌∙◌, append_assoc, arith}
 use Rattle.std.specs.VecDeque.{deque_capacity}
 use Rattle.std.proofs.lemmas.List.{length-map, length-set, take_all}

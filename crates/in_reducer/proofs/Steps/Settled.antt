@@ -1,4 +1,4 @@
--- A right member that was placed in leased cells and is settled stands beside its pair, and there was room for it.
+-- A right member that was placed in leased cells and is settled is beside its pair, and there was room for it.
 use Rattle.std.proofs.Common.{◌≡◌, ◌⊎◌, inl, inr, ◌<◌, ◌≤◌, ◌+◌, ℕ, zero, suc, cond, nat_eq, Some, None, List, [], ◌∷◌, length, map, get_or, count_by, slice_get, refl, sym, ap, subst, ◌∙◌, get_or-set_other, arith}
 use Rattle.std.proofs.lemmas.List.{length-set}
 use Rattle.std.proofs.lemmas.List.Sums.{sum_by-cons}

@@ -1,4 +1,4 @@
--- One interaction of a reducer: what its call owes, and what it leaves.
+-- One interaction of a reducer: the goals of its call, and its result.
 use Rattle.std.proofs.Common.{◌≡◌, ◌<◌, ◌≤◌, ◌+◌, ℕ, List, [], ◌∷◌, ◌++◌, append_assoc, length, length-append, map, remove, take, reverse, slice_get, Option, Some, None, refl, sym, ap, subst, ◌∙◌, arith}
 use Rattle.std.specs.VecDeque.{deque_capacity}
 use Rattle.std.specs.Prelude.{option_map}

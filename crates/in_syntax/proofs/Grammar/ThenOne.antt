@@ -1,4 +1,4 @@
--- Where each link of a chain of passes has one answer, the chain has.
+-- If each link of a chain of passes has one result, the chain has one.
 use Rattle.std.proofs.Common.{◌≡◌, inl, inr, Result, Ok, Err, subst}
 use Rattle.in_syntax.specs.declared.faults.Fault.{Fault}
 use Rattle.in_syntax.specs.declared.faults.Fault.TheVariants.{Refused, Memory}

@@ -1,4 +1,4 @@
--- The names and the ~ of a tree stand in its text in the order in which the tree lists them.
+-- The names and the ~ of a tree are in its text in the order in which the tree lists them.
 use Rattle.std.proofs.Common.{◌≡◌, ℕ, zero, suc, ◌+◌, ◌≤◌, ◌<◌, List, [], ◌∷◌, ◌++◌, map, refl, sym, ◌∙◌, ap, subst, arith, append_assoc, append-nil, Result, Ok, Err, IfOk, Option, Some, None}
 use Rattle.std.specs.List.{AllByRecursion, flat_map}
 use Rattle.in_syntax.specs.declared.places.Place.{Place}

@@ -1,4 +1,4 @@
--- `get_mut` lends what stands in one cell, and the owner's cells follow it. Assumes `Logic`.
+-- `get_mut` lends the contents of one cell, and the owner's cells follow it. Assumes `Logic`.
 use mathlib.Core.Path.{◌≡◌, refl, sym, subst, ◌∙◌}
 use Prim.Native.Nat.{ℕ, ◌+◌, ◌*◌, ◌<◌, ◌^◌}
 use native.Mathlib.Omega.{arith}
