@@ -132,7 +132,7 @@ impl Arena {
         self.regions.give_back(held);
     }
 
-    /// Whether a cell, which is none on lease, is live.
+    /// Whether a cell is live. It isn't on lease.
     pub fn is_live(&self, cell: CellNo) -> bool
         requires there { cell.0 < length self.now.states }
         requires not_leased { IsLeased (state_at self.now cell.0) → ⊥ }

@@ -188,7 +188,7 @@ impl Regions {
         }
     }
 
-    // Whether a cell, which is none on lease, is live.
+    // Whether a cell is live. It isn't on lease.
     pub fn is_live(&self, class: CellClass, index: u32) -> bool
         requires regions { IsRegions self.now }
         requires there { index < self.now.cells }
@@ -227,7 +227,7 @@ impl Regions {
         }
     }
 
-    // What stands at a place of a live cell.
+    // The word at a place of a live cell.
     #[inline(always)]
     pub fn word(&self, class: CellClass, index: u32, place: u8) -> EndWord
         requires { IsRegions self.now × (place < places (cell_at self.now class index)) }

@@ -31,7 +31,7 @@ const NONE: RunNumbers = RunNumbers {
     agents: 0,
 };
 
-/// What is shown of a run: where it stands, the text of its net, and the status.
+/// The view of a run: its counts, the text of its net, and the status.
 #[derive(Drop)]
 pub struct Shown {
     pub numbers: RunNumbers,
@@ -151,8 +151,8 @@ fn run_text_by(alloc: Global, text: &[u8], choices: &[u32], limits: Limits) -> S
     }
 }
 
-/// What a run of a text comes to in which first the pairs of these numbers interact, one after another, and then at most `limit` pairs first
-/// in, first out, with `cells` cells of each class. Nothing is shown where one of the two is out of range.
+/// The end of a run of a text: first the pairs of these numbers interact, one after another, and then at most `limit` pairs first in, first out,
+/// with `cells` cells of each class. If one of the two is out of range, nothing is shown.
 pub fn ran_by(alloc: Global, text: &[u8], choices: &[u32], limit: u64, cells: u32) -> Shown
     ensures { IsRunBy text.now choices.now limit cells result }
 {

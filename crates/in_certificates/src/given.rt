@@ -79,7 +79,7 @@ fn step_of(alloc: Global, given: GivenStep, parts: &[u32]) -> Result<Option<Step
     }
 }
 
-/// The steps that these numbers are; nothing where one of them is none.
+/// The steps with these numbers; `None` if one of them has the numbers of no step.
 pub(crate) fn steps_of(
     alloc: Global,
     given: &[GivenStep],

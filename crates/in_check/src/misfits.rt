@@ -1,4 +1,4 @@
-//! The two ends of a wire whose types don't fit: for who tells why a program is refused.
+//! The two ends of a wire whose types don't fit, for the diagnosis.
 use in_net::{AgentNo, Net, Point, Rule};
 use in_symbols::{SymbolNo, Symbols};
 use in_syntax::Place;
@@ -122,7 +122,7 @@ fn rule_before(rules: &[Rule], place: Place) -> Option<&Rule> {
     last
 }
 
-/// The ends of the wire at a place of the text, in the net or in the rule in which the place stands.
+/// The ends of the wire at a place of the text, in the net or the rule around that place.
 pub(crate) fn misfit_at(
     symbols: &Symbols,
     rules: &[Rule],

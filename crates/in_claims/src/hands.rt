@@ -68,7 +68,7 @@ impl Join<Hands> for Together {
     ghost spent = { [] };
 }
 
-// Whoever has the hands of all seats knows that they are the claims of the board.
+// The hands of all seats are the claims of the board.
 pub struct Told;
 
 impl Play<(), Hands> for Told {

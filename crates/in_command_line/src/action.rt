@@ -38,7 +38,7 @@ pub struct Request<'a> {
 /// Why the words name no action.
 #[derive(Debug, Drop, Error)]
 pub enum Usage {
-    /// The words are wrong; what `clap` says of them.
+    /// The words are wrong; the message of `clap`.
     #[error("{0}")]
     Wrong(String),
     /// Help was asked for; what `clap` says.
@@ -174,7 +174,7 @@ fn command_on_file<'a>(
         .arg(file_argument(alloc))
 }
 
-/// `inet`, which tells its version, and of whose subcommands one is needed.
+/// `inet` with its version. One of its subcommands is required.
 fn command_alone<'a>(alloc: Global) -> Command<'a>
     ensures { app_of result ≡ tells_version (needs_subcommand (new_app (codes "inet"))) }
 {

@@ -13,7 +13,7 @@ use std::alloc::{AllocError, Global};
 use std::marker::Model;
 
 /// The agents of a member in leased cells: which cell each has, and the cells. It is kept from one member to the next, so that placing takes
-/// no memory; after `settle` it has no cells, and tells still which they were.
+/// no memory; after `settle` it has no cells, but still has their numbers.
 #[derive(Drop)]
 pub struct Placed {
     pub(crate) numbers: Vec<CellNo>,

@@ -1,4 +1,4 @@
-// A template, and what is read of it.
+// A template and its accessors.
 ghost use Rattle.std.specs.Prelude.{◌≡◌, ◌≤◌, ◌<◌, length, Some, slice_get};
 ghost use Rattle.in_net.specs.NetFaults.{max_member_agents};
 ghost use Rattle.in_compile.specs.declared.joints.Joint.TheVariants.{ToAgent, ToBoundary};

@@ -190,7 +190,7 @@ impl Field<'_> {
     }
 
     /// A directed circle of agents, each of which takes what the one before it gives by a port whose class has no output of it; in the
-    /// direction of the values. Without a node where there is none.
+    /// direction of the values. If there is no such circle, the list is empty.
     pub(crate) fn directed_circle(&self, alloc: Global) -> Result<Vec<Flow>, AllocError> {
         let mut taken = vec![in alloc; 0; self.open.nodes() as usize]?;
         let mut ready = Vec::new(alloc);

@@ -1,4 +1,4 @@
-//! Other braces with which a program that no steps build is accepted: each is tried before it is told.
+//! Other braces with which a program that no steps build is accepted: each is tried before it is suggested.
 ghost use Rattle.std.specs.Prelude.{◌≡◌, IfOk};
 ghost use Rattle.in_diagnosis.specs.Remedies.{IsAnsweredWith, is_stuck};
 
@@ -17,7 +17,7 @@ pub(crate) const MOST_TRIED: usize = 4;
 /// How many bytes are checked at most for all that are tried, so that a diagnosis takes no more than some checks.
 const MOST_CHECKED: usize = 32_768;
 
-/// The most declarations that are told at once.
+/// At most this many declarations are suggested at once.
 const MOST_DECLARED: usize = 6;
 
 /// A symbol with other braces.
@@ -53,7 +53,7 @@ pub(crate) fn add_remedy<'a>(
     Ok(())
 }
 
-/// What `in_check::check` answers a text with other braces.
+/// The result of `in_check::check` on a text with other braces.
 #[derive(Clone, Copy)]
 enum Outcome {
     /// It is accepted.
@@ -88,7 +88,7 @@ fn answer_to(alloc: Global, text: &[u8]) -> Result<Outcome, AllocError>
     }
 }
 
-/// What is refused, a rule or the net, and where: of which text.
+/// A refused rule or net, with its place and its text.
 #[derive(Clone, Copy)]
 pub(crate) struct Refused<'a> {
     pub(crate) text: &'a [u8],
@@ -102,11 +102,11 @@ pub(crate) struct Refused<'a> {
 enum Effect {
     /// The program is accepted with it.
     Accepts,
-    /// What was refused is built, and a later rule or the net is not.
+    /// The refused rule is built, and a later rule or the net is not.
     Builds,
-    /// An earlier rule, in which this byte of the text stands, is not built.
+    /// An earlier rule, around this byte of the text, is not built.
     BreaksRuleAt(usize),
-    /// What was refused is still not built.
+    /// The refused rule or net is still not built.
     Nothing,
 }
 
@@ -149,7 +149,7 @@ impl Refused<'_> {
     }
 }
 
-/// A remedy, and what it does.
+/// A remedy and its effect.
 #[derive(Clone, Copy)]
 struct Trial<'a> {
     remedy: Remedy<'a>,

@@ -12,10 +12,10 @@ use in_open_nets::{Node, OpenNet};
 use in_syntax::{Place, Source, SourceSymbol};
 use std::alloc::{AllocError, Global};
 
-/// The most nodes of a list that is told whole.
+/// A list with at most this many nodes is written whole.
 const MOST_TOLD: usize = 6;
 
-/// How many of the first nodes of a longer list are told. Its last one is told too.
+/// How many of the first nodes of a longer list are written. Its last one is written too.
 const FIRST_TOLD: usize = 4;
 
 /// On a circle of at most this many nodes the line of the text is shown for each.

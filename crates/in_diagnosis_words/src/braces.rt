@@ -154,7 +154,7 @@ impl Change<'_> {
         count
     }
 
-    /// What it changes in the text of this program, in the order of the text.
+    /// Its changes of the text of this program, in the order of the text.
     pub fn edits(
         &self,
         alloc: Global,
@@ -170,7 +170,7 @@ impl Change<'_> {
         Ok(edits)
     }
 
-    /// Says the first declarations that it changes, `most` at most, each as it is with the change and in a line of its own.
+    /// Writes the first declarations that it changes, at most `most`, each with the change and on a line of its own.
     pub fn say(&self, words: &mut Words, source: &Source, most: usize) {
         let mut left = most;
         for symbol in source.symbols.as_slice() {
@@ -224,7 +224,7 @@ fn edit_of(
     })
 }
 
-/// Where what is replaced ended, and where its replacement ends.
+/// The end of a replaced text, and the end of its replacement.
 #[derive(Clone, Copy)]
 struct Shift {
     before: usize,

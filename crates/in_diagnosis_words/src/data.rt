@@ -130,7 +130,7 @@ fn add_all(page: &mut Words, text: &[u8], parts: &[Part], remedies: &[Remedy], k
     }
 }
 
-/// Adds the parts of a diagnosis as three members: what is wrong, what belongs to it, and what helps; and the object's end.
+/// Adds the parts of a diagnosis as three members: the error, its notes, and the help; and the object's end.
 pub(crate) fn add_parts(page: &mut Words, text: &[u8], parts: &[Part], remedies: &[Remedy]) {
     page.say("\"errors\":[");
     add_all(page, text, parts, remedies, Kind::Error);

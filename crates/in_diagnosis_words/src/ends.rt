@@ -6,7 +6,7 @@ use crate::slots::Value;
 use crate::words::{Words, letter};
 use in_syntax::{Place, Source, SourcePort, SourceSymbol};
 
-/// What stands at an end of a wire.
+/// The owner of an end of a wire.
 #[derive(Clone, Copy)]
 enum Owner<'a> {
     /// An agent of this symbol, with the port of this number.
@@ -49,7 +49,7 @@ pub fn head_end(symbol: &SourceSymbol, number: usize, place: Place) -> Option<To
     })
 }
 
-/// The end of a wire at the free end of that number, in the order of the net. Nothing where there is none of that number.
+/// The end of a wire at the free end of that number, in the order of the net. `None` if there is none of that number.
 pub fn free_end(source: &Source, number: u32) -> Option<ToldEnd<'_>> {
     let end = source.net.free.get(number as usize)?;
     Some(ToldEnd {

@@ -26,7 +26,7 @@ pub(crate) fn front(bytes: &[u8]) -> &str {
     }
 }
 
-/// What stands from one byte to another one.
+/// The text from one byte to another.
 pub(crate) fn between(text: &[u8], from: usize, to: usize) -> &str {
     match text.get(from..to) {
         Some(bytes) => front(bytes),
@@ -34,8 +34,8 @@ pub(crate) fn between(text: &[u8], from: usize, to: usize) -> &str {
     }
 }
 
-/// A line, as far as it is looked at: what stands before a place in it, at the place, and after it. A byte at the place that is part of no
-/// character stands in none of them.
+/// A line, as far as it is read: the text before a place in it, at the place, and after it. A byte at the place that is part of no character is in
+/// none of them.
 #[derive(Clone, Copy)]
 struct Line<'a> {
     before: &'a str,
@@ -109,7 +109,7 @@ fn line_of(text: &[u8], place: Place) -> Line<'_> {
     }
 }
 
-/// What is shown in the place of what can't be shown.
+/// The character that replaces one that can't be shown.
 const REPLACEMENT: char = '\u{FFFD}';
 
 /// Whether a character isn't seen, or turns the direction of what follows it.
@@ -117,7 +117,7 @@ pub(crate) fn is_hidden(c: char) -> bool {
     matches!(c, '\u{AD}' | '\u{200B}'..='\u{200F}' | '\u{2028}'..='\u{202E}' | '\u{2060}'..='\u{206F}' | '\u{FEFF}')
 }
 
-/// A character as it is shown: control characters other than tabs would change the screen, and hidden ones would not be seen.
+/// The shown form of a character: control characters other than tabs would change the screen, and hidden ones would not be seen.
 fn shown(c: char) -> char {
     if c != '\t' && (c.is_control() || is_hidden(c)) {
         REPLACEMENT

@@ -83,7 +83,7 @@ fn is_sign(token: &str) -> bool {
     )
 }
 
-/// A token, or the end of the text, with which no program goes on.
+/// A token, or the end of the text, that no program has there.
 #[derive(Clone, Copy)]
 struct Unexpected<'a> {
     place: Place,

@@ -69,7 +69,7 @@ fn near_names<'a, D: Declared>(
     Ok(found)
 }
 
-/// How many near names are told.
+/// How many near names are written.
 const MOST_TOLD: usize = 4;
 
 /// Asks whether this name was meant, or this one too.

@@ -72,7 +72,7 @@ fn is_unmet(source: &Source, rule: &SourceRule) -> bool {
     }
 }
 
-/// Adds that the heads of the rule in which a place stands can't meet, and what helps; says whether they can't.
+/// Adds that the heads of the rule around a place can't meet, with help. Returns whether they can't.
 pub(crate) fn add_unmet(report: &mut Report, source: &Source, place: Place) -> bool {
     let Some(rule) = rule_around(source, place) else {
         return false;

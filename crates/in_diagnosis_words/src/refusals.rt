@@ -1,4 +1,4 @@
-//! What is refused of a text, or of a program's tree without a look at its nets.
+//! The refusals of a text, and those of a program's tree that need no nets.
 use crate::closed_wires::add_closed;
 use crate::grammar::{add_limit, add_long_text, add_long_word, add_unexpected};
 use crate::letters::add_no_token;

@@ -23,8 +23,8 @@ pub(crate) struct Part {
     pub(crate) sentence: String,
 }
 
-/// A change of the text that the part of this number tells. Whether the program is accepted with all changes of that part, as a check of the
-/// changed text found; where none was made, it is false.
+/// A change of the text that the part of this number suggests, and whether the program is accepted with all changes of that part, as a check of the
+/// changed text found; without such a check, it is false.
 #[derive(Drop)]
 pub(crate) struct Remedy {
     pub(crate) part: usize,
@@ -61,7 +61,7 @@ impl<'a> Report<'a> {
         self.text
     }
 
-    /// What stands at a place of the text.
+    /// The text at a place.
     pub(crate) fn at(&self, place: Place) -> &'a str {
         between(self.text, place.from, place.to)
     }
@@ -191,7 +191,7 @@ impl<'a> Report<'a> {
         }
     }
 
-    /// The place of what is wrong, which is told first.
+    /// The place of the error, which comes first.
     pub(crate) fn wrong_place(&self) -> Option<Place> {
         self.parts.first()?.place
     }

@@ -1,4 +1,4 @@
-//! Variables that stand once in a rule or in the net.
+//! Variables that occur once in a rule or in the net.
 use crate::declarations::{first_of, symbol_named};
 use crate::excerpts::between;
 use crate::near::distance;
@@ -10,10 +10,10 @@ use std::alloc::{AllocError, Global};
 /// How many of them are looked at.
 const MOST_LOOKED_AT: usize = 64;
 
-/// How many of them are told.
+/// How many of them are written.
 const MOST_TOLD: usize = 3;
 
-/// A name that no bracket follows, and where it stands.
+/// A name that no bracket follows, and its place.
 #[derive(Clone, Copy)]
 struct Bare<'a> {
     name: &'a str,
@@ -99,7 +99,7 @@ fn single_in<'a>(
     Ok(single)
 }
 
-/// What is told of them: those that are near to a name, or the others.
+/// The wanted ones: those that are near to a name, or the others.
 #[derive(Clone, Copy)]
 struct Wanted<'a> {
     name: &'a str,
@@ -145,8 +145,8 @@ fn add_all(report: &mut Report, single: &[Bare], name: &str, sentence: &'static 
     )
 }
 
-/// Adds the variables that stand once in the rule or in the net of a place, but for that of the place: those that are near to a name first.
-/// Says whether there are any.
+/// Adds the variables that occur once in the rule or net around a place, except for the one at the place: those that are near to a name first.
+/// Returns whether there are any.
 pub(crate) fn add_single(
     report: &mut Report,
     source: &Source,

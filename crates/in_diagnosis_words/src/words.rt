@@ -1,4 +1,4 @@
-//! Words that are being written: sentences with slots, and what stands in these.
+//! Words that are being written: sentences with slots, and their values.
 use crate::declarations::sign;
 use crate::slots::{Slot, Value, value_of};
 use in_syntax::{Place, SourcePort, SourceSymbol};
@@ -28,19 +28,19 @@ impl Words {
         }
     }
 
-    /// Goes on with these words, as they are.
+    /// Writes these words.
     pub fn say(&mut self, words: &str) {
         let done = self.text.push_str(words);
         self.keep(done);
     }
 
-    /// Goes on with a character.
+    /// Writes a character.
     pub(crate) fn push(&mut self, c: char) {
         let done = self.text.push(c);
         self.keep(done);
     }
 
-    /// Goes on with what is shown so.
+    /// Writes a value by its `Display`.
     pub(crate) fn put<S: Display>(&mut self, shown: &S) {
         let done = write!(self.text, "{shown}");
         self.keep(done);
@@ -63,7 +63,7 @@ impl Words {
         self.put(&format_args!("{number:04x}"));
     }
 
-    /// Goes on with these words as a string of JSON.
+    /// Writes these words as a string of JSON.
     pub(crate) fn quote(&mut self, words: &str) {
         self.say("\"");
         for c in words.chars() {
@@ -72,7 +72,7 @@ impl Words {
         self.say("\"");
     }
 
-    /// Goes on with a sentence, with a text in the place of its one slot.
+    /// Writes a sentence, with a text in its one slot.
     pub(crate) fn fill_one(&mut self, sentence: &str, text: &str) {
         match sentence.split_once('{') {
             Some((before, after)) => {
@@ -84,7 +84,7 @@ impl Words {
         }
     }
 
-    /// Goes on with a sentence, with a value in the place of each of its slots.
+    /// Writes a sentence, with a value in each of its slots.
     pub fn fill(&mut self, sentence: &str, slots: &[Slot]) {
         let mut rest = sentence;
         for _slot in 0..sentence.len() {

@@ -1,4 +1,4 @@
-//! What is asked of a program's templates over a new arena.
+//! Questions about a program's templates over a new arena.
 ghost use Rattle.in_compile.specs.Templates.{AreTemplatesOf};
 
 use crate::gathers::add_gather;

@@ -137,14 +137,14 @@ fn looked_at_and_rounded<R: Threads + Wait>(
     }
 }
 
-/// What is asked of a new machine.
+/// A question about a new machine.
 #[derive(Clone, Copy)]
 enum Question {
     /// Whether there is one.
     Start,
     /// What comes of printing its net.
     Printing,
-    /// What it shows after as many steps as a round does.
+    /// The net that it shows after as many steps as a round does.
     Steps,
     /// What comes of a round, after which it has to show that.
     Round,

@@ -18,7 +18,7 @@ pub fn turns(machine: &mut Machine, most: u64) -> u64 {
     most
 }
 
-/// A round with these workers and this budget; nothing where these are out of range, or no pair is there, or what it needs isn't free.
+/// A round with these workers and this budget; `None` if these are out of range, there is no pair, or the cells that it needs aren't free.
 pub fn one_round<R: Threads + Wait, G: Gate + Sync>(
     rt: &R,
     alloc: Global,
@@ -112,8 +112,8 @@ pub fn add_steps(sheet: &mut Sheet, machine: &mut Machine, words: &[String]) {
     }
 }
 
-/// Interactions, as many as the words say, by `step`, by `take_newest` and by `take_first`, and how many each did: nothing of the net, so that
-/// whoever counts requests for memory sees those of these calls.
+/// Interactions, as many as the words say, by `step`, by `take_newest` and by `take_first`, and how many each did: nothing of the net, so that a
+/// count of the requests for memory has those of these calls alone.
 pub fn add_still(sheet: &mut Sheet, machine: &mut Machine, words: &[String]) {
     let stepped = turns(machine, number(words, 3));
     let newest = machine.take_newest(0, number(words, 4));

@@ -1,4 +1,4 @@
-//! Runs, and what they come to.
+//! Runs and their outcomes.
 use crate::showing::add_machine;
 use in_check::Checked;
 use in_harness_texts::{Came, Sheet, add_call, number, small};
@@ -8,7 +8,7 @@ use in_run::{Outcome, RunFault, run};
 use std::sync::Wait;
 use std::thread::Threads;
 
-/// What is told of a run.
+/// Which part of a run's outcome is written.
 #[derive(Clone, Copy)]
 pub enum Told {
     /// How it ended, and what its machine shows.

@@ -22,13 +22,13 @@ const CELLS: u32 = 64;
 /// What came of a call that takes memory.
 #[derive(Clone, Copy, PartialEq, Eq)]
 pub enum Came {
-    /// It did what it has to do.
+    /// It did its work.
     Done,
     /// Memory ran out.
     Memory,
     /// .. and what has to be as before is.
     Unchanged,
-    /// Memory ran out before what it left could be looked at.
+    /// Memory ran out before its result could be read.
     Unseen,
     /// It isn't as it has to be.
     Wrong,

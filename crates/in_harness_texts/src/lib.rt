@@ -1,4 +1,4 @@
-//! What the program `in_harness` answers of a text and of an accepted program, without machines, and what it prints on (`Sheet`). It is a crate
+//! The answers of the program `in_harness` on a text and on an accepted program, without machines, and the `Sheet` that it prints. It is a crate
 //! of its own so that it is proved beside the machines and the runs.
 #![tactic(auto)]
 

@@ -11,7 +11,7 @@ use in_symbols::{PortType, SymbolNo, Symbols};
 use in_syntax::{Fault, Source, parse};
 use std::alloc::{AllocError, Global};
 
-/// What is written of a program that is read.
+/// Which part of a read program is written.
 #[derive(Clone, Copy)]
 pub enum Read {
     Tables,

@@ -33,7 +33,7 @@ pub fn add_count(sheet: &mut Sheet, text: &[u8]) {
     }
 }
 
-/// What is written of a tree.
+/// Which part of a tree is written.
 #[derive(Clone, Copy)]
 pub enum Shown {
     /// All of it.
@@ -160,7 +160,7 @@ fn add_sizes(sheet: &mut Sheet, source: &Source) {
     );
 }
 
-/// What is shown of the tree of a text, or why it is refused.
+/// That part of a text's tree, or why the text is refused.
 pub fn add_tree(sheet: &mut Sheet, text: &[u8], shown: Shown) {
     match parse(sheet.alloc, text) {
         Ok(source) => {

@@ -35,7 +35,7 @@ impl<'a> Model for Site<'a> {
 }
 
 impl<'a> Site<'a> {
-    /// The boundary end that a port of the pair is; other points are none.
+    /// The boundary end of a port of the pair; `None` for other points.
     pub(crate) fn end_of(&self, point: Point) -> Option<u32>
         ensures { result ≡ end_of self.now.one self.now.two self.now.first point }
     {

@@ -159,7 +159,7 @@ impl<T> Cells<T> {
         Cells { mark: PhantomData }
     }
 
-    /// The same, where a value tells which cells are chosen: what a proof names is picked from the arguments of a call.
+    /// The same, where a value chooses the cells: what a proof names is picked from the arguments of a call.
     #[inline(always)]
     pub fn part_by<H>(&mut self, by: &H) -> Cells<T>
         ghost chosen: { ℕ → Bool }

@@ -48,7 +48,7 @@ pub(crate) fn unseen(alloc: Global, names: usize) -> Result<Items<Seen>, AllocEr
     Ok(seen)
 }
 
-/// What is counted so far: how often each name stands, and where the first one stands for the third time.
+/// The counts so far: how often each name occurs, and the place of the first third occurrence.
 #[derive(Drop)]
 struct Counting {
     seen: Items<Seen>,
@@ -120,8 +120,8 @@ fn lonely(seen: &[Seen], spots: &[Spot], free: &[SourceFree]) -> Option<Place>
     found
 }
 
-/// Where the first name stands that doesn't stand twice, as a variable does in the body, and a free name at its declaration and
-/// in the body: at its only spot, or at its third one.
+/// The place of the first name that doesn't occur twice, as a variable does in the body, and a free name at its declaration and in the body: its
+/// only spot, or its third one.
 pub(crate) fn miscounted(
     alloc: Global,
     names: usize,

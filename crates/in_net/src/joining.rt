@@ -107,7 +107,7 @@ fn meet(links: &mut Items<Link>, seen: Seen, at: usize) -> Option<Place>
     }
 }
 
-/// What is joined so far: what each spot is joined to, how often each name was seen, and the place of the first closed wire.
+/// The joints so far: the partner of each spot, how often each name was seen, and the place of the first closed wire.
 #[derive(Drop)]
 struct Joining {
     links: Items<Link>,

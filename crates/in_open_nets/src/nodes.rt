@@ -162,7 +162,7 @@ impl NodeSet {
         tests
     }
 
-    /// Whether the node is a member; one past the tests is none.
+    /// Whether the node is a member. A node past the tests isn't one.
     pub fn has(&self, node: usize) -> bool
         ensures { result ≡ nodes_in self.now node }
     {

@@ -41,7 +41,7 @@ pub struct OpenNet {
     pub(crate) free: u32,
 }
 
-// Contracts see the open net as it is defined, and each one is an open net.
+// Contracts see the open net by its definition. Each value is an open net.
 impl Model for OpenNet {
     ghost use Rattle.in_open_nets.specs.OpenNets as nets;
 

@@ -94,7 +94,7 @@ fn tried(
     }
 }
 
-/// The first node of the part that splits it, by trying one after another, where that tells.
+/// The first node of the part that splits it, by trying one after another, if that decides it.
 fn first_by_trials(
     alloc: Global,
     part: &Part,

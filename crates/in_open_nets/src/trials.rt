@@ -38,7 +38,7 @@ struct Meeting {
     to: Option<usize>,
 }
 
-/// What a search came to: two classes that meet, or none although it reached all that it could, or the end of its budget.
+/// The result of a search: two classes that meet, none although it reached all that it could, or the end of its budget.
 #[derive(Clone, Copy, Drop)]
 enum Answer {
     Met(Meeting),
@@ -46,8 +46,8 @@ enum Answer {
     Spent,
 }
 
-/// A search from single nodes: what the last one reached, and how many more ports may be looked at. Nothing is claimed of what it finds,
-/// since cycles and labels are checked before they are used.
+/// A search from single nodes: the nodes that the last one reached, and how many more ports it may visit. No clause is on its result, since cycles
+/// and labels are checked before they are used.
 struct Search {
     labels: Labels,
     reached: Items<Reached>,
@@ -65,7 +65,7 @@ impl Drop for Search {
     }
 }
 
-/// The cycles that searches from single nodes found, the last search, and room for a class graph, where searches do not tell.
+/// The cycles that searches from single nodes found, the last search, and room for a class graph, if searches don't decide.
 pub struct Trials<'a> {
     pub cycles: Cycles<'a>,
     pub(crate) graph: ClassGraph,
@@ -316,7 +316,7 @@ impl<'a> Trials<'a> {
         }
     }
 
-    /// Whether the candidate splits the part, where a search from it tells.
+    /// Whether the candidate splits the part, if a search from it decides that.
     pub(crate) fn find(
         &mut self,
         alloc: Global,

@@ -119,8 +119,8 @@ fn class_port(symbols: &Symbols, symbol: SymbolNo, first: u32, place: u8) -> Ope
     OpenPoint::Port(node, places_in(symbols, symbol, class, place - 1))
 }
 
-/// Where the nodes of a rule's open net begin: how many class nodes its first head has and its second one, and how many agents
-/// stand before the second head.
+/// Where the nodes of a rule's open net begin: how many class nodes its first head has and its second one, and how many agents come before the
+/// second head.
 #[derive(Drop)]
 struct Layout<'a> {
     symbols: &'a Symbols,

@@ -77,7 +77,7 @@ pub fn output_stands_first()
     ensures { OutputStandsFirst }
 {}
 
-/// So the two sides of a wire with a boundary end tell which pair it makes.
+/// So the two sides of a wire with a boundary end determine the pair that it makes.
 pub fn sides_tell_the_pair()
     ensures { SidesTellThePair }
 {}

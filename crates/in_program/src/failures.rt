@@ -1,4 +1,4 @@
-// What is told of a stream or a file that fails.
+// The message on a stream or a file that fails.
 use std::alloc::{AllocError, Global};
 use std::io::{Error, Write};
 

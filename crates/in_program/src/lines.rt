@@ -88,8 +88,8 @@ fn add_places(
     Ok(())
 }
 
-/// The line of a refused text: the code, the line and the column, what stands at the place, if the place isn't empty, and at the
-/// other place, if there is one.
+/// The line of a refused text: the code, the line and the column, the text at the place, if the place isn't empty, and the text at the other place,
+/// if there is one.
 pub fn refused_line(alloc: Global, text: &[u8], refusal: Refusal) -> Result<Vec<u8>, AllocError>
     ensures { IfOk result (λ line. line.items ≡ refused_line text.now refusal) }
 {

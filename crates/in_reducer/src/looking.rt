@@ -122,7 +122,7 @@ impl<'a> Reducer<'a> {
         self.body.free.len() as u32
     }
 
-    /// The name of a free end; an end of a cut wire has none, and answers the empty text.
+    /// The name of a free end; an end of a cut wire has none, and its name is the empty text.
     pub fn free_name(&self, number: u32) -> &str
         requires { number < length self.now.free }
         ensures { Some result.now ≡ free_name_in (parts_of self.now) number }

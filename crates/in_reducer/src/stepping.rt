@@ -40,7 +40,7 @@ impl<'a> Body<'a> {
         (self.symbol(CellNo(one)), self.symbol(CellNo(other)))
     }
 
-    /// The interaction of the pair of that number, beside which the right member of its template stands in the cells that the tools tell.
+    /// The interaction of the pair of that number. The right member of its template is beside it, in the cells that the tools name.
     /// The pair leaves the queue, and the new pairs come last: first those over boundary ends, by the lowest-numbered one on the path that
     /// made each, then the right member's own. It takes no memory.
     #[inline(always)]
@@ -105,8 +105,8 @@ impl<'a> Reducer<'a> {
         self.template_by(templates, number, self.body.heads(number))
     }
 
-    /// How many cells of each class the interaction of the pair of that number needs: the agents of its rule's right member. They have to
-    /// be free while the pair still stands. The templates are those of the program.
+    /// How many cells of each class the interaction of the pair of that number needs: the agents of its rule's right member. They have to be free
+    /// before the pair is retired. The templates are those of the program.
     pub fn need_of(&self, templates: &Templates, number: u32) -> Need
         requires templates { AreTemplatesOf self.now.program templates.now }
         requires pair { number < length self.now.queue }
@@ -193,10 +193,10 @@ impl<'a> Reducer<'a> {
         }
     }
 
-    /// The interaction of the pair of that number, by the rule of its symbols: Lafont 1990's, which replaces the pair by the right member.
-    /// The pair leaves the queue, and the new pairs come last: first those over boundary ends, by the lowest-numbered one on the path that
-    /// made each, then the right member's own. The cells of the pair are free, and those of the new agents aren't. What the pair needs has
-    /// to be free while it still stands. The templates are those of the program. It takes no memory.
+    /// The interaction of the pair of that number, by the rule of its symbols: Lafont 1990's, which replaces the pair by the right member. The pair
+    /// leaves the queue, and the new pairs come last: first those over boundary ends, by the lowest-numbered one on the path that made each, then
+    /// the right member's own. The cells of the pair are free, and those of the new agents aren't. The cells that the pair needs have to be free
+    /// before it is retired. The templates are those of the program. It takes no memory.
     pub fn step(&mut self, templates: &Templates, number: u32)
         requires templates { AreTemplatesOf self.old.program templates.now }
         requires pair { number < length self.old.queue }
@@ -254,7 +254,7 @@ impl<'a> Reducer<'a> {
         }
     }
 
-    /// The interaction of the first pair, which has these symbols, up to numbers, where what it needs is free. Returns whether it was done.
+    /// The interaction of the first pair, which has these symbols, up to numbers, if the cells that it needs are free. Returns whether it was done.
     #[inline(always)]
     pub(crate) fn step_known(&mut self, templates: &Templates, heads: (SymbolNo, SymbolNo)) -> bool
         requires { AreTemplatesOf self.old.program templates.now × HasHeadsAt self.old 0 heads }

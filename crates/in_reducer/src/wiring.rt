@@ -235,8 +235,8 @@ fn begin_in(member: &Member, pair: Pair, arena: &mut Arena, points: &mut [EndWor
     begin_rest(member, 2, arena, points);
 }
 
-/// Retires a pair to which no wire leads back, begins the right member's agents, which then stand in its cells where they can, and writes the wires,
-/// as `wire_up` does.
+/// Retires a pair to which no wire leads back, places the right member's agents, which reuse its cells where they can, and writes the wires, as
+/// `wire_up` does.
 #[inline(always)]
 pub(crate) fn wire_anew(
     template: &Template,

@@ -29,7 +29,7 @@ pub(crate) enum Slot<'t> {
 
 /// Keeps the result of each job of a list, by the job's number: which jobs a round has, and in which order, is this project's own choice.
 ///
-/// It is to be spent: the cells of what it keeps are leased until then.
+/// It has to be spent: the cells of its results are leased until then.
 #[derive(Drop)]
 pub struct Gather<'t> {
     jobs: Vec<(SymbolNo, SymbolNo)>,

@@ -82,8 +82,7 @@ fn hands<'t>(
     Ok(hands)
 }
 
-/// What is taken before the first cell is lent: a hand without cells for each worker, and lists with room for all hands, as they are lent and when
-/// they are back.
+/// The memory taken before the first cell is lent: a hand without cells for each worker, and lists with room for all hands, lent and back.
 #[derive(Drop)]
 pub(crate) struct Crew<'t> {
     pub(crate) hands: Vec<Hand<'t>>,

@@ -73,7 +73,7 @@ pub(crate) fn stitch_all<'t>(
     jobs
 }
 
-/// Gives back the cells of what is left in the gather: no cell is on lease then.
+/// Gives back the cells of the results left in the gather. Then no cell is on lease.
 pub(crate) fn give_back<'t>(body: &mut Body, gather: Gather<'t>)
     requires all { KeepsAll body.old }
     requires lent { HaveAllLeased (bags_of gather.slots) body.old.arena }

@@ -37,7 +37,7 @@ const COST_OF_AN_AGENT: u64 = 4;
 /// .. and besides for each thread.
 const COST_OF_A_THREAD: u64 = 4_000;
 
-/// How long is waited after a phase that hasn't paid, in what it cost; twice as long after each further one.
+/// The wait after a phase that hasn't paid, in multiples of its cost; twice as long after each further one.
 const FIRST_WAIT: u64 = 4;
 
 /// What a run of several workers keeps from one look at its machine to the next: from how many interactions on a phase is looked at, how many
@@ -69,8 +69,8 @@ impl Pace {
         interactions < self.phase_from
     }
 
-    /// Notes what a phase brought, of a net with `agents` agents, after which `interactions` interactions are done. It has paid where what
-    /// the other parts did beside the longest one is at least twice what it cost, and a quarter of all.
+    /// Notes the gain of a phase, of a net with `agents` agents, after which `interactions` interactions are done. It has paid if the other parts
+    /// did, beside the longest one, at least twice as much as its cost, and a quarter of all.
     pub(crate) fn note(&mut self, worked: Worked, agents: u32, interactions: u64) {
         self.phases = self.phases.saturating_add(1);
         self.threads = self.threads.max(worked.parts);

@@ -14,7 +14,7 @@ pub struct Progress {
     pub used: Need,
 }
 
-/// Who watches a run. What it does changes nothing of the run.
+/// A watcher of a run. It changes nothing of the run.
 pub trait Watch {
     /// A run begins: its program is checked.
     fn begin(&mut self);

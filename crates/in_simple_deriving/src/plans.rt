@@ -38,7 +38,7 @@ pub(crate) enum Task {
     Make(Joint),
 }
 
-/// What becomes of a node, or of what is at the other end of a wire.
+/// The fate of a node, or of the other end of a wire.
 enum Fate {
     /// It is left and not derived yet.
     Waits(u32),

@@ -61,7 +61,7 @@ fn untyped_in_free(types: &Names, frees: &[SourceFree]) -> Option<Place>
     found
 }
 
-/// What is searched for a name that has to be a symbol's and isn't, and where the first of these stands that was met so far.
+/// A search for names that have to be a symbol's and aren't, and the place of the first such name so far.
 #[derive(Drop)]
 struct Lookup<'a> {
     symbols: &'a Names,

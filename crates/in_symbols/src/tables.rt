@@ -78,7 +78,7 @@ fn shape(alloc: Global, types: &Names, symbol: &SourceSymbol) -> Result<Shape, A
     Ok(shape)
 }
 
-/// What is declared of each symbol.
+/// The declaration of each symbol.
 pub(crate) fn shapes(
     alloc: Global,
     source: &Source,

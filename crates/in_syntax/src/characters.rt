@@ -7,7 +7,7 @@ ghost use Rattle.in_syntax.specs.Cursors.{BeginsWith};
 use crate::places::Place;
 use unicode_ident::{is_xid_continue, is_xid_start};
 
-/// A spot between two characters: how many bytes stand before it, its line and its column, both counted from 1.
+/// A spot between two characters: how many bytes come before it, its line and its column, both counted from 1.
 #[derive(Clone, Copy, Debug, PartialEq, Eq)]
 pub struct Spot {
     pub at: usize,

@@ -1,4 +1,4 @@
-//! What a program can go on with where the grammar refuses it: for people who look for what is wrong.
+//! The tokens with which a program can continue where the grammar refuses it, for the diagnosis.
 ghost use Rattle.std.specs.Prelude.{◌≡◌};
 ghost use Rattle.in_syntax.specs.Steps as steps;
 
@@ -64,9 +64,9 @@ pub enum Expected {
     Equation,
     /// A term.
     Term,
-    /// What goes on after a name alone: `(`, or what follows a whole term.
+    /// After a name alone: `(`, or a token that follows a whole term.
     AfterName(PartOf),
-    /// What goes on after a whole term.
+    /// A token that follows a whole term.
     AfterTerm(PartOf),
     /// Nothing: the program is whole.
     Nothing,

@@ -19,7 +19,7 @@ pub const MAX_TEXT_BYTES: usize = 1_048_576;
 /// The longest name, in characters. This project's own choice.
 pub const MAX_NAME_CHARACTERS: usize = 64;
 
-/// What stands at a spot.
+/// The token, blank or fault at a spot.
 pub enum Move<'a> {
     /// Nothing: the text ends here.
     End,
@@ -214,7 +214,7 @@ fn front(text: &[u8]) -> &str
     }
 }
 
-/// The tokens of a program's text as `tokens` answers them, and the place after its last character.
+/// The tokens of a program's text, as `tokens` returns them, and the place after its last character.
 pub fn tokens_to_end(alloc: Global, text: &[u8]) -> Result<(Vec<Token>, Place), Fault>
     ensures tokens { IfOk result (λ r. IsTokensOf text.now r.0.items) }
     ensures end { IfOk result (λ r. r.1 ≡ end_place text.now) }
@@ -242,7 +242,7 @@ pub fn tokens_to_end(alloc: Global, text: &[u8]) -> Result<(Vec<Token>, Place), 
 /// normalized. All of this is this project's own choice.
 ///
 /// Refused, each with an empty place:
-/// - `E03` at the first character: the text is too long. This is looked at before all else.
+/// - `E03` at the first character: the text is too long. This is checked first.
 /// - `E01` at the first character, outside comments, with which no token begins, or at the first byte, also in a
 ///   comment, at which no well-formed character begins.
 /// - `E03` at the first character of a word of more than `MAX_NAME_CHARACTERS` characters.

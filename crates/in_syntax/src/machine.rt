@@ -44,7 +44,7 @@ pub const MAX_DEPTH: usize = 200;
 /// What a token leads to.
 #[derive(Drop)]
 pub enum Event {
-    /// The next token stands in the state that was written.
+    /// The next token is read in the state that was written.
     Goes,
     /// A `type` item is whole.
     Types(TypeNames),
@@ -56,7 +56,7 @@ pub enum Event {
     Refuses(Code),
 }
 
-/// Writes the state in which the next token stands.
+/// Writes the state in which the next token is read.
 pub fn write(state: &mut State, next: State)
     ensures { state.new ≡ next }
 {

@@ -56,7 +56,7 @@ pub struct Returned {
     pub numbers: Option<Vec<u32>>,
 }
 
-// Both seats of a board are taken back, and answer `claims` claims.
+// Both seats of a board are taken back, and `claims` claims are returned.
 pub fn both_made(
     rt: &impl Abort,
     alloc: Global,

@@ -1,4 +1,4 @@
-//! What is told of words that can't be had, of streams that fail, at a terminal, and of a text that is too long.
+//! Messages on words that can't be read, on streams that fail, at a terminal, and on a text that is too long.
 use crate::{Console, serve, unreadable};
 use in_command_line::Usage;
 use in_program::Status;
@@ -46,7 +46,7 @@ fn words(alloc: Global, command: &str) -> Result<Args, AllocError> {
     Ok(words.into_iter())
 }
 
-/// Whether a command on these streams ends with status 6, and tells this on standard error.
+/// Whether a command on these streams ends with status 6, and writes this on standard error.
 fn fails_with<T: Threads + Clock + Files, R: Read + Drop, W: Write + Drop>(
     rt: &T,
     alloc: Global,

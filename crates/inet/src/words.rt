@@ -122,7 +122,7 @@ fn told(
     }
 }
 
-/// Tells what is wrong with a text that is refused. Where memory runs out, or it can't be told, nothing is added.
+/// Writes the diagnosis of a refused text. If memory runs out, or it can't be written, nothing is added.
 pub fn tell_diagnosis<E: Write>(
     alloc: Global,
     file: Option<&str>,
@@ -162,7 +162,7 @@ fn help(alloc: Global, status: Status, limits: Limits) -> Result<Option<String>,
     }
 }
 
-/// Tells what helps where a run has stopped at its limit, or for lack of cells. Where memory runs out, or it can't be told, nothing is added.
+/// Writes help after a run that stopped at its limit, or for lack of cells. If memory runs out, or it can't be written, nothing is added.
 pub fn tell_help<E: Write>(alloc: Global, status: Status, action: &Action, errors: &mut E) {
     if let Some(limits) = limits_in(action) {
         if let Ok(Some(words)) = help(alloc, status, limits) {

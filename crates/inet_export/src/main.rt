@@ -116,7 +116,7 @@ fn tell_program<W: TextOut>(alloc: Global, writer: &mut W, text: &[u8]) -> Statu
     }
 }
 
-/// Reads a text and writes the line of its program; tells why it can't be read from this device.
+/// Reads a text and writes the line of its program, or why it can't be read from this device.
 fn answer<R: Read, W: TextOut, E: Write>(
     alloc: Global,
     device: Device,
@@ -160,7 +160,7 @@ fn answer_file<T: Files, W: TextOut, E: Write>(
     }
 }
 
-/// Tells the version of the program.
+/// Writes the version of the program.
 fn tell_version<W: TextOut>(alloc: Global, output: &mut W) -> Status
     requires { (W.device output.old).failures < 2 ^ 64 - 1 }
 {
