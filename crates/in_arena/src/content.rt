@@ -12,7 +12,7 @@ pub struct CellNo(pub u32);
 /// The word of a live cell, which is the number of its agent's symbol.
 pub type SymbolWord = u32;
 
-/// What a place of a cell leads to: a place of a cell, the principal one being 0, or a free end.
+/// An end of a wire: a place of a cell, of which 0 is the principal port, or a free end.
 #[derive(Clone, Copy, Debug, PartialEq, Eq, Hash)]
 pub enum End {
     Cell(CellNo, u8),

@@ -244,7 +244,7 @@ impl<const WIDTH: usize> Region<WIDTH> {
         self.cells.get(self.base, index as usize).ends[place as usize]
     }
 
-    // What the places of a live cell lead to, in their order.
+    // The other ends of the wires at the places of a live cell, in their order.
     #[inline(always)]
     pub fn ends(&self, index: u32) -> &[EndWord]
         requires { IsRegion self.now × IsLive (state_at self.now index) }

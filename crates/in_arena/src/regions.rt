@@ -1,4 +1,4 @@
-// What there is for each class of cells: a region, the owner of one of its cells and the owner of some of them.
+// For each class of cells: a region, the owner of one of its cells and the owner of some of them.
 ghost use Rattle.std.specs.Prelude.{◌≡◌, ◌*◌, ◌<◌, ◌≤◌, ◌↔◌, ℕ, IsTrue, length, count_by, IfOk};
 ghost use Rattle.in_arena.specs.States.{State, Live, Vacant, IsLive, IsLeased, IsBegun, is_vacant, word_of, end_at, places, with_end, HasEnds};
 ghost use Rattle.in_arena.specs.Arenas.{written};
@@ -240,7 +240,7 @@ impl Regions {
         }
     }
 
-    // What the places of a live cell lead to, in their order.
+    // The other ends of the wires at the places of a live cell, in their order.
     #[inline(always)]
     pub fn ends(&self, class: CellClass, index: u32) -> &[EndWord]
         requires { IsRegions self.now × IsLive (cell_at self.now class index) }

@@ -127,8 +127,8 @@ pub extern "C" fn inet_refusal(alloc: Global, text: &[u8], refusal: &mut Numbers
     status.0
 }
 
-/// Whether these steps build the rule of that number of the text's program, or its net, which has the number after the last rule's: the
-/// status is 0 where they do, that of wrong words where they don't, or that of the text. `in_certificates` says what the numbers are.
+/// Whether these steps build the rule of that number of the text's program, or its net, which has the number after the last rule's: the status is 0
+/// if they do, that of wrong words if they don't, or that of the text. `in_certificates` has the meaning of the numbers.
 #[unsafe(no_mangle)]
 pub extern "C" fn inet_verify(
     alloc: Global,
@@ -142,11 +142,11 @@ pub extern "C" fn inet_verify(
     verified(alloc, text, number, steps, parts).0
 }
 
-/// A run in which first the pairs of these numbers in the queue interact, one after another, and then at most `limit` pairs first in, first
-/// out, with `cells` cells of each class: the net as `inet run` writes it, and its counts. It breaks off at a choice of which there is no pair,
-/// or whose pair needs more cells than are free. Returns 0 if no pair is left, 3 at the limit, 4 if cells are too few, and the status of wrong
-/// words for a choice without a pair; nothing is written, and all numbers are 0, if the text is refused, a number is out of range, the net
-/// doesn't fit the cells, or memory runs out.
+/// A run in which first the pairs of these numbers in the queue interact, one after another, and then at most `limit` pairs first in, first out,
+/// with `cells` cells of each class: the net as `inet run` writes it, and its counts. It breaks off at a choice without a pair, or whose pair needs
+/// more cells than are free. Returns 0 if no pair is left, 3 at the limit, 4 if cells are too few, and the status of wrong words for a choice
+/// without a pair; nothing is written, and all numbers are 0, if the text is refused, a number is out of range, the net doesn't fit the cells, or
+/// memory runs out.
 #[unsafe(no_mangle)]
 pub extern "C" fn inet_run_by(
     alloc: Global,

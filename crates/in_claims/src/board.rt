@@ -50,8 +50,8 @@ impl Model for Seat {
 }
 
 impl Board {
-    /// A board that hands out the numbers below `limit`, none of which is claimed yet, and its 1 to 64 seats: these are all that it
-    /// has, and all that it will have. Refused only when out of memory.
+    /// A board of the numbers below `limit`, none of which is claimed yet, and all its seats, 1 to 64. It gets no others. Refused only when out of
+    /// memory.
     pub fn new(alloc: Global, limit: u32, seats: u32) -> Result<(Board, Vec<Seat>), AllocError>
         requires some { 0 < seats }
         requires most { seats ≤ 64 }

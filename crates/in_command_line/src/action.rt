@@ -11,7 +11,7 @@ use in_limits::{LEAST_CELLS, Limits, MOST_CELLS, MOST_INTERACTIONS, MOST_WORKERS
 use std::alloc::{AllocError, Global};
 use thiserror::Error;
 
-/// What the program is asked to do. Which commands there are is this project's own choice.
+/// The action that the words request. The set of commands is this project's own choice.
 #[derive(Clone, Copy, Debug, PartialEq, Eq)]
 pub enum Action {
     /// Says whether a program's text is accepted.
@@ -41,10 +41,10 @@ pub enum Usage {
     /// The words are wrong; the message of `clap`.
     #[error("{0}")]
     Wrong(String),
-    /// Help was asked for; what `clap` says.
+    /// Help was requested; the text of `clap`.
     #[error("{0}")]
     Help(String),
-    /// The version was asked for, which the program knows.
+    /// The version was requested, which the program knows.
     #[error("version")]
     Version,
     /// Out of memory.

@@ -48,8 +48,7 @@ impl Model for Member {
 }
 
 impl Member {
-    /// Its agents' cells hold their places, its wires lead both ways, and its need is that of its agents: what its proof rests on. The call
-    /// does nothing.
+    /// Its agents' cells hold their places, its wires lead both ways, and its need is that of its agents, for proofs. The call does nothing.
     pub fn is_sound(&self)
         ensures { IsSoundMember self.now }
     {

@@ -111,7 +111,7 @@ impl RuleTable {
     {
         match self.find(c, d) {
             Some(rule) => rule,
-            // The two symbols have a rule: it is asked for.
+            // The two symbols have a rule, by a requirement.
             None => unreachable!(),
         }
     }

@@ -159,7 +159,7 @@ fn way_to(alloc: Global, reached: &Reached, last: u32) -> Result<Vec<u32>, Alloc
     Ok(way)
 }
 
-/// What a circle is looked for in.
+/// The part of a net in which a circle is searched.
 #[derive(Clone, Copy)]
 pub(crate) struct Field<'a> {
     pub(crate) source: &'a Source,

@@ -1,4 +1,4 @@
-//! A directed circle in an open net: agents of which each gives what the next one takes, so that a value is needed to compute itself.
+//! A directed circle in an open net: each agent has an output that the next one takes, so that a value is needed to compute itself.
 use crate::circles::{Field, MOST_PORTS, Port};
 use in_diagnosis_words::port;
 use in_open_nets::{Node, OpenNet};
@@ -189,8 +189,8 @@ impl Field<'_> {
         circle_in(alloc, way.as_slice(), last)
     }
 
-    /// A directed circle of agents, each of which takes what the one before it gives by a port whose class has no output of it; in the
-    /// direction of the values. If there is no such circle, the list is empty.
+    /// A directed circle of agents, in the direction of the values. Each agent takes an output of the one before it, by a port whose class has no
+    /// output. If there is no such circle, the list is empty.
     pub(crate) fn directed_circle(&self, alloc: Global) -> Result<Vec<Flow>, AllocError> {
         let mut taken = vec![in alloc; 0; self.open.nodes() as usize]?;
         let mut ready = Vec::new(alloc);
@@ -226,7 +226,7 @@ fn mark(met: &mut [bool], node: u32) {
     }
 }
 
-/// What leads from a node back to it at the end of a way that was gone against the wires, turned.
+/// The circle at the end of a way against the wires: from the last node back to it, turned round.
 fn circle_in(alloc: Global, way: &[Flow], last: u32) -> Result<Vec<Flow>, AllocError> {
     let mut circle = Vec::new(alloc);
     for flow in way.iter().rev() {

@@ -97,7 +97,7 @@ pub(crate) struct Refused<'a> {
     pub(crate) place: Place,
 }
 
-/// What a change does.
+/// The effect of a change.
 #[derive(Clone, Copy, PartialEq, Eq)]
 enum Effect {
     /// The program is accepted with it.
@@ -341,8 +341,8 @@ fn add_other_help(report: &mut Report, refused: Refused, best: Option<Trial>) {
     }
 }
 
-/// Adds what helps: the first of these remedies with which the text is accepted, or else the usual braces, where what no steps build is built
-/// with them, or else the best of the remedies.
+/// Adds help: the first of these remedies with which the text is accepted, or else the usual braces, if they build the refused rule or net, or else
+/// the best of the remedies.
 pub(crate) fn add_help(report: &mut Report, remedies: &[Remedy], refused: Refused) {
     match best_of(report.alloc, refused, to_try(refused.text, remedies)) {
         Ok(Some(tried)) if tried.effect == Effect::Accepts => {
@@ -353,8 +353,7 @@ pub(crate) fn add_help(report: &mut Report, remedies: &[Remedy], refused: Refuse
     }
 }
 
-/// Adds what helps against a circle in which each agent gives what the next one takes: the first of these remedies that builds what was
-/// refused; in the usual braces it stays as it is.
+/// Adds help against a directed circle: the first of these remedies that builds the refused rule or net. In the usual braces the circle stays.
 pub(crate) fn add_help_for_value(report: &mut Report, remedies: &[Remedy], refused: Refused) {
     if remedies.is_empty() {
         report.help(sentences::NO_BRACES);

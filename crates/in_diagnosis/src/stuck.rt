@@ -1,5 +1,4 @@
-//! Rules and nets that no steps build: agents in a circle of which each gives what the next one takes; or else the first part in which no
-//! node splits, and a circle in it.
+//! Rules and nets that no steps build: a directed circle of agents; or else the first part that no node splits, and a circle in it.
 use crate::circles::{Circle, Field, Port, Wires};
 use crate::directed::{Flow, agent_symbol};
 use crate::remedies::{MOST_TRIED, Refused, Remedy, add_help, add_help_for_value, add_remedy};
@@ -259,7 +258,7 @@ fn remedies_for<'a>(
     Ok(remedies)
 }
 
-/// What helps against a circle through a node.
+/// Adds help against a circle through a node.
 fn add_help_for(report: &mut Report, field: Field, node: u32, circle: &Circle, refused: Refused) {
     match remedies_for(report.alloc, field, node, circle) {
         Ok(remedies) => add_help(report, remedies.as_slice(), refused),

@@ -48,8 +48,8 @@ fn stuck_in(evidence: Option<&Evidence>) -> Option<&StuckPart> {
     }
 }
 
-/// A wire that doesn't fit, or what no steps build, with what was at hand when it was refused.
-// Apart from `add_fault`: where a function with a contract takes an open net, what contracts see of it takes 18 seconds to check.
+/// Adds a wire that doesn't fit, or a stuck rule or net, with the evidence of the refusal.
+// Apart from `add_fault`: if a function with a contract takes an open net, its view takes 18 seconds to check.
 fn add_shape_fault(
     report: &mut Report,
     source: &Source,

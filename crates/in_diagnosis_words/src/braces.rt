@@ -184,7 +184,7 @@ impl Change<'_> {
     }
 }
 
-/// What a symbol is declared as with these braces, without the word `symbol` and the `;`.
+/// The declaration of a symbol with these braces, without the word `symbol` and the `;`.
 pub fn declaration_with(
     alloc: Global,
     symbol: &SourceSymbol,

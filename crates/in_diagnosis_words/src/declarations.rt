@@ -1,4 +1,4 @@
-//! What a program declares.
+//! The declarations of a program.
 use in_syntax::{Name, Place, Source, SourceClass, SourceFree, SourcePort, SourceSymbol};
 
 /// A declaration of a name: a type, a symbol or a free end.

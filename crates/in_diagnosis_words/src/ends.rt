@@ -11,7 +11,7 @@ use in_syntax::{Place, Source, SourcePort, SourceSymbol};
 enum Owner<'a> {
     /// An agent of this symbol, with the port of this number.
     Agent(&'a SourceSymbol, usize),
-    /// A head of a rule, of which the port of this number is replaced.
+    /// A head of a rule, and the number of its port at this end.
     Head(&'a SourceSymbol, usize),
     /// The free end of this name.
     Free(&'a str),
@@ -128,7 +128,7 @@ fn outputs(symbol: &SourceSymbol, kind: &str) -> usize {
     count
 }
 
-/// What agents of a symbol give of this type.
+/// The outputs of this type that agents of a symbol have.
 fn giving_of<'a>(symbol: &'a SourceSymbol, kind: &'a str) -> Giving<'a> {
     Giving {
         symbol,
@@ -263,7 +263,7 @@ fn help_with_giving(report: &mut Report, sentence: &str, giving: Giving) {
     report.help_with(sentence, &slots);
 }
 
-/// What helps where a term is taken for what its agent gives.
+/// Adds help if a term is taken for its agent's result.
 fn help_with_result(report: &mut Report, giving: Giving) {
     let symbol = giving.symbol;
     let slots = [
@@ -274,7 +274,7 @@ fn help_with_result(report: &mut Report, giving: Giving) {
     help_with_giving(report, sentences::TERM_GIVES, giving);
 }
 
-/// What helps where a free end has the wrong sign: its declaration with the other one.
+/// Adds help if a free end has the wrong sign: its declaration with the other one.
 fn help_with_free_end<'e>(
     report: &mut Report,
     sentence: &str,
@@ -315,7 +315,7 @@ fn port_of<'a>(one: &ToldEnd<'a>, other: &ToldEnd<'a>) -> Option<Giving<'a>> {
     }
 }
 
-/// What helps besides where an auxiliary output of an agent, joined to no principal port, was taken for an auxiliary input.
+/// Adds further help if an auxiliary output of an agent, joined to no principal port, was taken for an auxiliary input.
 fn add_input(report: &mut Report, one: &ToldEnd, other: &ToldEnd) {
     if has_principal(one, other) {
         return;
@@ -346,8 +346,8 @@ fn add_other_port(report: &mut Report, one: &ToldEnd, other: &ToldEnd) -> bool {
     true
 }
 
-/// What helps where both ends are outputs of one type, or both inputs: a port of an agent may have been taken for another one, or a free end
-/// may have the wrong sign. Says whether anything does.
+/// Adds help if both ends are outputs of one type, or both inputs: a port of an agent may have been taken for another one, or a free end may have
+/// the wrong sign. Returns whether it added any.
 fn add_turned(report: &mut Report, one: &ToldEnd, other: &ToldEnd) -> bool {
     match (free_end_of(one, other), result_of(one, other)) {
         (Some((name, port)), _) => {

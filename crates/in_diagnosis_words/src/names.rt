@@ -74,7 +74,7 @@ pub(crate) fn add_unknown_symbol(report: &mut Report, source: &Source, place: Pl
     report.help(sentences::NAMES_BEFORE_BRACKETS);
 }
 
-/// What helps where a symbol has that many auxiliary ports.
+/// Help for a symbol with that many auxiliary ports.
 fn arity_help(ports: usize) -> &'static str {
     if ports == 0 {
         sentences::WITHOUT_BRACKETS
@@ -209,7 +209,7 @@ fn add_earlier(report: &mut Report, places: &[Place], place: Place) {
     }
 }
 
-/// What helps with a variable of this name: this, but for the name that means nothing in other languages.
+/// Help for a variable of this name: this, except for the name that means nothing in other languages.
 fn variable_help(name: &str, help: &'static str) -> &'static str {
     if name == "_" {
         sentences::ERASE_NO_WILDCARD

@@ -172,7 +172,7 @@ impl<'a> Report<'a> {
         Ok(())
     }
 
-    /// Adds these changes of the text to the last part: what it tells, as data. Whether the program is accepted with all of them.
+    /// Adds these changes of the text to the last part, as data, and whether the program is accepted with all of them.
     pub fn change_by(&mut self, edits: Vec<Edit>, accepted: bool) {
         for edit in edits {
             let done = self.push_change(edit, accepted);

@@ -7,7 +7,7 @@ use crate::reports::Report;
 use in_syntax::{NameUse, Place, Source};
 use std::alloc::{AllocError, Global};
 
-/// How many of them are looked at.
+/// At most this many of them are read.
 const MOST_LOOKED_AT: usize = 64;
 
 /// How many of them are written.

@@ -41,7 +41,7 @@ fn add_in_many<R: Threads + Wait>(
     }
 }
 
-/// What the words ask: `gather` or `workers`.
+/// Answers the words `gather` or `workers`.
 pub fn add_over_arena<R: Threads + Wait>(
     rt: &R,
     sheet: &mut Sheet,

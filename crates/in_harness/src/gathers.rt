@@ -170,8 +170,8 @@ fn add_free(sheet: &mut Sheet, arena: &Arena) {
     sheet.fill("#\n", &[arena.free_count(CellClass::Small) as u64]);
 }
 
-/// What a row of puts and takes answers, over a list of two jobs; how many small cells are free before, once the stock is spent, and once the gather
-/// is.
+/// The results of a row of puts and takes, over a list of two jobs; how many small cells are free before, once the stock is spent, and once the
+/// gather is.
 pub fn add_gather(
     sheet: &mut Sheet,
     program: &Checked,

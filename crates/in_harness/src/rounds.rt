@@ -7,7 +7,7 @@ use std::alloc::{AllocError, Global};
 use std::sync::Wait;
 use std::thread::Threads;
 
-/// The interactions of the first pairs in turn, at most `most`, while what the first one needs is free. Says how many they were.
+/// The interactions of the first pairs in turn, at most `most`, while the cells that the first one needs are free. Returns how many there were.
 pub fn turns(machine: &mut Machine, most: u64) -> u64 {
     for turn in 0..most {
         if machine.pairs() == 0 || !machine.has_room(0) {
@@ -91,7 +91,7 @@ fn add_one_of_rounds<R: Threads + Wait>(
     add_view(sheet, machine);
 }
 
-/// As many rounds in a row as the words say, with the workers and the budget that they say, and what the machine shows after each.
+/// As many rounds in a row as the words say, with the workers and the budget that they say, and the view of the machine after each.
 pub fn add_rounds<R: Threads + Wait>(
     rt: &R,
     sheet: &mut Sheet,
@@ -103,7 +103,7 @@ pub fn add_rounds<R: Threads + Wait>(
     }
 }
 
-/// Interactions in turn, as many as each of the words says, and what the machine shows after these.
+/// Interactions in turn, as many as each of the words says, and the view of the machine after these.
 pub fn add_steps(sheet: &mut Sheet, machine: &mut Machine, words: &[String]) {
     for at in 3..words.len() {
         let done = turns(machine, number(words, at));

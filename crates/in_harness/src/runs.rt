@@ -42,7 +42,7 @@ fn add_no_run(sheet: &mut Sheet, fault: &RunFault) {
     }
 }
 
-/// What came of a run that is refused. Memory runs out before a run alone: within one it lets phases have fewer parts.
+/// The result of a refused run. Memory runs out before a run alone: within one it lets phases have fewer parts.
 fn came_of_fault(fault: &RunFault) -> Came {
     match fault {
         RunFault::Start(StartFault::Memory(_)) => Came::Memory,

@@ -38,7 +38,7 @@ fn add_free(sheet: &mut Sheet, machine: &Machine, number: u32) {
     }
 }
 
-/// What a machine shows: agents and free cells, pairs, free ends, a line each.
+/// Adds the view of a machine: agents and free cells, pairs, free ends, a line each.
 pub fn add_machine(sheet: &mut Sheet, machine: &Machine) {
     let numbers = [
         machine.agents() as u64,
@@ -78,7 +78,7 @@ pub fn add_view(sheet: &mut Sheet, machine: &Machine) {
     add_machine(sheet, machine);
 }
 
-/// What came of writing a machine's net.
+/// Adds the result of writing a machine's net.
 fn add_came(sheet: &mut Sheet, came: Result<u64, PrintFault>) {
     match came {
         Ok(bytes) => sheet.fill("# bytes: ", &[bytes]),

@@ -50,7 +50,7 @@ fn add_checked(sheet: &mut Sheet, words: &[String], text: &[u8]) {
     }
 }
 
-/// What the words ask of a text.
+/// Answers the words on a text.
 pub fn add_answer(sheet: &mut Sheet, words: &[String], text: &[u8]) {
     match word(words, 1) {
         "tokens" => add_tokens(sheet, text),

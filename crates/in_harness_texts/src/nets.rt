@@ -1,4 +1,4 @@
-//! Tables, rules and nets as they are read, before types are looked at.
+//! Tables, rules and nets after reading, before types are checked.
 ghost use Rattle.std.specs.Prelude.{◌≡◌, ◌<◌, ◌≤◌, length, IfOk, IsTrue};
 ghost use Rattle.in_symbols.specs.Tables.{IsSymbol};
 ghost use Rattle.in_net.specs.Built.{IsOver};
@@ -24,7 +24,7 @@ fn add_port(sheet: &mut Sheet, port: PortType, class: u8) {
     sheet.fill(form, &[port.kind as u64, class as u64]);
 }
 
-/// What follows the name of a symbol: its place, how many ports and classes it has, and each port's type, sign and class.
+/// Adds the parts of a symbol after its name: its place, how many ports and classes it has, and each port's type, sign and class.
 fn add_ports(sheet: &mut Sheet, symbols: &Symbols, symbol: SymbolNo)
     requires { IsSymbol symbols.now symbol.0 }
 {

@@ -1,4 +1,4 @@
-//! What the program's words are, of which the first is its name.
+//! The program's words. The first is its name.
 
 /// The word at this index; empty if there is none.
 pub fn word(words: &[String], at: usize) -> &str {

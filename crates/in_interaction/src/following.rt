@@ -84,7 +84,7 @@ impl<'a> Site<'a> {
                 },
             }
         }
-        // The path lands within that many turns: it is asked for.
+        // The path lands within that many turns, by a requirement.
         unreachable!()
     }
 

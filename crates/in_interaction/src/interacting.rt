@@ -189,7 +189,7 @@ pub(crate) fn arity(net: &Net, agent: AgentNo) -> u32
 {
     match &net.cells()[agent.0 as usize] {
         Some(cell) => cell.ends.len() as u32 - 1,
-        // The agent is there: it is asked for.
+        // The agent is there, by a requirement.
         None => unreachable!(),
     }
 }

@@ -28,7 +28,7 @@ pub fn pairs_are_apart()
     ensures { PairsAreApart }
 {}
 
-/// What `interact` does is an interaction under the least numbers that the net doesn't have.
+/// `interact` does an interaction under the least numbers that the net doesn't have.
 pub fn least_numbers_are_names()
     ensures { LeastNumbersAreNames }
 {}

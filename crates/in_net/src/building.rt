@@ -171,7 +171,7 @@ fn places(alloc: Global, agents: &[Agent]) -> Result<Items<Place>, AllocError>
     Ok(places)
 }
 
-/// The net of what was read and joined, with these free ends.
+/// The net of a reading with its links and these free ends.
 pub(crate) fn assemble(
     alloc: Global,
     symbols: &Symbols,

@@ -8,8 +8,7 @@ use in_syntax::Place;
 use sqlite_items::Items;
 use std::alloc::{AllocError, Global};
 
-/// What a spot is joined to: the number of the other spot, its own where it is joined to none, and the last place on the way
-/// there.
+/// The link of a spot: the number of its partner, its own number if it has none, and the last place on the way there.
 #[derive(Clone, Copy)]
 pub(crate) struct Link {
     pub(crate) to: usize,
@@ -153,7 +152,7 @@ fn join_names(joining: &mut Joining, spots: &[Spot])
     }
 }
 
-/// What all spots of a text are joined to, and the place of its first closed wire, if there is one.
+/// The partners of all spots of a text, and the place of its first closed wire, if there is one.
 #[derive(Drop)]
 pub(crate) struct Joined {
     pub(crate) links: Items<Link>,

@@ -28,7 +28,7 @@ fn symbol_of(symbols: &Symbols, head: &Head) -> SymbolNo
 {
     match symbols.number_of(head.name.text.as_str()) {
         Some(symbol) => symbol,
-        // The name of the head is known: it is asked for.
+        // The name of the head is known, by a requirement.
         None => unreachable!(),
     }
 }

@@ -50,7 +50,7 @@ pub fn union_is_one()
     ensures { UnionIsOne }
 {}
 
-/// What `NodeSet::without` leaves is one set.
+/// `NodeSet::without` has one set as its result.
 pub fn rest_is_one()
     ensures { RestIsOne }
 {}

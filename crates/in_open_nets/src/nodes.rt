@@ -207,7 +207,7 @@ impl NodeSet {
         requires found { AreReachedNodes tests.now found.items }
         ensures { IfOk result (λ set. set ≡ tests.now) }
     {
-        // Mostly what a node is taken out of is of one component. All of these are gone over only for a good part of them.
+        // Mostly a node is taken out of one component. All nodes are visited only for a good part of them.
         if tests.absent() <= self.absent() {
             self.list.copy(alloc)
         } else if found.len() < self.count() / 16 {

@@ -33,7 +33,7 @@ pub struct OpenNode {
     pub class_of: Items<u8>,
 }
 
-/// A net of which it can be asked how it is built up: its nodes in the order of their places, its wires, and its free ends.
+/// A net for the question how it is built up: its nodes in the order of their places, its wires, and its free ends.
 #[derive(Drop)]
 pub struct OpenNet {
     pub(crate) nodes: Items<OpenNode>,

@@ -16,7 +16,7 @@ use std::alloc::{AllocError, Global};
 /// The most nodes of a cycle on either side of where a search met.
 const MOST_STEPS: usize = 64;
 
-/// How many ports are looked at for each node of a part, before all of its nodes are decided at once.
+/// How many ports are visited for each node of a part, before all of its nodes are decided at once.
 const PORTS_FOR_A_NODE: usize = 32;
 
 /// A node that a search reached, by a class of the candidate: from which one before it, if not from that node itself, by which
@@ -107,7 +107,7 @@ impl Search {
         })
     }
 
-    /// Whether that many ports may still be looked at; then they count as looked at.
+    /// Whether that many ports may still be visited; then they count as visited.
     fn spend(&mut self, ports: usize) -> bool {
         if ports > self.budget {
             return false;
@@ -130,7 +130,7 @@ impl Search {
     }
 
     /// Whether the wire at a port of the node `at`, reached by a class, leads out of the part, or to a node that is reached by that class
-    /// already. It is asked first, since mostly it is so.
+    /// already. It is tested first, since it mostly holds.
     fn is_old(&self, candidate: &Candidate, at: usize, port: usize, class: usize) -> bool
         requires at { at < length candidate.now.part.wired.now.nodes }
         requires port { port < ports_of candidate.now.part.wired.now at }
@@ -297,7 +297,7 @@ impl<'a> Trials<'a> {
         })
     }
 
-    /// As many ports may be looked at as the size of the part allows.
+    /// As many ports may be visited as the size of the part allows.
     pub(crate) fn begin(&mut self, part: &NodeSet)
         ensures { self.new.cycles ≡ self.old.cycles }
     {

@@ -72,7 +72,7 @@ pub(crate) fn cut_off(reducer: &mut Reducer, branch: &Branch) -> u32
     cuts
 }
 
-/// Joins the ends of `cuts` cuts again, the last one first: what was before the cuts is reduced to that by as many interactions as were done
+/// Joins the ends of `cuts` cuts again, the last one first: the net before the cuts is reduced to the result by as many interactions as were done
 /// since.
 pub(crate) fn join_up(reducer: &mut Reducer, cuts: u32)
     requires cut { (m : MachineParts) × (cut : MachineParts) × (k : ℕ) × IsReducer m × IsCutTimes m cuts cut × ReducesTo cut k reducer.old }

@@ -76,8 +76,8 @@ fn split<'a>(
     })
 }
 
-/// Glues a part on again, and joins the ends of the cuts: what was there before it was taken out is reduced to that by as many interactions as
-/// the part and the rest did together.
+/// Glues a part on again, and joins the ends of the cuts: the net before it was taken out is reduced to the result by as many interactions as the
+/// part and the rest did together.
 pub(crate) fn bring_back(reducer: &mut Reducer, taken: Taken, names: &mut [CellNo])
     requires names { length classes * taken.cells ≤ length names.old }
     requires back { (m : MachineParts) × (k : ℕ) × CanComeBack m k taken reducer.old }

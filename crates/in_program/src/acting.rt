@@ -251,7 +251,7 @@ fn tell_reply<T: Threads, W: TextOut, H: Watch>(
 }
 
 /// Reads a program's text, writes the lines of `check` on it, or those of `derive`, and returns the status. For `check` of an accepted
-/// program they are one line that counts what it has, for `derive` the steps that build its rules and its net; of a refused one they
+/// program they are one line with its counts, for `derive` the steps that build its rules and its net; of a refused one they
 /// are the line of the refusal. Where memory runs out they are the line `memory` alone. It makes at most 1,048,577 reads, and at most one
 /// more than it is given bytes. It waits for nobody.
 pub fn report<R: TextIn, W: TextOut>(

@@ -1,4 +1,4 @@
-// What a reducer shows.
+// The view of a reducer.
 ghost use Rattle.std.specs.Prelude.{◌≡◌, ◌<◌, ◌≤◌, length, count_by, is_some, Some, IsSome, slice_get, option_map};
 ghost use Rattle.in_symbols.specs.Tables.{arity_of};
 ghost use Rattle.in_net.specs.Parts.{IsPointOf, symbol_in, partner_in, free_name_in};
@@ -88,7 +88,7 @@ impl<'a> Reducer<'a> {
         agents
     }
 
-    /// What a place of an agent leads to, the principal port being place 0, or what a free end leads to.
+    /// The partner of a place of an agent, of which 0 is the principal port, or of a free end.
     pub fn partner(&self, end: End) -> End
         requires { IsPointOf (parts_of self.now) (point_at end) }
         ensures { partner_in (parts_of self.now) (point_at end) ≡ Some (point_at result) }

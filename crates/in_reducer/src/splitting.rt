@@ -30,7 +30,7 @@ use in_compile::Templates;
 use std::alloc::{AllocError, Global};
 use std::collections::VecDeque;
 
-/// The numbers that free ends of the whole get in the rest or in the part, and lists for the free ends there and for what they lead to.
+/// The numbers that free ends of the whole get in the rest or in the part, and lists for the free ends there and for their other ends.
 #[derive(Drop)]
 struct EndLists {
     numbers: Vec<u32>,
@@ -51,7 +51,7 @@ struct PartRoom {
     fresh: Fresh,
 }
 
-/// The free ends of the whole, and what they lead to.
+/// The free ends of the whole, and their other ends.
 #[derive(Clone, Copy)]
 struct Whole<'b> {
     cuts: Cuts,

@@ -115,7 +115,7 @@ impl<'a> Reducer<'a> {
         self.template(templates, number).need()
     }
 
-    /// Whether what the pair of that number needs is free, so that `step` may do its interaction. The templates are those of the program.
+    /// Whether the cells that the pair of that number needs are free, so that `step` may do its interaction. The templates are those of the program.
     pub fn has_room(&self, templates: &Templates, number: u32) -> bool
         requires templates { AreTemplatesOf self.now.program templates.now }
         requires pair { number < length self.now.queue }

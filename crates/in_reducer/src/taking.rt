@@ -107,8 +107,8 @@ impl<'a> Reducer<'a> {
         true
     }
 
-    /// Interactions of the first pair of the queue, one after another, at most `most`, first in, first out. Fewer only where no pair is left, or
-    /// what the first one needs isn't free. Returns how many they were. They are those of a reducer that is this one up to the numbers of
+    /// Interactions of the first pair of the queue, one after another, at most `most`, first in, first out. Fewer only if no pair is left, or the
+    /// cells that the first one needs aren't free. Returns how many there were. They are those of a reducer that is this one up to the numbers of
     /// agents: a new agent may have the number of one that is gone. The templates are those of the program. It takes no memory.
     pub fn take_first(&mut self, templates: &Templates, most: u64) -> u64
         requires { AreTemplatesOf self.old.program templates.now }
@@ -157,9 +157,9 @@ impl<'a> Reducer<'a> {
         true
     }
 
-    /// Interactions of the last pair of the queue, one after another, at most `most`, the newest pair first: what was made last is still in the
-    /// cache, and a net that is reduced from there stays small. Fewer only where no pair is left, or what the last one needs isn't free with
-    /// `floor` cells of each class besides. Returns how many they were. The templates are those of the program. It takes no memory.
+    /// Interactions of the last pair of the queue, one after another, at most `most`, the newest pair first: the newest agents are still in the
+    /// cache, and a net that is reduced from there stays small. Fewer only if no pair is left, or the cells that the last one needs aren't free with
+    /// `floor` cells of each class besides. Returns how many there were. The templates are those of the program. It takes no memory.
     pub fn take_newest(&mut self, templates: &Templates, floor: u32, most: u64) -> u64
         requires { AreTemplatesOf self.old.program templates.now }
         ensures reduces { ReducesTo self.old result self.new }

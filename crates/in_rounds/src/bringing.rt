@@ -1,4 +1,4 @@
-// What the owner of a round does once all hands are back.
+// The owner's work once all hands are back.
 ghost use Rattle.std.specs.Prelude.{◌≡◌, ◌++◌};
 ghost use Rattle.in_rounds.specs.Gathers.{bags_of};
 ghost use Rattle.in_rounds.specs.Holding.{AreBagsOf, Returns};

@@ -1,4 +1,4 @@
-// Where what was done is kept, by the numbers of the jobs.
+// The results, kept by the numbers of their jobs.
 ghost use Rattle.std.specs.Prelude.{◌≡◌, ◌⊎◌, ◌<◌, true, false, [], IfOk, replicate, length, Some, slice_get};
 ghost use Rattle.in_rounds.specs.declared.gather.Slot.TheVariants.{Fresh, Kept, Taken};
 ghost use Rattle.in_rounds.specs.Dones.{DoneParts};
@@ -19,7 +19,7 @@ pub enum Why {
     Stranger,
 }
 
-/// What became of a job: nothing was put for it yet; what was put is kept; or it was put and taken.
+/// The state of a job: no result was put yet; the result is kept; or it was put and taken.
 #[derive(Drop)]
 pub(crate) enum Slot<'t> {
     Fresh,
@@ -145,7 +145,7 @@ impl<'t> Gather<'t> {
         if let Slot::Kept(_) = &self.slots[index] {
             match mem::replace(&mut self.slots[index], Slot::Taken) {
                 Slot::Kept(done) => Some(done),
-                // The slot was looked at just now, and it keeps one.
+                // The slot was tested just now, and it keeps one.
                 _ => unreachable!(),
             }
         } else {

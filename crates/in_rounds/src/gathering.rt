@@ -62,7 +62,7 @@ fn place_jobs<'t, R: Threads + Wait, G: Gate + Sync>(
 }
 
 /// Lets `workers` workers, 1 to 64, of which the caller is one, claim the plan's jobs and place their templates in cells of the arena, each
-/// with its share of the free ones; and gathers what they did. Says how many threads were started. Each worker claims while its stock holds
+/// with its share of the free ones; and gathers the results. Returns how many threads were started. Each worker claims while its stock holds
 /// the most that a job can need, and passes the gate after each claim. What isn't used is free again.
 ///
 /// All memory but what starting a thread takes is taken before the first cell is lent: refused only when out of memory, and then the arena

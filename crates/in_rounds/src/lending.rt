@@ -1,4 +1,4 @@
-// What the workers of a round have before it begins.
+// The hands of the workers before a round begins.
 ghost use Rattle.std.specs.Prelude.{◌≡◌, ◌≤◌, ◌<◌, ◌++◌, ◌+◌, [], replicate, length, All, IfOk, vec_len, vec_capacity};
 ghost use Rattle.in_arena.specs.Arenas.{NoneLeased, free_of};
 ghost use Rattle.in_claims.specs.Seats.{fresh};

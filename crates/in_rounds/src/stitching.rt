@@ -1,4 +1,4 @@
-// The owner's part of a round: what the workers did is stitched in, one interaction at a time.
+// The owner's part of a round: the workers' results are stitched in, one interaction at a time.
 ghost use Rattle.std.specs.Prelude.{◌≡◌, ◌≤◌, ◌<◌, ◌+◌, true, length};
 ghost use Rattle.in_arena.specs.Bags.{IsBagOf};
 ghost use Rattle.in_compile.specs.Templates.{AreTemplatesOf};
@@ -39,8 +39,8 @@ fn put_back(body: &mut Body, done: Done)
     done.spend(&mut body.arena);
 }
 
-/// Stitches in what was gathered for the jobs in turn, from the first one on, each at the first pair of the queue; and ends at the first
-/// job for which nothing is there. Says for how many something was.
+/// Stitches in the results of the jobs in turn, from the first one on, each at the first pair of the queue, and ends at the first job without a
+/// result. Returns how many jobs had one.
 pub(crate) fn stitch_all<'t>(
     body: &mut Body,
     templates: &Templates,

@@ -1,4 +1,4 @@
-// What follows of a row's layout, of parting it, and of its free cells.
+// Laws on a row's layout, on parting it, and on its free cells.
 ghost use Rattle.in_row.specs.Ends.{EndsHaveWords, WordsAreApart, PrincipalPortsAreTold};
 ghost use Rattle.in_row.specs.Parts.{PartsShowTheirOwn, GluedShowsBoth, WritesStayWithin};
 ghost use Rattle.in_row.specs.Leasing.{FreeCellsStay};

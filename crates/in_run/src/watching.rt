@@ -1,4 +1,4 @@
-// Who sees how far a run is.
+// Watchers of a run.
 use in_machine::Need;
 
 /// How far a run is.

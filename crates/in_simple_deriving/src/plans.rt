@@ -31,7 +31,7 @@ pub(crate) enum Joint {
     Mix,
 }
 
-/// What remains to be done: a part that is to be derived, or a step.
+/// A task: a part to derive, or a step.
 #[derive(Drop)]
 pub(crate) enum Task {
     Derive(NodeList),
@@ -128,7 +128,7 @@ impl Opened {
     }
 }
 
-/// The tasks of a part of which one node is taken out, the nodes that are left, and those that the tasks derive.
+/// The tasks of a part without one node, the nodes that are left, and those that the tasks derive.
 struct Plan {
     tasks: Items<Task>,
     rest: NodeSet,
@@ -166,7 +166,7 @@ impl Plan {
         (tasks, Room { tests, done })
     }
 
-    /// What becomes of a node.
+    /// The fate of a node.
     fn fate(&self, near: u32) -> Fate
         ensures { HasFate self.now near result }
     {
@@ -179,7 +179,7 @@ impl Plan {
         }
     }
 
-    /// What becomes of the node at a point.
+    /// The fate of the node at a point.
     fn fate_at(&self, point: OpenPoint) -> Fate
         ensures { HasFateAt self.now point result }
     {

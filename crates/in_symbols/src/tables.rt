@@ -20,7 +20,7 @@ pub(crate) fn port_type(types: &Names, port: &SourcePort) -> PortType
             kind: kind as u32,
             output: port.output,
         },
-        // The type of the port is declared: it is asked for.
+        // The type of the port is declared, by a requirement.
         None => unreachable!(),
     }
 }

@@ -4,7 +4,7 @@ ghost use Rattle.in_syntax.specs.Steps as steps;
 
 use crate::states::{HeadOf, Nest, State, TermOf};
 
-/// What a term is a part of.
+/// The part of a program that a term belongs to.
 #[derive(Clone, Copy, Debug, PartialEq, Eq)]
 pub enum PartOf {
     /// The left side of an equation.
@@ -17,7 +17,7 @@ pub enum PartOf {
     Agent,
 }
 
-/// What a program can go on with at some place.
+/// The tokens with which a program can continue at some place.
 #[derive(Clone, Copy, Debug, PartialEq, Eq)]
 pub enum Expected {
     /// An item or the net.
@@ -86,7 +86,7 @@ fn part_of(nest: &Nest) -> PartOf
     }
 }
 
-/// What a program can go on with in this state.
+/// The tokens with which a program can continue in this state.
 pub fn expected_in(state: &State) -> Expected
     ensures { result ≡ steps.expected_in state.now }
 {

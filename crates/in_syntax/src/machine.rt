@@ -41,7 +41,7 @@ pub const MAX_PORTS: usize = 16;
 /// The greatest depth of a term.
 pub const MAX_DEPTH: usize = 200;
 
-/// What a token leads to.
+/// The event after a token.
 #[derive(Drop)]
 pub enum Event {
     /// The next token is read in the state that was written.
@@ -74,7 +74,8 @@ fn goes(state: &mut State, next: State) -> Event
     Event::Goes
 }
 
-/// What this sign leads to from this state, and writes the state that it leads to, where that much is declared before the item. Its only error is running out of memory.
+/// The event after this sign in this state, with these numbers of declarations before the item. It also writes the next state. Its only error is
+/// running out of memory.
 pub fn step(
     state: &mut State,
     alloc: Global,

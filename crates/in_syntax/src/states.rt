@@ -27,7 +27,7 @@ pub enum HeadOf {
     Second(Boxed<Head>),
 }
 
-/// What equations are written for, with those so far.
+/// The item that equations belong to, with those so far.
 #[derive(Drop)]
 pub enum Body {
     /// The net.
@@ -36,7 +36,7 @@ pub enum Body {
     Rule(Boxed<SourceRule>, Place),
 }
 
-/// What a term is written for.
+/// The item that a term belongs to.
 #[derive(Drop)]
 pub enum TermOf {
     /// The left side of an equation, after those so far.

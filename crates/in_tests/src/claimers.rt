@@ -49,7 +49,7 @@ pub struct Claimer<'a> {
     ghost not_done: { seat.done ≡ false },
 }
 
-// What a thread gives back: its seat, and the numbers that it claimed, or nothing where memory ran out.
+// The result of a thread: its seat, and the numbers that it claimed, or `None` if memory ran out.
 #[derive(Drop)]
 pub struct Returned {
     pub seat: Seat,

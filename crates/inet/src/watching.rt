@@ -29,7 +29,7 @@ pub struct Watching<'a, T, E> {
     shown: Option<Instant>,
     stopped: Option<Instant>,
     is_shown: bool,
-    /// What was seen, with the most cells in use that were.
+    /// The progress seen, with the most cells that were in use.
     seen: Option<Progress>,
 }
 

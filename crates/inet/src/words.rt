@@ -82,7 +82,7 @@ fn add_coloured(
     words.push_str(line.get(end..).unwrap_or(""))
 }
 
-/// The words in colours: what kind of line it is, and the marks below excerpts.
+/// The coloured words: the kind of a line, and the marks below excerpts.
 pub fn in_colours(alloc: Global, words: &str) -> Result<String, AllocError> {
     let mut told = String::new(alloc);
     let mut mark = Colour::Red;
@@ -143,7 +143,7 @@ fn limits_in(action: &Action) -> Option<Limits> {
     }
 }
 
-/// What helps where a run has stopped with this status.
+/// Help after a run that stopped with this status.
 fn help(alloc: Global, status: Status, limits: Limits) -> Result<Option<String>, AllocError> {
     match status {
         Status(3) if limits.limit() == MOST_INTERACTIONS => Ok(Some(format!(in alloc;

@@ -44,7 +44,7 @@ Options:
   -V, --version  Print version
 ";
 
-/// What the program is asked to do.
+/// The request of the program's words.
 #[derive(Drop)]
 enum Request {
     /// Writes the line of the program in this file, or on standard input.
