@@ -5,7 +5,7 @@ use Rattle.std.proofs.lemmas.Bool.{cases_lt}
 use Rattle.in_arena.specs.Arenas.{ArenaView, LeaseView, state_at, changed, IsOf}
 use Rattle.in_arena.specs.States.{State, Vacant, Leased, Live, IsLeased, IsLive, places, word_of}
 
--- a cell that isn't leased is none past the last one
+-- a cell that isn't leased is not past the last one
 pub state_inside : (a : ArenaView) (n : ℕ) → (state_at a n ≡ Leased → ⊥) → n < length a.states
 state_inside a n here = ⊎_elim (λ lt. lt) (λ past. absurd (here (get_or_past a.states n Leased past))) (cases_lt n (length a.states))
 

@@ -110,7 +110,7 @@ pub record Becomes {W : ℕ} (r s : Region W) (i : ℕ) (x : State) : Type 0 whe
   pub memory : (s.cells.at ≡ r.cells.at) × (s.size ≡ r.size)
   pub states : states s ≡ slice_set (states r) i x
 
--- the regions are of one memory, and each cell is what it was
+-- the regions are of one memory, and each cell is as before
 pub record IsSame {W : ℕ} (r s : Region W) : Type 0 where
   pub region : IsRegion s
   pub memory : (s.cells.at ≡ r.cells.at) × (s.size ≡ r.size)

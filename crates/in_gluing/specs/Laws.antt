@@ -11,7 +11,7 @@ FramesStep = (sig : Signature) (parts after : ℕ → Net ℕ) (name : ℕ → �
     AreAllApart name → IsGlued parts name cuts whole → IsStep sig (parts i) x new (after i) → AreOthers i parts after → IsGlued after name cuts whole_after →
     IsStep sig whole (placed_pair name i x) (λ k. name i (new k)) whole_after
 
--- .. and what it makes of the whole is glued from the parts after it
+-- .. and the whole after it is glued from the parts after it
 abbrev pub FramesGlue : Type 0
 FramesGlue = (sig : Signature) (parts after : ℕ → Net ℕ) (name : ℕ → ℕ → ℕ) (cuts : Cuts) (i : ℕ) (x : Redex ℕ ℕ) (new : ℕ → ℕ) (whole whole_after : Net ℕ) →
     AreAllApart name → IsGlued parts name cuts whole → IsStep sig (parts i) x new (after i) → AreOthers i parts after →

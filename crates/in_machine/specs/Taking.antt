@@ -1,4 +1,4 @@
--- Interactions of the first pairs, one after another: where they end, and that this is one answer. This project's own choice.
+-- Interactions of the first pairs, one after another: where they end, and that this is one result. This project's own choice.
 use Rattle.std.specs.Prelude.{◌≡◌, ◌⊎◌, ◌<◌, ◌≤◌, ℕ, []}
 use Rattle.in_reducer.specs.Machines.{MachineParts}
 use Rattle.in_reducer.specs.Steps.{HasRoomAt}

@@ -41,9 +41,9 @@ pub record AreOneNet (n m : Parts) : Type 0 where
 abbrev pub TextNetsAreOne : Type 0
 TextNetsAreOne = (t : Tables) (text : SourceNet) (n m : Parts) → IsNetOf t text n → IsNetOf t text m → AreOneNet n m
 
--- ---- one answer
+-- ---- one result
 
--- all that building the net of a text's program may answer agrees: nets are equal, the numbers and places of their wires included
+-- all results that building the net of a text's program may have agree: nets are equal, with the numbers and places of their wires
 abbrev pub NetsAreBuiltOnce : Type 0
 NetsAreBuiltOnce = (s : Source) (t : Tables) → IsOfText s → Tabulates s (Ok t) → IsOne (Builds s t)
 

@@ -79,7 +79,7 @@ HasNoNetFault most t b = HasNone (IsNetFaultAt most t b)
 abbrev pub IsFirstNameFault : ℕ → Tables → Body → Code → Place → Type 0
 IsFirstNameFault most t b = IsFirstOf (IsNetFaultAt most t b)
 
--- of the faults of a net or a rule: the first one of agents and names; where there is none of these, the first closed wire
+-- of the faults of a net or a rule: the first one of agents and names; if there is none of these, the first closed wire
 pub data IsFirstNetFault (most : ℕ) (t : Tables) (b : Body) : Code → Place → Type 0 where
   of_names : (c : Code) (p : Place) → IsFirstNameFault most t b c p → IsFirstNetFault most t b c p
   of_wires : (p : Place) → HasNoNetFault most t b → IsClosedWireOf t b p → ((q : Place) → IsClosedWireOf t b q → p.from ≤ q.from) → IsFirstNetFault most t b E09 p

@@ -18,7 +18,7 @@ pub record Parts : Type 0 where
   pub places : List Place
   pub built : Bool
 
--- a net as it is built from a text
+-- a net as built from a text
 abbrev pub as_built : List (Option Cell) → List FreeEnd → List Wire → List Place → Parts
 as_built cells free wires places = record { cells = cells; free = free; wires = wires; places = places; built = true }
 

@@ -106,7 +106,7 @@ IsOccurrence (port_at p i) = ⊥
 IsOccurrence (free_end k) = ⊥
 IsOccurrence (occurrence p) = Unit {0}
 
--- a chain of joints, of either kind in turn, that goes on only through occurrences: the kind of its first joint, that of its
+-- a chain of joints, of either kind in turn, that continues only through occurrences: the kind of its first joint, that of its
 -- last one, its two ends, and the places of its placed joints
 pub data Chain (t : Tables) (b : Body) : Kind → Kind → Spot → Spot → List Place → Type 0 where
   one_placed : (x y : Spot) (p : Place) → PlacedJoint t b x y p → Chain t b placed placed x y (p ∷ [])
@@ -143,7 +143,7 @@ spot_at m (Free k) = free_end k
 
 -- ---- the agents in the order of the text
 
--- an agent as it is written: its symbol's number, and where its name stands
+-- an agent as written: its symbol's number, and the place of its name
 pub record Written : Type 0 where
   pub symbol : ℕ
   pub place : Place
@@ -156,7 +156,7 @@ written_by (Some s) place = record { symbol = s; place = place } ∷ []
 abbrev pub agents_of : Tables → Term → List Written
 agents_of t = fold-Term (List Written) (λ f. written_by (number_in f.name.text t.names) f.name.place ++ flat_map (λ a. a) f.args)
 
--- the agents of a body; the heads of a rule are none
+-- the agents of a body; the heads of a rule aren't agents
 abbrev pub agents_of_heads : Tables → List LeftHead → List Written
 agents_of_heads t = flat_map (λ h. flat_map (agents_of t) h.head.terms)
 

@@ -37,7 +37,7 @@ HasOneFirstStuck o = (t : ℕ → Bool) × IsFirstStuck o t × ((u : ℕ → Boo
 abbrev pub SplitsOrFirstStuck : Type 0
 SplitsOrFirstStuck = (o : OpenNet) → IsOpenNet o → (NetSplits o × HasNoFirstStuck o) ⊎ ((NetSplits o → ⊥) × HasOneFirstStuck o)
 
--- ---- one answer
+-- ---- one result
 
 -- a set of nodes is its members: with as many tests one set has them
 abbrev pub SetIsItsMembers : Type 0

@@ -17,7 +17,7 @@ use Rattle.in_gluing.specs.SideBySide.{StandBeside}
 abbrev pub Leads : System → ℕ → Net ℕ → Net ℕ → Type 0
 Leads p k n m = Reached (from_net p n) k m
 
--- a run goes on where one ended
+-- a run continues where another one ended
 abbrev pub LeadsGoOn : Type 0
 LeadsGoOn = (p : System) (j k : ℕ) (l n m : Net ℕ) → Leads p j l n → Leads p k n m → Leads p (j + k) l m
 

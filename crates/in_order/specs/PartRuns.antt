@@ -24,7 +24,7 @@ abbrev pub AreTypedAtCuts : Signature → (ℕ → Net ℕ) → Cuts → Type 0
 AreTypedAtCuts sig parts cuts = (i : ℕ) (p q : Point ℕ) (s t : PortType) →
     IsJointEndAt cuts i p → (parts i).partner p ≡ Some q → type_in sig (parts i) p ≡ Some s → type_in sig (parts i) q ≡ Some t → t ≡ opposite s
 
--- a run goes on where one ended, and leads from a net that is reached to one
+-- a run continues where another one ended, and leads from a reached net to a reached net
 abbrev pub RunsGoOn : Type 0
 RunsGoOn = (p : System) (j k : ℕ) (l n m : Net ℕ) → Run p j l n → Run p k n m → Run p (k + j) l m
 

@@ -1,4 +1,4 @@
--- What an interaction needs, and what it does. Lafont 1990: an interaction replaces an active pair by the right member of its rule, and nets
+-- The conditions and the result of an interaction. Lafont 1990: an interaction replaces an active pair by the right member of its rule, and nets
 -- are taken up to the names of their agents. Which pair comes first, and cells, are this project's own choice; which numbers new agents have
 -- is left open.
 use Rattle.std.specs.Prelude.{◌≡◌, ◌+◌, ℕ, List, ◌++◌, map, Some, slice_get, remove}

@@ -23,7 +23,7 @@ PuttingLosesNone = (g h : GatherParts) (d : DoneParts) (u : Unit {0}) → Puts g
 abbrev pub TakingLosesNone : Type 0
 TakingLosesNone = (g h : GatherParts) (job : ℕ) (d : DoneParts) → TakesDone g job (Some d) h → Shares (d.placed.placed.bag ∷ []) (bags_of h.slots) (bags_of g.slots)
 
--- ---- one answer
+-- ---- one result
 
 abbrev pub PutsAreOne : Type 0
 PutsAreOne = (g h i : GatherParts) (d : DoneParts) (r s : Result (Unit {0}) (DoneParts × Why)) → Puts g d r h → Puts g d s i → (r ≡ s) × (h ≡ i)

@@ -121,7 +121,7 @@ holds_part o net b = record {
 }
 
 module _ (o : OpenNet) where
-  -- what a step says of the ends at each point of a wire, and at the two points of a wire as it is listed
+  -- the ends at each point of a wire by a step, and at the two points of a listed wire
   abbrev pub AtPoints : (ℕ → OpenPoint → OpenPoint → ℕ → Type 0) → Part → Type 0
   AtPoints R x = (w : ℕ) (p q : OpenPoint) → IsWire o w p q → R w p q (x.ends q)
 

@@ -407,7 +407,7 @@ module _ (o : OpenNet) (net : IsOpenNet o) (n : ℕ) where
 
 -- ---- the Links of loose wires
 
--- what is still to come from a wire on comes to these tasks
+-- the rest, from a wire on, gives these tasks
 abbrev pub LinksCome : OpenNet → ℕ → Bool → List Task → List Task → Type 0
 LinksCome o b came ts all = ts ++ map Make (links_from o came b (length o.wires - b)) ≡ all
 

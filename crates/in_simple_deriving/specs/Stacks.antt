@@ -63,7 +63,7 @@ pub record IsStack (o : OpenNet) (steps : List Step) (roots : List ℕ) (shapes 
 
 -- ---- steps
 
--- the last of these, and what is left of them; 0 where there is none
+-- the last of these, and the others; 0 if there is none
 abbrev pub IsLastLeft : ℕ → List ℕ → List ℕ → Type 0
 IsLastLeft n old new = (old ≡ new ++ n ∷ []) ⊎ ((old ≡ []) × (new ≡ []))
 

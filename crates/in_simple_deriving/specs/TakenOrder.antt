@@ -46,7 +46,7 @@ pub data Manner : Type 0 where
   beside : Manner
   cut : Manner
 
--- at an agent's auxiliary ports a class begins or goes on; at its principal port and at a class node's ports there are cuts; components
+-- at an agent's auxiliary ports a class begins or continues; at its principal port and at a class node's ports there are cuts; components
 -- that the node doesn't touch are set beside
 abbrev pub manner : OpenNet → ℕ → ℕ → Manner
 manner o n k = elim (slice_get o.nodes n) [
@@ -124,6 +124,6 @@ abbrev pub steps_from : List Joint → List Step → List ℕ → List Step
 steps_from [] steps roots = steps
 steps_from (j ∷ js) steps roots = steps_from js (steps ++ step_of j (drop (length roots - count_of j) roots) ∷ []) (take (length roots - count_of j) roots ++ length steps ∷ [])
 
--- the steps that derive answers
+-- the steps that `derive` returns
 abbrev pub AreTaken : OpenNet → List Step → Type 0
 AreTaken o steps = (js : List Joint) × AreJointsOf o js × (steps ≡ steps_from js [] [])

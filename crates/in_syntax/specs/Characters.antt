@@ -18,7 +18,7 @@ is_blank c = c == 32 || c == 9 || c == 13 || c == line_feed
 abbrev pub begins_name : ℕ → Bool
 begins_name c = is_xid_start c || c == 95
 
--- a name goes on with such characters: XID_Continue
+-- a name continues with such characters: XID_Continue
 abbrev pub continues_name : ℕ → Bool
 continues_name c = is_xid_continue c
 

@@ -41,7 +41,7 @@ TokensStandInOrder = (text : List ℕ) (ts : List Token) → IsTokensOf text ts 
 abbrev pub OneAnswer : Type 0
 OneAnswer = (text : List ℕ) → (a : Result Source Refusal) × IsAnswer text a × ((b : Result Source Refusal) → IsAnswer text b → b ≡ a)
 
--- all that parsing may answer for a text agrees
+-- all results that parsing may have for a text agree
 abbrev pub TextsAreParsedOnce : Type 0
 TextsAreParsedOnce = (text : List ℕ) → IsOne (Parses text)
 

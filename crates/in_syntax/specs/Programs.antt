@@ -1,4 +1,4 @@
--- Which tokens are a program, and which is the first fault of those that are none.
+-- Which tokens are a program, and the first fault of those that aren't.
 use Rattle.std.specs.Prelude.{◌≡◌, ℕ, ◌≤◌, List, [], ◌∷◌, ◌++◌, length, map, take, drop, slice_range, None, true, Result, Ok, Err}
 use Rattle.std.specs.Str.{IsUtf8}
 use Rattle.in_syntax.specs.declared.places.Place.{Place}
@@ -78,7 +78,7 @@ abbrev pub BeginsPast : List Sign → Sign → Type 0
 BeginsPast front s = (p : GrammarProgram) × (more : List Marked) × (spelling p ≡ unmarked front ++ marked true s ∷ more)
 
 -- the first fault is this one, between the signs before it and those from it on: some program begins with the former, and passes no
--- limit there; E02 where none goes on with the next sign, or none ends here, E03 where one does, and its sign passes a limit
+-- limit there; E02 if none continues with the next sign, or none ends here, E03 if one does, and its sign passes a limit
 abbrev pub IsFault : Code → List Sign → List Sign → Type 0
 IsFault E02 front [] = BeginsWithin front × ¬ IsProgram front
 IsFault E02 front (s ∷ rest) = BeginsWithin front × ¬ Begins (front ++ s ∷ [])

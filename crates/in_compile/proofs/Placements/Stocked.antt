@@ -24,7 +24,7 @@ of_itself Small n = refl
 of_itself Large n = refl
 of_itself Wide n = refl
 
--- another class, of which there are none
+-- another class, without cells
 abbrev Other : CellClass → CellClass → Type 0
 Other c d = (d ≡ c → ⊥) × ((n : ℕ) → of_class c n d ≡ 0)
 

@@ -69,7 +69,7 @@ pub is_first : (most : ℕ) (t : Tables) (b : Body) (reading : Reading) (r : Ref
 is_first most t b reading r ready read is =
     first_as (IsNetFaultAt most t b) (first_fault most t b (reading_of t b)) r (found_first most t b ready) (ap (first_fault most t b) (sym read) ∙ sym is)
 
--- where none is found, there is none
+-- if none is found, there is none
 pub no_fault : (most : ℕ) (t : Tables) (b : Body) (reading : Reading) → IsReady t b → reading ≡ reading_of t b → None ≡ first_fault most t b reading → HasNoNetFault most t b
 no_fault most t b reading ready read is = subst (IsFirst (IsNetFaultAt most t b)) (ap (first_fault most t b) (sym read) ∙ sym is) (found_first most t b ready)
 

@@ -178,7 +178,7 @@ module _ (t : Tables) (b : Body) (good : IsGood t b) where
       let le = early.no_later in
       omega (arith, from, le)
 
-  -- where none is found, there is none
+  -- if none is found, there is none
   pub read_none : (joining_of (reading_of t b)).closed ≡ None → (q : Place) → IsClosedWireOf t b q → ⊥
   read_none none q wire =
       let early = found_first t b (ends_in t b) (names_in_body b) (reading_of t b) read.net names good.ready.differ rises good.twice read_whole q wire in

@@ -44,7 +44,7 @@ module _ (r : Body) (k : KeepsNet r) (i : ℕ) (p : TemplateParts) (at : IsTempl
   abbrev pub setting : PairSetting
   setting = stepped.setting r k i p at
 
-  -- as many free ends as are told
+  -- as many free ends as named
   abbrev pub own_ends : ℕ
   own_ends = length (own_free r)
 

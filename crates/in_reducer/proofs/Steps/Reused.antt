@@ -159,7 +159,7 @@ module _ (r : Body) (k : KeepsNet r) (i : ℕ) (p : TemplateParts) (at : IsTempl
       few = stepped.few_joints r k i p at;
     }
 
-  -- ---- what it leaves
+  -- ---- its result
 
   module _ (room : HasRoomAt m i) (none : NoneLeased r.arena) (pair : Pair) (own : ℕ) (is_own : own ≡ length (own_free r)) (ends : List End) (about : IsAbout t setting p pair own r.arena ends)
       (old : List (ℕ × ℕ)) (c : ArenaView) (es points : List End) (middle : List (ℕ × ℕ)) (up : IsWiredAnew t p pair r.arena ends old c es points middle) where

@@ -6,7 +6,7 @@ use Rattle.in_syntax.specs.declared.places.Place.{Place}
 use Rattle.in_syntax.specs.Refusals.{code_number, IsNoLater, IsFirstOf, refused, earlier_refusal}
 use Rattle.in_syntax.proofs.FirstFaults.Least.{IsLeast}
 
--- the first of the faults F; none where there is none
+-- the first of the faults F, if there is any
 abbrev pub IsFirst : (Code → Place → Type 0) → Option Refusal → Type 0
 IsFirst F None = (c : Code) (q : Place) → F c q → ⊥
 IsFirst F (Some r) = F r.code r.place × ((d : Code) (q : Place) → F d q → IsNoLater r.code r.place d q) × (let nothing : Option Place = None in r.other ≡ nothing)

@@ -137,7 +137,7 @@ word_kind-name w t s r n =
     let net = differs w (codes "net") n in
     simp (type, symbol, rule, net)
 
--- a run of characters with which a name goes on, of which the first begins a name, is a word
+-- a run of characters that continue a name, whose first one begins a name, is a word
 pub is_word-run : (w rest : List ℕ) → FirstIs (λ c. begins_name c ≡ true) (w ++ rest) → list_all continues_name w ≡ true → FirstFails continues_name rest → is_word w ≡ true
 is_word-run [] [] f a stops = absurd f
 is_word-run [] (d ∷ ds) f a stops = absurd (false≢true (sym stops ∙ continues-begins d f))
