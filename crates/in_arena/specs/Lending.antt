@@ -5,7 +5,7 @@ use Rattle.in_arena.specs.Arenas.{ArenaView, LeaseView, IsOf, Leases, changed, s
 use Rattle.in_arena.specs.States.{State, Vacant, Leased}
 use Rattle.in_arena.specs.declared.content.CellClass.{CellClass}
 
--- how often the cell of this number stands in the list
+-- how often the cell of this number is in the list
 abbrev pub times : ℕ → List ℕ → ℕ
 times n ns = count_by (λ m. m == n) ns
 

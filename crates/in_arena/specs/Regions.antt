@@ -57,7 +57,7 @@ module _ {W : ℕ} where
   IsFreeList cells next [] = next ≡ length cells
   IsFreeList cells next (f ∷ fs) = (next ≡ f) × (f < length cells) × LeadsToNext cells f (λ k. IsFreeList cells k fs)
 
-  -- a content that stands in a cell has at most W ends
+  -- a content that is in a cell has at most W ends
   abbrev pub IsCell : Option (Option (Content W)) → Type 0
   IsCell None = Unit {0}
   IsCell (Some None) = Unit {0}

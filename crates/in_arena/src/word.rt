@@ -12,7 +12,7 @@ use std::marker::Model;
 // From here on a word has a number.
 const ABOVE: u64 = 65536;
 
-// The top bit, as it stands above.
+// The top bit, as it is above.
 const TOP: u64 = 140737488355328;
 
 // The low bits of a free end. A place is less.

@@ -25,7 +25,7 @@ pub record IsInteraction {A : Type 0} (p : System) (n : Net A) (x : Redex A ℕ)
   pub at : IsPairWithRule p n x
   pub step : IsStep p.symbols n x name after
 
--- the net stands after a run of a given number of interactions
+-- the net is after a run of a given number of interactions
 pub data Reached {A : Type 0} (p : System) : ℕ → Net A → Type 0 where
   at_start : (f : ℕ → A) (n : Net A) → IsRenamed f p.start n → Reached p zero n
   then_step : (k : ℕ) (n : Net A) (x : Redex A ℕ) (name : ℕ → A) (after : Net A) → Reached p k n → IsInteraction p n x name after → Reached p (suc k) after

@@ -1,4 +1,4 @@
--- Laws over stocks and what is placed: no cell is lost, and a settled member stands in the arena.
+-- Laws over stocks and what is placed: no cell is lost, and a settled member is in the arena.
 use Rattle.std.specs.Prelude.{◌≡◌, ◌+◌, ℕ, Some, List, slice_get}
 use Rattle.in_arena.specs.Arenas.{ArenaView, free_of, state_at}
 use Rattle.in_arena.specs.Bags.{IsBagOf, IsInBag, AreOfOne, empty_bag}

@@ -1,4 +1,4 @@
--- Gluing joint by joint, in place: the parts stand side by side in one net, whose free ends have numbers of their own, and one joint after
+-- Gluing joint by joint, in place: the parts are side by side in one net, whose free ends have numbers of their own, and one joint after
 -- another joins two of these. A free end that is joined has no wire from then on.
 use Rattle.std.specs.Prelude.{◌≡◌, ◌≢◌, ◌⊎◌, ◌↔◌, ℕ, List, map, slice_get, Some, None}
 use Rattle.in_net.specs.Nets.{Point, Port, Free, Net}
@@ -60,7 +60,7 @@ JoinsNext = (parts : ℕ → Net ℕ) (name : ℕ → ℕ → ℕ) (number : ℕ
 
 -- ---- where gluing begins, and where it ends
 
--- the parts stand side by side: the wires are those of the parts
+-- the parts are side by side: the wires are those of the parts
 pub record IsBeside {A C : Type 0} (parts : ℕ → Net A) (name : ℕ → A → C) (number : ℕ × ℕ → ℕ) (m : Net C) : Type 0 where
   pub agents : HasAgentsOfParts parts name m
   pub wires : (u v : Point C) → (m.partner u ≡ Some v) ↔ ((i : ℕ) × (p q : Point A) × IsAtNumber number name i p u × IsAtNumber number name i q v × ((parts i).partner p ≡ Some q))

@@ -37,7 +37,7 @@ pub record IsReordered (IsSame : ℕ × ℕ → ℕ × ℕ → Type 0) (queue qu
   pub once : (j k : ℕ) → j < length queue → k < length queue → place j ≡ place k → j ≡ k
   pub all : (j : ℕ) → j < length queue_too → (k : ℕ) × (k < length queue) × (place k ≡ j)
 
--- the same two agents, whichever stands first. (Of two constructors, or two destructors, the one with the lower number does; a sound net has
+-- the same two agents, whichever is first. (Of two constructors, or two destructors, the one with the lower number is; a sound net has
 -- no such pair)
 abbrev pub AreSameTwo : ℕ × ℕ → ℕ × ℕ → Type 0
 AreSameTwo q r = (r ≡ q) ⊎ (r ≡ (q.1, q.0))

@@ -44,7 +44,7 @@ HaveShapes o [] (y ∷ ys) = ⊥
 HaveShapes o (x ∷ xs) [] = ⊥
 HaveShapes o (x ∷ xs) (y ∷ ys) = HasShape o x y × HaveShapes o xs ys
 
--- how often a node stands in the parts
+-- how often a node is in the parts
 abbrev pub times_node : ℕ → List Part → ℕ
 times_node n [] = 0
 times_node n (y ∷ ys) = cond (y.nodes n) 1 0 + times_node n ys

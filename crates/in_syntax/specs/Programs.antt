@@ -21,12 +21,12 @@ pub record IsTextAt (text : List ℕ) (place : Place) : Type 0 where
   pub within : place.to ≤ length text
   pub utf8 : IsUtf8 (slice_range text place.from place.to)
 
--- a name stands in the text
+-- a name is in the text
 abbrev pub HasText : List ℕ → TokenKind → Place → Type 0
 HasText text kind.Name place = IsTextAt text place
 HasText text _ place = Unit {0}
 
--- each name stands in the text
+-- each name is in the text
 abbrev pub HasTexts : List ℕ → List Token → Type 0
 HasTexts text [] = Unit {0}
 HasTexts text (t ∷ ts) = HasText text t.kind t.place × HasTexts text ts

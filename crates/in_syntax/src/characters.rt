@@ -82,7 +82,7 @@ pub fn begins_name(c: char) -> bool
     is_xid_start(c) || c == '_'
 }
 
-/// Whether a name may go on with the character.
+/// Whether a name may continue with the character.
 pub fn continues_name(c: char) -> bool
     ensures { result ≡ continues_name c }
 {

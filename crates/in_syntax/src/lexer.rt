@@ -238,7 +238,7 @@ pub fn tokens_to_end(alloc: Global, text: &[u8]) -> Result<(Vec<Token>, Place), 
 ///
 /// A text is of at most `MAX_TEXT_BYTES` bytes of UTF-8. Space, tab, carriage return and line feed part tokens, and
 /// so does a comment: from a `#` to the end of its line. A token is the longest one that begins at its place. A name
-/// begins with a character of Unicode's XID_Start or `_`, and goes on with those of XID_Continue; nothing is
+/// begins with a character of Unicode's XID_Start or `_`, and continues with those of XID_Continue; nothing is
 /// normalized. All of this is this project's own choice.
 ///
 /// Refused, each with an empty place:

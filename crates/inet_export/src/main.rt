@@ -1,7 +1,7 @@
 //! The program `inet_export`: writes the program of interaction nets (Lafont 1990) that comes on standard input, or in a file, as data, one JSON
-//! object on one line, for programs that go on with it. Where it is refused, it prints the line that `inet check` prints.
+//! object on one line, for other programs. If it is refused, it prints the line of `inet check`.
 //!
-//! Where the text is refused, it lets `in_program::report` write what `inet check` writes.
+//! For a refused text `in_program::report` writes that line.
 #![tactic(auto)]
 
 ghost use Rattle.std.specs.Prelude.{◌≡◌, ◌⊎◌, ◌-◌, ◌<◌, ◌^◌, false};

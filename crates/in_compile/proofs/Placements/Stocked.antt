@@ -152,7 +152,7 @@ added_too f g k a b a' b' a'' b'' sum h j = record {
 
 -- ---- the lists of a bag's cells
 
--- nothing stands in empty lists, as nothing is in an empty bag
+-- nothing is in empty lists, as nothing is in an empty bag
 pub none_listed : (b : ArenaView) (l : CellClass → List CellNo) → HasAllCells b → ((n : ℕ) → IsInBag b n → ⊥) → ((c : CellClass) → free_of b c ≡ 0) → ((c : CellClass) → l c ≡ []) → IsListing b l
 none_listed b l all none free empty = record {
   all = all;

@@ -11,7 +11,7 @@ use Rattle.in_net.proofs.Wiring.Joins.{length-counted, length-none_seen}
 use Rattle.in_net.proofs.Wiring.Ways.{nth_seen}
 use Rattle.in_net.proofs.Wiring.Joined.{is_named_or_not, named_again, third_time, nth_none}
 
--- a name that is seen once, and stands twice more
+-- a name that is seen once, and occurs twice more
 second_named : (seen : List Seen) (at m a : ℕ) (o : Option ℕ) → m < length seen → nth_seen seen m ≡ Once a → o ≡ Some m → nth_seen (count_name seen at o) m ≡ Twice
 second_named seen at m a o lt is e = named_again seen at m o lt e ∙ ap (λ s. seen_again s at) is
 

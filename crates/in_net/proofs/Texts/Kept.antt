@@ -25,7 +25,7 @@ pub record IsSettled (r : Reading) (x y : text.Spot) (p : Place) : Type 0 where
   pub other : named (nth_spot r.spots (nth_link (links_of r) spot).to) ≡ y
   pub place : (nth_link (links_of r) spot).place ≡ p
 
--- a variable's occurrence stands at a spot, with the number of its name
+-- a variable's occurrence is at a spot, with the number of its name
 pub record IsHeldAt (r : Reading) (v : Term) : Type 0 where
   pub spot : ℕ
   pub number : ℕ

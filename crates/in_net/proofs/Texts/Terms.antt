@@ -30,7 +30,7 @@ use Rattle.in_net.proofs.Texts.Read.{name_there, grows_by, IsRead, with_agent_re
 use Rattle.std.proofs.lemmas.Bool.{and_parts, cases_eq, cases_lt}
 use Rattle.in_syntax.proofs.Public.{names_out, term_by_arguments}
 
--- the joints of a term's arguments and its variables stand among the spots
+-- the joints of a term's arguments and its variables are among the spots
 pub record IsHeldIn (t : Tables) (u : Term) (r : Reading) : Type 0 where
   pub arguments : (v w : Term) (i : ℕ) → IsPartOf v u → IsSome (number_in (name_of v) t.names) → slice_get (out-Term v).args i ≡ Some w → IsSettled r (text.port_at (place_of v) (suc i)) (spot_of t w) (place_of w)
   pub variables : (v : Term) → IsPartOf v u → IsVariable t v → IsHeldAt r v

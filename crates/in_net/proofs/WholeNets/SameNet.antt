@@ -21,7 +21,7 @@ use Rattle.std.proofs.lemmas.Option.{same_Some, slice_get_within}
 use Rattle.in_net.proofs.WholeNets.WireAt.{has_partner}
 use Rattle.in_base.proofs.Each.{at_index}
 
--- a wire of the text from a spot is one wire: it leads to one spot, and stands at one place
+-- a wire of the text from a spot is one wire: it leads to one spot, and is at one place
 abbrev pub AreSingle : Tables → Body → Type 0
 AreSingle t b = (x y z : Spot) (p q : Place) → IsWireOf t b x y p → IsWireOf t b x z q → (y ≡ z) × (p ≡ q)
 

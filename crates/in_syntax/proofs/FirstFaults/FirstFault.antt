@@ -86,7 +86,7 @@ first_as F o r first is = let there = subst (IsFirst F) is first in (record { st
 
 -- ---- two first faults are one
 
--- they stand at one byte, and have codes of one number
+-- they are at one byte, and have codes of one number
 pub both_first : (c d : Code) (p q : Place) → IsNoLater c p d q → IsNoLater d q c p → (p.from ≡ q.from) × (code_number c ≡ code_number d)
 both_first c d p q (inl a) (inl e) = absurd (omega (arith, a, e))
 both_first c d p q (inl a) (inr e) = let x = e.0 in absurd (omega (arith, a, x))

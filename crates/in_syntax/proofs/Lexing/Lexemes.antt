@@ -20,7 +20,7 @@ use Rattle.in_syntax.specs.Cursors.{FirstIs, FirstFails}
 pub begins_name-ascii : (c : ℕ) → c < 128 → begins_name c ≡ (is_ascii_alphabetic c || c == 95)
 begins_name-ascii c h = ap (λ b. b || c == 95) (is_xid_start-ascii c h)
 
--- what a name begins with it may go on with
+-- what a name begins with it may continue with
 pub continues-begins : (c : ℕ) → begins_name c ≡ true → continues_name c ≡ true
 continues-begins c h =
     go (is_xid_start c) (c == 95) refl refl h
