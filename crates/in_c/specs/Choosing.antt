@@ -1,4 +1,4 @@
--- What is shown of a run whose first pairs a caller chooses.
+-- The view of a run whose first pairs a caller chooses.
 use Rattle.std.specs.Prelude.{◌≡◌, ◌≢◌, ◌⊎◌, ◌<◌, ◌≤◌, ℕ, List, [], length, count_by, is_some, slice_get, Option, Some, None, Ok}
 use Rattle.in_syntax.specs.declared.faults.Refusal.{Refusal}
 use Rattle.in_check.specs.Checking.{IsAccepted, IsRefused}

@@ -63,7 +63,7 @@ TypePasses t rules n (Err (Memory e)) = ⊥
 -- ---- pass by pass: each has a result, and, if it is Ok, the others have
 
 module _ (t : Tables) (rules : List RuleParts) (n : Parts) where
-  -- what the passes answered is kept
+  -- the results of the passes are kept
   abbrev pub KeepsAnswers : Cells → List Certificate → Certificate → Result Program Fault → Type 0
   KeepsAnswers numbers cs c (Ok p) = p ≡ record { tables = t; rules = rules; net = n; numbers = numbers; rule_certificates = cs; net_certificate = c }
   KeepsAnswers numbers cs c (Err (Refused r)) = ⊥

@@ -1,4 +1,4 @@
--- What a program reaches: nets after any number of interactions, the agents under any names. Lafont 1990 reduces a net by interactions,
+-- The nets that a program reaches: after any number of interactions, the agents under any names. Lafont 1990 reduces a net by interactions,
 -- one active pair after another, and takes nets up to the names of their agents.
 use Rattle.std.specs.Prelude.{◌≡◌, ℕ, zero, suc, Some, slice_get}
 use Rattle.in_net.specs.Interactions.{Redex, IsStep}

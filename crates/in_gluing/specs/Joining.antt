@@ -35,7 +35,7 @@ IsNeither a b u = (u ≢ Free a) × (u ≢ Free b)
 abbrev pub ArePartnersAfter : {C : Type 0} → Net C → ℕ → ℕ → Point C → Point C → Type 0
 ArePartnersAfter m a b u v = (m.partner u ≡ Some v) ⊎ ((m.partner u ≡ Some (Free a)) × (m.partner (Free b) ≡ Some v)) ⊎ ((m.partner u ≡ Some (Free b)) × (m.partner (Free a) ≡ Some v))
 
--- what one joint makes of a net: the partners of the two free ends are partners of one another
+-- the result of one joint: the partners of the two free ends are partners of one another
 pub record JoinsEnds {C : Type 0} (m : Net C) (a b : ℕ) (w : Net C) : Type 0 where
   pub agents : HasSameAgents w m
   pub wires : (u v : Point C) → (w.partner u ≡ Some v) ↔ (IsNeither a b u × IsNeither a b v × ArePartnersAfter m a b u v)

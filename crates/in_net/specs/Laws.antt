@@ -55,6 +55,6 @@ RulesAreBuiltOnce = (s : Source) (t : Tables) (i : ℕ) → IsOfText s → Tabul
 abbrev pub WiresJoinOnePair : Type 0
 WiresJoinOnePair = (t : Tables) (n : Parts) (w : ℕ) (p q : AgentNo × AgentNo) → IsActivePair t n p → IsActivePair t n q → JoinsAgents n w p → JoinsAgents n w q → p ≡ q
 
--- .. and of what renewing a net makes of it
+-- .. and of the result of renewing a net
 abbrev pub NetsAreRenewedOnce : Type 0
 NetsAreRenewedOnce = (old n m : Parts) (cells : List (Option Cell)) (ends : List Point) (wires : List Wire) → length ends ≡ length old.free → IsRenewed old cells ends wires n → IsRenewed old cells ends wires m → n ≡ m

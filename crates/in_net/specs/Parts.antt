@@ -1,4 +1,4 @@
--- What contracts see of a net: all that its accessors read.
+-- The view of a net: all that its accessors read.
 use Rattle.std.specs.Prelude.{◌≡◌, ◌≢◌, ◌⊎◌, ℕ, ◌+◌, ◌^◌, ◌<◌, ◌≤◌, Bool, true, List, length, Option, Some, IsSomeAnd, option_map, option_and_then, slice_get}
 use Rattle.in_syntax.specs.declared.places.Place.{Place}
 use Rattle.in_syntax.specs.Grammar.{max_free, max_ports}

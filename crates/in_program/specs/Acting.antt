@@ -1,4 +1,4 @@
--- What the program does: the lines that it writes on the text that it reads, and its status.
+-- The output of the program: the lines that it writes on the text that it reads, and its status.
 use Rattle.std.specs.Prelude.{◌≡◌, ◌⊎◌, ◌++◌, ℕ, Bool, true, false, List, [], Ok, string_bytes}
 use Rattle.in_syntax.specs.Streams.{Device, Reader}
 use Rattle.in_syntax.specs.declared.faults.Refusal.{Refusal}

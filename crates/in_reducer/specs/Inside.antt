@@ -1,4 +1,4 @@
--- What contracts see of a reducer's fields, and what these fields keep.
+-- The view of a reducer, and the invariant of its fields.
 use Rattle.std.specs.Prelude.{◌≡◌, ◌+◌, ◌*◌, ◌≤◌, ◌<◌, ℕ, false, List, [], length, map, Some, slice_get, slice_index_or, vec_capacity}
 use Rattle.std.specs.VecDeque.{deque_capacity}
 use Rattle.in_arena.specs.Arenas.{ArenaView, NoneLeased}

@@ -21,7 +21,7 @@ pub record AreSameIsAnEquivalence : Type 0 where
   pub back : (m n : MachineParts) → IsReducer m → AreSame m n → AreSame n m
   pub through : SameGoesThrough
 
--- what is the same as a reducer is one
+-- a state that is the same as a reducer is one
 abbrev pub SameAreReducers : Type 0
 SameAreReducers = (m n : MachineParts) → IsReducer m → AreSame m n → IsReducer n
 

@@ -23,7 +23,7 @@ pub record NeedsAt (m : MachineParts) (i : ℕ) (need : Need) : Type 0 where
   pub is_rule : IsRuleAt (plain_of m) (agents_at pair).0 (agents_at pair).1 number rule
   pub is_need : IsNeedOf m.program.tables rule.member.cells need
 
--- what that pair needs is free
+-- the cells that the pair needs are free
 abbrev pub HasRoomAt : MachineParts → ℕ → Type 0
 HasRoomAt m i = (need : Need) × NeedsAt m i need × IsEnough (count_of need) (count_of m.vacant)
 

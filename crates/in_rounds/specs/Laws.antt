@@ -1,4 +1,4 @@
--- Laws over what is gathered, and over rounds.
+-- Laws on gathered results and on rounds.
 use Rattle.std.specs.Prelude.{◌≡◌, ◌<◌, ◌≤◌, ◌+◌, ◌-◌, ℕ, List, [], ◌∷◌, Option, Result, Ok, Some}
 use Rattle.in_arena.specs.Arenas.{ArenaView}
 use Rattle.in_machine.specs.Machines.{IsMachine}
@@ -13,7 +13,7 @@ use Rattle.in_rounds.specs.declared.gather.Why.{Why}
 
 -- ---- no cell is lost
 
--- what the one list of bags has and what the other has is what the third has
+-- the cells of the one list of bags and those of the other are those of the third
 abbrev pub Shares : List ArenaView → List ArenaView → List ArenaView → Type 0
 Shares bs cs both = (n : ℕ) → holders n both ≡ holders n bs + holders n cs
 

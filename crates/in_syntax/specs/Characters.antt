@@ -1,4 +1,4 @@
--- What characters do in a program, by their codes. This project's own choice: Lafont 1990 says nothing of characters.
+-- Characters in a program, by their codes. This project's own choice: Lafont 1990 has nothing on characters.
 use Rattle.std.specs.Prelude.{ℕ, Bool, not, ◌||◌, ◌==◌}
 use Rattle.unicode_ident.specs.Ident.{is_xid_start, is_xid_continue}
 

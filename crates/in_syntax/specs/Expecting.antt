@@ -18,7 +18,7 @@ use Rattle.in_syntax.specs.Tokens.{IsTokensOf, IsTokenFault}
 
 -- ---- tokens
 
--- what may follow a whole term
+-- the tokens that may follow a whole term
 abbrev pub follows_term : PartOf → Sign → Bool
 follows_term part.Left (Tilde place) = true
 follows_term part.Right (Plain kind.Semicolon) = true

@@ -1,4 +1,4 @@
--- What is proved of the grammar over the definitions alone.
+-- Laws on the grammar, over the definitions alone.
 use Rattle.std.specs.Prelude.{◌≡◌, ◌↔◌, ℕ, ◌≤◌, List, length, take}
 use Rattle.in_syntax.specs.declared.signs.Sign.{Sign}
 use Rattle.in_syntax.specs.Grammar.{GrammarProgram, spelling, source_of}

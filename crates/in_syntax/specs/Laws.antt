@@ -49,7 +49,7 @@ TextsAreParsedOnce = (text : List ℕ) → IsOne (Parses text)
 abbrev pub TextsBeginApart : Type 0
 TextsBeginApart = (text : List ℕ) (s : Source) → IsTreeOf text s → BeginApart (source_places s)
 
--- what is expected after signs is one
+-- the expected tokens after signs are one
 abbrev pub OneExpected : Type 0
 OneExpected = (text : List ℕ) (front : List Sign) (d e : Expected) → IsExpected text front d → IsExpected text front e → d ≡ e
 

@@ -101,7 +101,7 @@ abbrev pub place_at : List Token → Place → Place
 place_at [] end = end
 place_at (t ∷ ts) end = t.place
 
--- what is answered of a text's tokens
+-- the result on a text's tokens
 abbrev pub IsParsing : (text : List ℕ) (tokens : List Token) (end : Place) → Result Source Fault → Type 0
 IsParsing text tokens end (Ok source) = IsOutcomeOfSigns (signs_of text tokens) (tree source)
 IsParsing text tokens end (Err (Refused r)) =
