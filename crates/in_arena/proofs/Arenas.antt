@@ -1,11 +1,11 @@
--- What the state of a cell says of its number.
+-- The number of a cell, from its state.
 use Rattle.std.proofs.Common.{◌≡◌, ℕ, ◌<◌, Some, None, length, subst, ⊎_elim, sym, ap, ◌∙◌, arith}
 use Rattle.std.proofs.lemmas.List.{get_or_past}
 use Rattle.std.proofs.lemmas.Bool.{cases_lt}
 use Rattle.in_arena.specs.Arenas.{ArenaView, LeaseView, state_at, changed, IsOf}
 use Rattle.in_arena.specs.States.{State, Vacant, Leased, Live, IsLeased, IsLive, places, word_of}
 
--- a cell that isn't leased is none past the last one
+-- a cell that isn't leased is not past the last one
 pub state_inside : (a : ArenaView) (n : ℕ) → (state_at a n ≡ Leased → ⊥) → n < length a.states
 state_inside a n here = ⊎_elim (λ lt. lt) (λ past. absurd (here (get_or_past a.states n Leased past))) (cases_lt n (length a.states))
 

@@ -1,4 +1,4 @@
--- What a bag is to its arena and to other bags, and what taking a cell out of it and putting one in is to contracts.
+-- A bag beside its arena and other bags, and a cell taken out of it or put in, as contracts see them.
 use Rattle.std.proofs.Common.{◌≡◌, ℕ, zero, suc, List, take, drop, count_by, cond, ◌+◌, ◌*◌, ◌<◌, ◌⊎◌, inl, inr, length, map, get_or, set, replicate, Some, None, refl, sym, ap, ◌∙◌, subst, ⊎_elim, arith, get_or-set_same, get_or-set_other}
 use Rattle.std.proofs.lemmas.Bool.{cases_eq}
 use Rattle.std.proofs.lemmas.List.{set-set, length-replicate}

@@ -1,4 +1,4 @@
--- What the regions of an arena are to contracts, and what a change of one of their cells is. Each is said by class.
+-- The regions of an arena, and a change of one of their cells, as contracts see them, class by class.
 use Rattle.std.proofs.Common.{◌≡◌, ℕ, zero, suc, ◌+◌, ◌-◌, ◌*◌, ◌<◌, ◌≤◌, List, [], ◌∷◌, length, set, get_or, count_by, Some, None, sym, ap, ◌∙◌, subst, refl, ⊎_elim, arith}
 use Rattle.std.proofs.lemmas.Bool.{cases_lt}
 use Rattle.std.proofs.lemmas.List.{length-map, get_or-replicate, length-replicate, get_or_past}

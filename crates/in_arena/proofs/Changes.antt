@@ -1,4 +1,4 @@
--- What a change of a cell leaves of an arena's counts and of its leases.
+-- An arena's counts and leases after a change of one cell.
 use Rattle.std.proofs.Common.{◌≡◌, ℕ, zero, suc, ◌+◌, ◌*◌, ◌-◌, ◌<◌, ◌≤◌, List, take, drop, length, set, get_or, count_by, sym, ap, ◌∙◌, subst, ⊎_elim, arith, get_or-set_other}
 use Rattle.std.proofs.Math.Nat.{suc-mul}
 use Rattle.std.proofs.lemmas.Bool.{cases_lt}

@@ -11,7 +11,7 @@ known Small = omega arith
 known Large = omega arith
 known Wide = omega arith
 
--- the class of a number stands at that place of the list
+-- the class of a number is at that place of the list
 pub at_class : {A : Type 0} (f : CellClass → A) (d : A) (c : CellClass) → get_or (map f classes) (class_no c) d ≡ f c
 at_class f d Small = refl
 at_class f d Large = refl

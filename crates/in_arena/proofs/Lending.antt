@@ -12,7 +12,7 @@ use Rattle.in_arena.specs.States.{State, Vacant, Leased}
 use Rattle.in_arena.specs.declared.content.CellClass.{CellClass}
 use Rattle.in_arena.proofs.Changes.{lease_takes_one}
 
--- ---- how often a number stands in a list
+-- ---- how often a number is in a list
 
 pub times-cons : (n m : ℕ) (ns : List ℕ) → times n (m ∷ ns) ≡ cond (eqb m n) 1 0 + times n ns
 times-cons n m ns = sum_by-cons (λ k. cond (eqb k n) 1 0) m ns
@@ -38,7 +38,7 @@ each_stands (m ∷ ns) =
     All-cons (λ n. 0 < times n (m ∷ ns)) m ns (omega (arith, times-cons m m ns, one_is m m refl))
     (All-weaker (λ n. 0 < times n ns) (λ n. 0 < times n (m ∷ ns)) (λ n lt. omega (arith, times-cons n m ns, lt)) ns (each_stands ns))
 
--- a number that stands in none of the places at which P holds
+-- a number that is in none of the places at which P holds
 pub not_among : (P : ℕ → Type 0) (ns : List ℕ) (n : ℕ) → All P ns → (P n → ⊥) → times n ns ≡ 0
 not_among P [] n all ne = refl
 not_among P (m ∷ ns) n all ne =
@@ -94,7 +94,7 @@ pub all_leases : (P : ℕ → Type 0) (ls : List LeaseView) → All P (numbers l
 all_leases P [] all = All-nil (λ (l : LeaseView). P l.number)
 all_leases P (l ∷ ls) all = All-cons (λ (m : LeaseView). P m.number) l ls (All-head P l.number (numbers ls) all) (all_leases P ls (All-tail P l.number (numbers ls) all))
 
--- what holds at each place holds of a number that stands in one
+-- what holds at each place holds of a number that is in one
 pub among : (P : ℕ → Type 0) (ns : List ℕ) (n : ℕ) → All P ns → 0 < times n ns → P n
 among P [] n all some = absurd (omega arith)
 among P (m ∷ ns) n all some =

@@ -1,4 +1,4 @@
--- What a change of one cell leaves of a region.
+-- A region after a change of one cell.
 use Rattle.std.proofs.Common.{◌≡◌, ◌≢◌, ℕ, zero, suc, ◌+◌, ◌-◌, ◌<◌, ◌≤◌, ◌^◌, List, [], ◌∷◌, map, take, length, set, get_or, replicate, cond, count_by, Option, Some, None, refl, sym, ap, ◌∙◌, subst, inl, inr, arith, length-set, get_or-set_same, get_or-set_other}
 use Rattle.std.proofs.lemmas.Bool.{cases_eq, cases_lt}
 use Rattle.std.proofs.lemmas.List.{length-replicate, length-take-le, get_or-replicate, map-set, set-get_or}
@@ -370,7 +370,7 @@ module _ {W : ℕ} where
   pub written : (l : Held W) (c : Content W) → IsHeld l → set l.cells.slots l.index (Some (Some c)) ≡ set (replicate (length l.cells.slots) None) l.index (Some (Some c))
   written l c h = ap (λ cs. set cs l.index (Some (Some c))) h.cell ∙ set_twice (replicate (length l.cells.slots) None) l.index (Some (Some h.content)) (Some (Some c))
 
-  -- the lease once this stands in its cell
+  -- the lease once this is in its cell
   abbrev pub with_content : Held W → Content W → Held W
   with_content l c = record { index = l.index; base = l.base; cells = with_slots l.cells (set l.cells.slots l.index (Some (Some c))) }
 

@@ -1,4 +1,4 @@
--- What contracts see of cells that lie class by class, and what a change of one of them is.
+-- Cells that lie class by class, and a change of one of them, as contracts see them.
 use Rattle.std.proofs.Common.{◌≡◌, ℕ, ◌+◌, ◌*◌, ◌<◌, List, [], ◌∷◌, ◌++◌, map, flat_map, take, drop, length, set, get_or, replicate, count_by, sym, ap, ◌∙◌, arith}
 use Rattle.std.proofs.Math.Nat.{suc-mul, zero-mul}
 use Rattle.std.proofs.lemmas.List.{replicate-append-replicate}

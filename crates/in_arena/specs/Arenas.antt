@@ -1,4 +1,4 @@
--- What contracts see of an arena and of a lease, and what the calls change.
+-- The views of an arena and of a lease, and the changes by the calls.
 use Rattle.std.specs.Prelude.{◌≡◌, ◌<◌, ◌≤◌, ◌+◌, ◌*◌, ℕ, List, length, get_or, take, drop, slice_index_or, slice_set, count_by, Option, Some, None}
 use denote.RawPtr.{Ptr, null_ptr}
 use Rattle.in_arena.specs.Classes.{class_no, IsNumberOf}

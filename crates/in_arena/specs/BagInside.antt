@@ -1,4 +1,4 @@
--- What contracts see of the fields of a bag, and what these fields keep.
+-- The view of a bag, and the invariant of its fields.
 use Rattle.std.specs.Prelude.{◌≤◌}
 use Rattle.in_arena.specs.Arenas.{ArenaView}
 use Rattle.in_arena.specs.ByClass.{sacks_view, IsSacks}

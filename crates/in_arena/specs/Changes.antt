@@ -1,4 +1,4 @@
--- What a change of a cell leaves of an arena's counts and of its leases.
+-- An arena's counts and its leases after a change of a cell.
 use Rattle.std.specs.Prelude.{◌≡◌, ◌+◌, ◌*◌, ℕ, cond, length, Some}
 use Rattle.in_arena.specs.Arenas.{ArenaView, LeaseView, IsOf, Leases, changed, free_of, state_at}
 use Rattle.in_arena.specs.Bags.{BagsAreApart, IsBagOf, LeasesTo, empty_bag}

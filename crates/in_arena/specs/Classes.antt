@@ -31,7 +31,7 @@ Holds c n = (least c ≤ n) × (n ≤ width c)
 abbrev pub holds : CellClass → ℕ → Bool
 holds c n = nat_le (least c) n && nat_le n (width c)
 
--- where there are `cells` cells of each class, n is the number of one of class c: the cells of a class stand after those of the class before
+-- where there are `cells` cells of each class, n is the number of one of class c: the cells of a class are after those of the class before
 abbrev pub IsNumberOf : ℕ → CellClass → ℕ → Type 0
 IsNumberOf cells c n = (class_no c * cells ≤ n) × (n < (class_no c + 1) * cells)
 

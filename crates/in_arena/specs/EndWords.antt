@@ -8,7 +8,7 @@ use Rattle.in_arena.specs.declared.content.End.TheVariants.{Cell, Free}
 abbrev pub above : ℕ
 above = 65536
 
--- and from here on the top bit, as it stands there
+-- and from here on the top bit, as it is there
 abbrev pub top : ℕ
 top = 140737488355328
 

@@ -1,4 +1,4 @@
--- What contracts see of the fields of an arena, and what these fields keep.
+-- The view of an arena, and the invariant of its fields.
 use Rattle.std.specs.Prelude.{◌≤◌}
 use Rattle.in_arena.specs.Arenas.{ArenaView}
 use Rattle.in_arena.specs.ByClass.{view_of, IsRegions}

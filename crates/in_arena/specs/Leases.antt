@@ -1,4 +1,4 @@
--- What contracts see of the fields of a lease, and what these fields keep.
+-- The view of a lease, and the invariant of its fields.
 use Rattle.std.specs.Prelude.{◌≡◌}
 use Rattle.in_arena.specs.Arenas.{LeaseView}
 use Rattle.in_arena.specs.ByClass.{cell_view, IsHeldCell}

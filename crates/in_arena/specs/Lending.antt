@@ -5,7 +5,7 @@ use Rattle.in_arena.specs.Arenas.{ArenaView, LeaseView, IsOf, Leases, changed, s
 use Rattle.in_arena.specs.States.{State, Vacant, Leased}
 use Rattle.in_arena.specs.declared.content.CellClass.{CellClass}
 
--- how often the cell of this number stands in the list
+-- how often the cell of this number is in the list
 abbrev pub times : ℕ → List ℕ → ℕ
 times n ns = count_by (λ m. m == n) ns
 
@@ -71,7 +71,7 @@ LeaseLends = (a b : ArenaView) (c : CellClass) (l : LeaseView) → Leases a c (S
 abbrev pub LendingsJoin : Type 0
 LendingsJoin = (a b c : ArenaView) (ls ms : List LeaseView) → Lends a b ls → Lends b c ms → Lends a c (ls ++ ms)
 
--- where all leases are given back the arena is what it was
+-- once all leases are given back, the arena is as before
 abbrev pub LendingGoesBack : Type 0
 LendingGoesBack = (a b : ArenaView) (ls : List LeaseView) → Lends a b ls → with_all b (numbers ls) Vacant ≡ a
 

@@ -57,7 +57,7 @@ module _ {W : ℕ} where
   IsFreeList cells next [] = next ≡ length cells
   IsFreeList cells next (f ∷ fs) = (next ≡ f) × (f < length cells) × LeadsToNext cells f (λ k. IsFreeList cells k fs)
 
-  -- a content that stands in a cell has at most W ends
+  -- a content that is in a cell has at most W ends
   abbrev pub IsCell : Option (Option (Content W)) → Type 0
   IsCell None = Unit {0}
   IsCell (Some None) = Unit {0}
@@ -110,7 +110,7 @@ pub record Becomes {W : ℕ} (r s : Region W) (i : ℕ) (x : State) : Type 0 whe
   pub memory : (s.cells.at ≡ r.cells.at) × (s.size ≡ r.size)
   pub states : states s ≡ slice_set (states r) i x
 
--- the regions are of one memory, and each cell is what it was
+-- the regions are of one memory, and each cell is as before
 pub record IsSame {W : ℕ} (r s : Region W) : Type 0 where
   pub region : IsRegion s
   pub memory : (s.cells.at ≡ r.cells.at) × (s.size ≡ r.size)

@@ -1,4 +1,4 @@
--- What a cell is to contracts: free, leased, or live with a symbol word and its ends.
+-- The view of a cell: free, leased, or live with a symbol word and its ends.
 use Rattle.std.specs.Prelude.{◌≡◌, ℕ, Bool, true, false, List, length, slice_get, slice_set, Option, Some, None}
 use Rattle.in_arena.specs.declared.content.End.{End}
 

@@ -132,7 +132,7 @@ impl Arena {
         self.regions.give_back(held);
     }
 
-    /// Whether a cell, which is none on lease, is live.
+    /// Whether a cell is live. It isn't on lease.
     pub fn is_live(&self, cell: CellNo) -> bool
         requires there { cell.0 < length self.now.states }
         requires not_leased { IsLeased (state_at self.now cell.0) → ⊥ }
@@ -162,7 +162,7 @@ impl Arena {
         self.regions.symbol(class, index)
     }
 
-    /// What a place of a live cell leads to, the principal port being place 0.
+    /// The other end of the wire at a place of a live cell. The principal port is place 0.
     #[inline(always)]
     pub fn port(&self, cell: CellNo, place: u8) -> End
         requires { place < places (state_at self.now cell.0) }
@@ -181,7 +181,7 @@ impl Arena {
         self.regions.word(class, index, place)
     }
 
-    /// What all places of a live cell lead to, in their order, from the principal port on.
+    /// The other ends of the wires at all places of a live cell, in their order, from the principal port on.
     #[inline(always)]
     pub fn ends(&self, cell: CellNo) -> &[EndWord]
         requires { IsLive (state_at self.now cell.0) }
@@ -191,7 +191,7 @@ impl Arena {
         self.regions.ends(class, index)
     }
 
-    /// Writes what a place of a live cell leads to.
+    /// Writes the other end of the wire at a place of a live cell.
     #[inline(always)]
     pub fn set_port(&mut self, cell: CellNo, place: u8, end: End)
         requires { place < places (state_at self.old cell.0) }
@@ -227,7 +227,7 @@ impl Arena {
     }
 
     /// A free cell of this class is live with this symbol word and so many places, the principal port's among them: as many as the class is
-    /// for. What they lead to is open until it is written. Nothing changes where none of the class is free. Which free cell it is is open.
+    /// for. Their ends are open until they are written. Nothing changes if none of the class is free. Which free cell it takes is open.
     #[inline(always)]
     pub fn begin(&mut self, class: CellClass, symbol: SymbolWord, places: u8) -> Option<CellNo>
         requires { Holds class places }
@@ -259,8 +259,8 @@ impl Arena {
         false
     }
 
-    /// A live cell has this symbol word and so many places from now on, the principal port's among them: as many as its class is for. What
-    /// they lead to is open until it is written.
+    /// A live cell has this symbol word and so many places from now on, the principal port's among them: as many as its class is for. Their ends are
+    /// open until they are written.
     #[inline(always)]
     pub fn renew(&mut self, cell: CellNo, symbol: SymbolWord, places: u8)
         requires live { IsLive (state_at self.old cell.0) }

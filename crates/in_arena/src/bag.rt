@@ -44,8 +44,8 @@ impl Bag {
         self.sacks.put(held);
     }
 
-    /// Writes the symbol word of a cell, and how many ends it has, the principal port's among them: as many as its class is for. What the
-    /// ends are is open until they are set one by one, so that they needn't be gathered before.
+    /// Writes the symbol word of a cell, and how many ends it has, the principal port's among them: as many as its class is for. The ends are open
+    /// until they are set one by one, so that they needn't be gathered before.
     pub fn begin(&mut self, cell: CellNo, symbol: SymbolWord, ends: u8)
         requires is_in { IsInBag self.old cell.0 }
         requires many { IsFor self.old.cells cell.0 ends }

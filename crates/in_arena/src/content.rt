@@ -1,4 +1,4 @@
-// What stands in a cell.
+// The contents of a cell.
 ghost use Rattle.std.specs.Prelude.{◌≡◌, ◌≤◌, replicate};
 ghost use Rattle.in_arena.specs.Classes.{Holds, class_no, width, least, holds};
 ghost use Rattle.in_arena.specs.declared.content.CellClass.TheVariants.{Wide};
@@ -12,7 +12,7 @@ pub struct CellNo(pub u32);
 /// The word of a live cell, which is the number of its agent's symbol.
 pub type SymbolWord = u32;
 
-/// What a place of a cell leads to: a place of a cell, the principal one being 0, or a free end.
+/// An end of a wire: a place of a cell, of which 0 is the principal port, or a free end.
 #[derive(Clone, Copy, Debug, PartialEq, Eq, Hash)]
 pub enum End {
     Cell(CellNo, u8),
@@ -87,8 +87,8 @@ impl CellClass {
     }
 }
 
-/// A symbol word and the ends at the first `count` of `WIDTH` places. Where there is none the cell is free, and the word is the number
-/// of the next free cell.
+/// A symbol word and the ends at the first `count` of `WIDTH` places. If there is no end, the cell is free, and the word is the number of the next
+/// free cell.
 #[derive(Clone, Copy)]
 pub struct Content<const WIDTH: usize> {
     pub word: u32,
@@ -97,7 +97,7 @@ pub struct Content<const WIDTH: usize> {
 }
 
 impl<const WIDTH: usize> Content<WIDTH> {
-    /// What stands in a free cell, before the free cell of this number.
+    /// The contents of a free cell, before the free cell of this number.
     #[inline(always)]
     pub fn free(next: u32) -> Content<WIDTH>
         ensures { (result.word ≡ next) × (result.count ≡ 0) }

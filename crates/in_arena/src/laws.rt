@@ -1,4 +1,4 @@
-// What follows of the classes of cells and of a change of an arena.
+// Laws on the classes of cells and on a change of an arena.
 ghost use Rattle.in_arena.specs.Classes.{ClassesAreApart, ClassesAreAll, NumbersAreApart, NumbersAreAll};
 ghost use Rattle.in_arena.specs.Changes.{FreeCountsChange, LeaseTakesOne, AllCellsStay, LeasesStay, LeasesDiffer, EmptyBagIsOf, BagsStay, FreeCellsAreInNoBag, LeaseToTakesOne, BagsStayApart, MovingKeepsApart, LeaseIsInNoBag};
 ghost use Rattle.in_arena.specs.Lending.{LeaseLends, LendingsJoin, LendingGoesBack, OthersStay};
@@ -94,7 +94,7 @@ pub fn lendings_join()
     ensures { LendingsJoin }
 {}
 
-/// Where all leases of a lending are given back, the arena is what it was.
+/// Once all leases of a lending are given back, the arena is as before.
 pub fn lending_goes_back()
     ensures { LendingGoesBack }
 {}

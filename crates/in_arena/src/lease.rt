@@ -53,8 +53,8 @@ impl Lease {
         self.held.write(symbol, ends);
     }
 
-    /// Writes the symbol word, and how many ends there are, the principal port's among them: as many as its class is for. What the ends are is
-    /// open until they are written.
+    /// Writes the symbol word, and how many ends there are, the principal port's among them: as many as its class is for. The ends are open until
+    /// they are written.
     pub fn begin(&mut self, symbol: SymbolWord, ends: u8)
         requires { Holds self.old.class ends }
         ensures { (x : State) × IsBegun symbol ends x × (self.new ≡ written self.old x) }

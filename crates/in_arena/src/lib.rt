@@ -1,6 +1,6 @@
 //! The cells of a net in raw memory: an arena has cells of a few widths, each free, leased or live with a symbol and its ends.
 //!
-//! It stands on `in_memory`, whose rows of cells have several owners. From below: `word`, an end in one word; `content`, the classes of
+//! It uses `in_memory`, whose rows of cells have several owners. From below: `word`, an end in one word; `content`, the classes of
 //! cells and what a cell holds; `region`, cells of one width; `regions`, a region for each class, which is said in this file and nowhere
 //! else; `lease`, the owner of one cell; `bag`, the owner of several cells by their numbers, which takes no bytes for a cell; `arena`.
 //!

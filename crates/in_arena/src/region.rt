@@ -204,7 +204,7 @@ impl<const WIDTH: usize> Region<WIDTH> {
         self.free += 1;
     }
 
-    // Whether a cell, which is none on lease, is live. What was never used is free, and isn't read.
+    // Whether a cell is live. It isn't on lease. A cell that was never used is free, and isn't read.
     pub fn is_live(&self, index: u32) -> bool
         requires region { IsRegion self.now }
         requires there { index < self.now.size }
@@ -235,7 +235,7 @@ impl<const WIDTH: usize> Region<WIDTH> {
         self.cells.get(self.base, index as usize).word
     }
 
-    // What stands at a place of a live cell.
+    // The word at a place of a live cell.
     #[inline(always)]
     pub fn word(&self, index: u32, place: u8) -> EndWord
         requires { IsRegion self.now × (place < places (state_at self.now index)) }
@@ -244,7 +244,7 @@ impl<const WIDTH: usize> Region<WIDTH> {
         self.cells.get(self.base, index as usize).ends[place as usize]
     }
 
-    // What the places of a live cell lead to, in their order.
+    // The other ends of the wires at the places of a live cell, in their order.
     #[inline(always)]
     pub fn ends(&self, index: u32) -> &[EndWord]
         requires { IsRegion self.now × IsLive (state_at self.now index) }

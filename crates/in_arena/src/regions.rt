@@ -1,4 +1,4 @@
-// What there is for each class of cells: a region, the owner of one of its cells and the owner of some of them.
+// For each class of cells: a region, the owner of one of its cells and the owner of some of them.
 ghost use Rattle.std.specs.Prelude.{◌≡◌, ◌*◌, ◌<◌, ◌≤◌, ◌↔◌, ℕ, IsTrue, length, count_by, IfOk};
 ghost use Rattle.in_arena.specs.States.{State, Live, Vacant, IsLive, IsLeased, IsBegun, is_vacant, word_of, end_at, places, with_end, HasEnds};
 ghost use Rattle.in_arena.specs.Arenas.{written};
@@ -188,7 +188,7 @@ impl Regions {
         }
     }
 
-    // Whether a cell, which is none on lease, is live.
+    // Whether a cell is live. It isn't on lease.
     pub fn is_live(&self, class: CellClass, index: u32) -> bool
         requires regions { IsRegions self.now }
         requires there { index < self.now.cells }
@@ -227,7 +227,7 @@ impl Regions {
         }
     }
 
-    // What stands at a place of a live cell.
+    // The word at a place of a live cell.
     #[inline(always)]
     pub fn word(&self, class: CellClass, index: u32, place: u8) -> EndWord
         requires { IsRegions self.now × (place < places (cell_at self.now class index)) }
@@ -240,7 +240,7 @@ impl Regions {
         }
     }
 
-    // What the places of a live cell lead to, in their order.
+    // The other ends of the wires at the places of a live cell, in their order.
     #[inline(always)]
     pub fn ends(&self, class: CellClass, index: u32) -> &[EndWord]
         requires { IsRegions self.now × IsLive (cell_at self.now class index) }

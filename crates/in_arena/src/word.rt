@@ -12,10 +12,10 @@ use std::marker::Model;
 // From here on a word has a number.
 const ABOVE: u64 = 65536;
 
-// The top bit, as it stands above.
+// The top bit, as it is above.
 const TOP: u64 = 140737488355328;
 
-// What the low bits have for a free end. A place is less.
+// The low bits of a free end. A place is less.
 const FREE: u64 = 65535;
 
 /// An end in one word, so that it is read, tested and written as a whole. Contracts see the end. For a place of a cell the low 16 bits have the

@@ -1,4 +1,4 @@
--- What stands at a place of a list that grew at its end, in which one place was set, or that is another one mapped.
+-- The element at a place of a list that grew at its end, of one in which one place was set, and of a mapped one.
 use Rattle.std.proofs.Common.{◌≡◌, ◌≢◌, ◌⊎◌, inl, inr, ◌<◌, ℕ, zero, suc, Option, Some, None, IsSome, List, [], ◌∷◌, ◌++◌, map, option_map, length, slice_get, set, refl, sym, ap, ◌∙◌, subst, arith}
 use Rattle.std.proofs.lemmas.Option.{slice_get-map, same_Some}
 

@@ -1,9 +1,9 @@
-//! What several crates say of lists, and the facts about it. Its code is two macros, by which a body says what its proof rests on.
+//! Definitions on lists that several crates use, and the facts about them. Its code is two macros, by which a body names what its proof uses.
 //!
-//! `specs/Lists.antt` has what is said of lists, `specs/Graphs.antt` graphs whose nodes have ports in classes, and the circles in them:
+//! `specs/Lists.antt` has the definitions on lists, `specs/Graphs.antt` graphs whose nodes have ports in classes, and the circles in them:
 //! `in_net` says which graph a net is, `in_open_nets` which one an open net is, and neither needs the other. `proofs/` has the facts
 //! about these (`Each`, `Among`, `Places`, and `Circuits` for circles). Facts on tests, options and numbers are the standard library's.
-//! What crates say of texts, terms, places and refusals is in `in_syntax`, the lowest crate that knows them.
+//! Definitions on texts, terms, places and refusals are in `in_syntax`, the lowest crate that knows them.
 #![tactic(auto)]
 
 /// Says that the invariant of a value is used from here on, by a place in that value. The prover knows the invariant of what a `&` leads to
@@ -16,8 +16,8 @@ macro_rules! use_invariant {
     };
 }
 
-/// Says that what an accessor promises is used from here on, as a bound on a number of nodes, where the answer itself isn't wanted. The prover
-/// knows what a call promises only where the call stands.
+/// Makes what an accessor promises available from here on, as a bound on a number of nodes, where its result isn't needed. The prover knows a call's
+/// clauses only after the call.
 #[macro_export]
 macro_rules! use_promise {
     ($call:expr) => {

@@ -1,4 +1,4 @@
--- What is shown of a run whose first pairs a caller chooses.
+-- The view of a run whose first pairs a caller chooses.
 use Rattle.std.proofs.Common.{◌≡◌, List, ℕ, [], Ok, inl, inr, subst}
 use Rattle.in_check.specs.Programs.{Program}
 use Rattle.in_limits.specs.declared.limits.Limits.{Limits}

@@ -1,4 +1,4 @@
--- What is exported of a text that is refused is what `check` says of it.
+-- The export of a refused text is the output of `check`.
 use Rattle.std.proofs.Common.{◌≡◌, List, ℕ, Result, Ok, Err, IfOk, inl, inr, refl}
 use Rattle.in_syntax.specs.declared.faults.Refusal.{Refusal}
 use Rattle.in_syntax.specs.declared.faults.Fault.TheVariants.{Refused}

@@ -1,4 +1,4 @@
--- What is given of an answer, or when out of memory.
+-- Properties of an answer to the caller, and of the result when out of memory.
 use Rattle.std.proofs.Common.{◌≡◌, List, ℕ, sym, subst, Result, Ok, Err, IfOk, OnErr}
 use Rattle.in_program.specs.declared.acting.Status.{Status}
 use Rattle.in_program.specs.Acting.{memory_status, status}
@@ -12,12 +12,12 @@ pub gives : {E : Type 0} (So : List ℕ → Status → Type 0) (r : Result Answe
 gives So (Ok a) old new count s so wants (given, is) none = (a.bytes.items, subst (So a.bytes.items) is so, given)
 gives So (Err e) old new count s so wants none (given, is) = (memory_line, subst (So memory_line) (sym is) wants, given)
 
--- what holds anyway holds where there is no answer
+-- a property that always holds also holds without an answer
 pub anyway : {A E : Type 0} (P : Type 0) (r : Result A E) → P → OnErr r P
 anyway P (Ok a) p = tt
 anyway P (Err e) p = p
 
--- an answer of which one thing is so is one of which another is that follows
+-- if one property of an answer implies another, an answer with the one has the other
 pub so_that : {E : Type 0} (P Q : List ℕ → Status → Type 0) (r : Result Answer E) → ((lines : List ℕ) (s : Status) → P lines s → Q lines s) → IfOk r (λ a. P a.bytes.items a.status) → IfOk r (λ a. Q a.bytes.items a.status)
 so_that P Q (Ok a) f p = f a.bytes.items a.status p
 so_that P Q (Err e) f p = tt

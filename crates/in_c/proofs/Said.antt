@@ -1,4 +1,4 @@
--- What was written to a writer that took nothing before is what was said.
+-- The bytes in a writer that was empty are the output.
 use Rattle.std.proofs.Common.{◌≡◌, ◌≢◌, ◌⊎◌, List, ℕ, Vec, Global, [], Option, Some, IfOk, Result, Ok, Err, sym, subst, ap, ◌∙◌, inl, inr}
 use Rattle.std.proofs.lemmas.Option.{same_Some}
 use Rattle.in_syntax.specs.Streams.{Device}
@@ -22,7 +22,7 @@ said So bytes failures s (lines, t, so, inl (moves, is)) sound =
 pub begins : (bytes : List ℕ) (failures : ℕ) → bytes ≡ [] → failures ≡ 0 → device (Some bytes) failures ≡ fresh
 begins bytes failures none sound = ap (λ (z : List ℕ). device (Some z) failures) none ∙ ap (λ (z : ℕ). device (Some []) z) sound
 
--- the answer that is made of it
+-- the answer with these bytes
 pub answered : {E : Type 0} (So : List ℕ → Status → Type 0) (w : Device) (bytes : Vec ℕ Global) (failures : ℕ) (s : Status) (r : Result Answer E) → w ≡ fresh → TellsOne So w (device (Some bytes.items) failures) s
     → IfOk r (λ a. (a.bytes ≡ bytes) × (a.status ≡ s) × (s ≢ fault_status)) → IfOk r (λ a. So a.bytes.items a.status ⊎ WantsMemory a.bytes.items a.status)
 answered So w bytes failures s (Ok a) begins tells (these, this, sound) =

@@ -1,4 +1,4 @@
--- What a call answers to a text. What is said of a text is the program's: see `in_program`'s definitions of what it does.
+-- The result of a call on a text. The output on a text is the program's: see the definitions of `in_program`.
 use Rattle.std.specs.Prelude.{◌≡◌, ◌⊎◌, ℕ, true, false, List, [], Some, None}
 use Rattle.in_syntax.specs.declared.faults.Refusal.{Refusal}
 use Rattle.in_check.specs.Checking.{IsAccepted, IsRefused}
@@ -74,7 +74,7 @@ IsVerified text k given parts s =
 abbrev pub GivesAnswer : (List ℕ → Status → Type 0) → List ℕ → List ℕ → ℕ → ℕ → Type 0
 GivesAnswer So old new count s = (bytes : List ℕ) × So bytes (status s) × IsGiven bytes old new count
 
--- ---- what each call answers
+-- ---- the result of each call
 
 abbrev pub Answers : Action → List ℕ → List ℕ → List ℕ → ℕ → ℕ → Type 0
 Answers a text old new count s = GivesAnswer (IsSaid a text) old new count s

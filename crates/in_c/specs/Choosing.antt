@@ -1,4 +1,4 @@
--- What is shown of a run whose first pairs a caller chooses.
+-- The view of a run whose first pairs a caller chooses.
 use Rattle.std.specs.Prelude.{◌≡◌, ◌≢◌, ◌⊎◌, ◌<◌, ◌≤◌, ℕ, List, [], length, count_by, is_some, slice_get, Option, Some, None, Ok}
 use Rattle.in_syntax.specs.declared.faults.Refusal.{Refusal}
 use Rattle.in_check.specs.Checking.{IsAccepted, IsRefused}
@@ -44,11 +44,11 @@ IsEndBy None limit o s = IsEndAfter o limit s
 abbrev pub EndsSo : List ℕ → ℕ → Chosen → Status → Type 0
 EndsSo choices limit o s = IsEndBy (slice_get choices o.chosen) limit o s
 
--- the net, the numbers and the status of what the run came to, or that memory ran out
+-- the net, the numbers and the status at the end of the run, or that memory ran out
 abbrev pub ShowsRun : List ℕ → ℕ → Chosen → Shown → Type 0
 ShowsRun choices limit o a = ((s : Status) × EndsSo choices limit o s × AreGivenOut a (text_of o.machine) (run_numbers o) s) ⊎ AreGivenOut a [] no_run memory_status
 
--- .. of a program: what it came to, or that its net doesn't fit the cells
+-- .. of a program: its end, or that its net doesn't fit the cells
 abbrev pub ShowsProgram : Program → List ℕ → Limits → Shown → Type 0
 ShowsProgram p choices l a =
     ((o : Chosen) × RunsAsChosen p choices l.limit l.cells (Ok o) × ShowsRun choices l.limit o a)

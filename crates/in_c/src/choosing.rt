@@ -31,7 +31,7 @@ const NONE: RunNumbers = RunNumbers {
     agents: 0,
 };
 
-/// What is shown of a run: where it stands, the text of its net, and the status.
+/// The view of a run: its counts, the text of its net, and the status.
 #[derive(Drop)]
 pub struct Shown {
     pub numbers: RunNumbers,
@@ -85,7 +85,7 @@ fn status_after(outcome: &Chosen, limit: u64) -> Status
     }
 }
 
-/// The status of what such a run came to.
+/// The status that reports how the run ended.
 fn status_of(outcome: &Chosen, choices: &[u32], limit: u64) -> Status
     ensures { EndsSo choices.now limit outcome.now result }
 {
@@ -95,7 +95,7 @@ fn status_of(outcome: &Chosen, choices: &[u32], limit: u64) -> Status
     }
 }
 
-/// Where a run stands.
+/// The counts of a run so far: choices taken, further interactions, active pairs and agents.
 fn numbers_of(outcome: &Chosen) -> RunNumbers
     ensures { result ≡ run_numbers outcome.now }
 {
@@ -107,7 +107,7 @@ fn numbers_of(outcome: &Chosen) -> RunNumbers
     }
 }
 
-/// What such a run came to.
+/// The numbers, the net and the status at the end of the run.
 fn shown_of(alloc: Global, outcome: &Chosen, choices: &[u32], limit: u64) -> Shown
     ensures { ShowsRun choices.now limit outcome.now result }
 {
@@ -121,7 +121,7 @@ fn shown_of(alloc: Global, outcome: &Chosen, choices: &[u32], limit: u64) -> Sho
     }
 }
 
-/// What such a run of an accepted program comes to.
+/// Runs an accepted program by these choices, and returns what its end shows.
 fn run_by(alloc: Global, checked: &Checked, choices: &[u32], limits: Limits) -> Shown
     ensures { ShowsProgram checked.now choices.now limits result }
 {
@@ -151,8 +151,8 @@ fn run_text_by(alloc: Global, text: &[u8], choices: &[u32], limits: Limits) -> S
     }
 }
 
-/// What a run of a text comes to in which first the pairs of these numbers interact, one after another, and then at most `limit` pairs first
-/// in, first out, with `cells` cells of each class. Nothing is shown where one of the two is out of range.
+/// The end of a run of a text: first the pairs of these numbers interact, one after another, and then at most `limit` pairs first in, first out,
+/// with `cells` cells of each class. If one of the two is out of range, nothing is shown.
 pub fn ran_by(alloc: Global, text: &[u8], choices: &[u32], limit: u64, cells: u32) -> Shown
     ensures { IsRunBy text.now choices.now limit cells result }
 {

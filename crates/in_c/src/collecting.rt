@@ -21,7 +21,7 @@ impl Collected {
         }
     }
 
-    /// What it took.
+    /// The bytes that it took.
     pub fn into_bytes(self) -> Vec<u8>
         ensures { result ≡ self.bytes }
     {

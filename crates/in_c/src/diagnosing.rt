@@ -4,7 +4,7 @@ use crate::answers::{ACCEPTED, Answer, MEMORY, REFUSED};
 use in_diagnosis::{diagnosis, diagnosis_data};
 use std::alloc::Global;
 
-/// What is told of a text that is refused.
+/// The diagnosis of a refused text.
 pub fn told(alloc: Global, text: &[u8]) -> Answer
     ensures { IsDiagnosis text.now result.bytes.items result.status }
 {

@@ -8,7 +8,7 @@ use in_export::export;
 use in_syntax::Fault;
 use std::alloc::{AllocError, Global};
 
-/// The line of a text's program; where the text is refused, what `check` says of it. Its only error is running out of memory.
+/// The line of a text's program; if the text is refused, the output of `check`. Its only error is running out of memory.
 pub fn exported(alloc: Global, text: &[u8]) -> Result<Answer, AllocError>
     ensures { IfOk result (λ a. IsExported text.now a.bytes.items a.status) }
 {

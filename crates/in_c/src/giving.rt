@@ -17,7 +17,7 @@ fn copy(bytes: &[u8], room: &mut [u8]) -> usize
     bytes.len()
 }
 
-/// Gives an answer to whoever has room for it, or, when out of memory, the line and the status of that. Answers the status.
+/// Writes an answer into the caller's room, or, when out of memory, the line `memory`. Returns the status.
 pub fn give(answer: Result<Answer, AllocError>, room: &mut [u8], length: &mut usize) -> u8
     ensures ok { IfOk answer (λ a. IsGiven a.bytes.items room.old room.new length.new × (a.status ≡ status result)) }
     ensures err { OnErr answer (IsGiven memory_line room.old room.new length.new × (status result ≡ memory_status)) }

@@ -3,10 +3,10 @@
 //!
 //! Nothing is kept from call to call, so that several threads may call at once, each on a text and a room of its own.
 //!
-//! There is an export for each call. It has its answer made in memory (`saying`, `exporting`, `diagnosing`) by a writer that keeps what it
-//! takes (`collecting`), and gives it to the caller's room (`giving`); or it answers by numbers (`refusing`, `verifying`). What is said is `in_program`'s `report_text` and `run_text`: the latter
-//! runs in turn, since an export has no runtime to give to `act`. No crate can use a static library, so its tests are `tests/run --only
-//! library`. `docs/use/LIBRARY.md` has the page for users.
+//! There is an export for each call. It has its answer made in memory (`saying`, `exporting`, `diagnosing`) by a writer that keeps what it takes
+//! (`collecting`), and gives it to the caller's room (`giving`); or it answers by numbers (`refusing`, `verifying`). The answers are those of
+//! `in_program`'s `report_text` and `run_text`: the latter runs with one worker, since an export has no runtime to give to `act`. No crate can use a
+//! static library, so its tests are `tests/run --only library`. `docs/use/LIBRARY.md` has the page for users.
 #![tactic(auto)]
 
 ghost use Rattle.std.specs.Prelude.{◌≡◌};
@@ -47,8 +47,8 @@ pub extern "C" fn inet_version() -> u32
     VERSION
 }
 
-/// What `inet check` writes on a text: as many first bytes of it as there is room for, and how many bytes the whole has. Answers the
-/// program's status.
+/// The output of `inet check` on a text: as many first bytes of it as there is room for, and how many bytes the whole has. Returns the program's
+/// status.
 #[unsafe(no_mangle)]
 pub extern "C" fn inet_check(alloc: Global, text: &[u8], room: &mut [u8], length: &mut usize) -> u8
     ensures { Answers Check text.now room.old room.new length.new result }
@@ -80,8 +80,8 @@ pub extern "C" fn inet_run(
     give(ran(alloc, limit, cells, text), room, length)
 }
 
-/// The diagnosis that `inet check` writes to standard error on a text that is refused; nothing where it is accepted, and none when out of
-/// memory. Answers the status of the text.
+/// The diagnosis that `inet check` writes to standard error on a refused text; nothing if it is accepted, and none when out of memory. Returns the
+/// status of the text.
 #[unsafe(no_mangle)]
 pub extern "C" fn inet_diagnose(
     alloc: Global,
@@ -94,8 +94,8 @@ pub extern "C" fn inet_diagnose(
     give(Ok(told(alloc, text)), room, length)
 }
 
-/// The same diagnosis as data: one JSON object and a line feed, as `in_diagnosis::diagnosis_data` says; nothing where the text is accepted, and
-/// none when out of memory. Answers the status of the text.
+/// The same diagnosis as data: one JSON object and a line feed, as `in_diagnosis::diagnosis_data` says; nothing if the text is accepted, and none
+/// when out of memory. Returns the status of the text.
 #[unsafe(no_mangle)]
 pub extern "C" fn inet_diagnose_data(
     alloc: Global,
@@ -108,8 +108,8 @@ pub extern "C" fn inet_diagnose_data(
     give(Ok(told_as_data(alloc, text)), room, length)
 }
 
-/// The accepted program as data, as the program `inet_export` writes it; where the text is refused, what `inet check` writes. Answers the
-/// program's status.
+/// The accepted program as data, as the program `inet_export` writes it; if the text is refused, the output of `inet check`. Returns the program's
+/// status.
 #[unsafe(no_mangle)]
 pub extern "C" fn inet_export(alloc: Global, text: &[u8], room: &mut [u8], length: &mut usize) -> u8
     ensures { AnswersExport text.now room.old room.new length.new result }
@@ -117,7 +117,7 @@ pub extern "C" fn inet_export(alloc: Global, text: &[u8], room: &mut [u8], lengt
     give(exported(alloc, text), room, length)
 }
 
-/// Why a text is refused, as numbers; all are 0 where it is accepted, and when out of memory. Answers the status of the text.
+/// Why a text is refused, as numbers; all are 0 if it is accepted, and when out of memory. Returns the status of the text.
 #[unsafe(no_mangle)]
 pub extern "C" fn inet_refusal(alloc: Global, text: &[u8], refusal: &mut Numbers) -> u8
     ensures { IsRefusedAs text.now refusal.new (status result) }
@@ -127,8 +127,8 @@ pub extern "C" fn inet_refusal(alloc: Global, text: &[u8], refusal: &mut Numbers
     status.0
 }
 
-/// Whether these steps build the rule of that number of the text's program, or its net, which has the number after the last rule's: the
-/// status is 0 where they do, that of wrong words where they don't, or that of the text. `in_certificates` says what the numbers are.
+/// Whether these steps build the rule of that number of the text's program, or its net, which has the number after the last rule's: the status is 0
+/// if they do, that of wrong words if they don't, or that of the text. `in_certificates` has the meaning of the numbers.
 #[unsafe(no_mangle)]
 pub extern "C" fn inet_verify(
     alloc: Global,
@@ -142,11 +142,11 @@ pub extern "C" fn inet_verify(
     verified(alloc, text, number, steps, parts).0
 }
 
-/// A run in which first the pairs of these numbers in the queue interact, one after another, and then at most `limit` pairs first in, first
-/// out, with `cells` cells of each class: the net as `inet run` writes it, and its counts. It breaks off at a choice of which there is no pair,
-/// or whose pair needs more cells than are free. Returns 0 if no pair is left, 3 at the limit, 4 if cells are too few, and the status of wrong
-/// words for a choice without a pair; nothing is written, and all numbers are 0, if the text is refused, a number is out of range, the net
-/// doesn't fit the cells, or memory runs out.
+/// A run in which first the pairs of these numbers in the queue interact, one after another, and then at most `limit` pairs first in, first out,
+/// with `cells` cells of each class: the net as `inet run` writes it, and its counts. It breaks off at a choice without a pair, or whose pair needs
+/// more cells than are free. Returns 0 if no pair is left, 3 at the limit, 4 if cells are too few, and the status of wrong words for a choice
+/// without a pair; nothing is written, and all numbers are 0, if the text is refused, a number is out of range, the net doesn't fit the cells, or
+/// memory runs out.
 #[unsafe(no_mangle)]
 pub extern "C" fn inet_run_by(
     alloc: Global,

@@ -1,4 +1,4 @@
-// What the program says of a text in memory.
+// The program's output on a text in memory.
 ghost use Rattle.std.specs.Prelude.{◌≡◌, ◌≢◌, IfOk, OnErr};
 ghost use Rattle.in_c.specs.Answers.{IsSaid, IsRunSaid};
 ghost use Rattle.in_program.specs.Acting.{fault_status, memory_status, report_action};
@@ -11,7 +11,7 @@ use in_program::{Status, report_text, run_text};
 use in_run::Limits;
 use std::alloc::{AllocError, Global};
 
-/// What was written with this status. A write fails only when out of memory, and then there is no answer.
+/// The bytes written, with this status. A write fails only when out of memory, and then this fails too.
 fn answer(writer: Collected, status: Status) -> Result<Answer, AllocError>
     ensures { IfOk result (λ a. (a.bytes ≡ writer.bytes) × (a.status ≡ status) × (status ≢ fault_status)) }
 {
@@ -22,7 +22,7 @@ fn answer(writer: Collected, status: Status) -> Result<Answer, AllocError>
     Ok(Answer { bytes, status })
 }
 
-/// What `check`, or `derive`, says of a text. Its only error is running out of memory.
+/// The output of `check`, or of `derive`, on a text. Its only error is running out of memory.
 pub fn reported(alloc: Global, derive: bool, text: &[u8]) -> Result<Answer, AllocError>
     ensures { IfOk result (λ a. IsSaid (report_action derive) text.now a.bytes.items a.status) }
 {
@@ -31,7 +31,7 @@ pub fn reported(alloc: Global, derive: bool, text: &[u8]) -> Result<Answer, Allo
     answer(writer, status)
 }
 
-/// What `run` says of a text, within limits, in turn.
+/// The output and the status of `run` with one worker on a text, within limits.
 fn run_said(alloc: Global, limits: Limits, text: &[u8]) -> Result<Answer, AllocError>
     ensures { IfOk result (λ a. IsSaid (Run limits) text.now a.bytes.items a.status) }
 {
@@ -40,8 +40,8 @@ fn run_said(alloc: Global, limits: Limits, text: &[u8]) -> Result<Answer, AllocE
     answer(writer, status)
 }
 
-/// What `run` with one worker says of a text, with at most `limit` interactions and `cells` cells of each class; that the words are wrong where
-/// one of the two is out of range. Its only error is running out of memory, which comes only where both are in range.
+/// The output of `run` with one worker on a text, with at most `limit` interactions and `cells` cells of each class; if one of the two is out of
+/// range, the status of wrong words. Its only error is running out of memory, which comes only if both are in range.
 pub fn ran(alloc: Global, limit: u64, cells: u32, text: &[u8]) -> Result<Answer, AllocError>
     ensures ok { IfOk result (λ a. IsRunSaid limit cells text.now a.bytes.items a.status) }
     ensures err { OnErr result (IsRunSaid limit cells text.now memory_line memory_status) }

@@ -137,7 +137,7 @@ module _ (sig : Signature) (f : ℕ) (a : ArenaView) (es : List End) (w : Net �
           let many : length (take (f + 2) es2) ≡ f + 2 = length-take-le (f + 2) es2 (let e = as_long in omega (arith, long, e)) in
           omega (arith, l, many)
 
-      -- before: a point that is none of the new ones
+      -- before: a point that isn't one of the new ones
       led_before : (u : Point ℕ) → Within u → u ≢ Free f → u ≢ Free (suc f) → w.partner u ≡ option_map point_of (stands_at a es u)
       led_before (Port y j) h one_new two = before.shown.wires (Port y j)
       led_before (Free n) h one_new two =

@@ -1,4 +1,4 @@
--- What the code of one joint, and of the loop over them, needs.
+-- The conditions of the code of one joint, and of the loop over joints.
 use Rattle.std.proofs.Common.{◌≡◌, ◌≢◌, ◌+◌, ◌-◌, ◌<◌, ◌≤◌, ℕ, suc, List, length, get_or, sym, ap, subst, ◌∙◌, arith}
 use Rattle.std.proofs.lemmas.Option.{get_or_from_slice_get}
 use Rattle.in_arena.specs.Arenas.{ArenaView, state_at}

@@ -148,7 +148,7 @@ module _ (own many e : ℕ) (a : ArenaView) (es : List End) (m : Net ℕ) (back 
   had_wire u v (forth s t) = some_here (m.partner u) one_side (ap m.partner s ∙ back_p)
   had_wire u v (across s t) = some_here (m.partner u) other_side (ap m.partner s ∙ back_q)
 
-  -- a point that is none of the two sides keeps a partner
+  -- a point that isn't one of the two sides keeps a partner
   has_wire : (u : Point ℕ) → u ≢ one_side → u ≢ other_side → IsSome (m.partner u) → IsSome (w.partner u)
   has_wire u one two some = let v = has_value (m.partner u) some in go v.0 v.1 (same_point v.0 one_side) (same_point v.0 other_side)
     where

@@ -1,4 +1,4 @@
--- A net from which agents were taken out is what is left and their copies side by side.
+-- A net is the agents left after some were taken out, and copies of those, side by side.
 use Rattle.std.proofs.Common.{◌≡◌, ◌⊎◌, ◌<◌, inl, inr, ℕ, zero, suc, true, false, Some, None, List, map, slice_get, refl, sym, ap, subst, ◌∙◌, arith}
 use Rattle.std.specs.Prelude.{option_map, IsSome}
 use Rattle.std.proofs.lemmas.Option.{same_Some, slice_get_within}
@@ -97,7 +97,7 @@ module _ (from left old new : ArenaView) (agents names : List CellNo) (numbers :
   free_left : (k e : ℕ) → slice_get ends k ≡ Some (0, e) → m.partner (Free e) ≡ option_map kept (n.partner (Free k))
   free_left k e at = shows_m.shown.wires (Free e) ∙ ap (option_map point_of) (split.rest k e at).1 ∙ point_moved (λ z. z) own (slice_get of_from k) ∙ ap (option_map kept) (sym (shows_n.shown.wires (Free k)))
 
-  -- what isn't there in what is left is none of the agents, and what is there in the copies is one
+  -- a live cell of the rest isn't one of the agents, and each live cell of the copies is one
   left_none : (y : ℕ) → IsLive (state_at left y) → IsNone y
   left_none y live k s = subst IsLive (out.gone k (record { 0 = y }) s) live
 
@@ -247,7 +247,7 @@ module _ (from left old new : ArenaView) (agents names : List CellNo) (numbers :
       go (inl at) = (1, name y, from_where at.0 (record { 0 = y }) at.1, symbol_copied y at ∙ e)
       go (inr none) = (0, y, refl, symbol_left y none ∙ e)
 
-  -- an agent of the part, and what it was
+  -- an agent of the part, and the old one
   part_agent : (z s : ℕ) → p.symbol z ≡ Some s → (y : ℕ) × IsOne y × (name y ≡ z)
   part_agent z s e = named_one z (word_live (state_at new z) s (sym (shows_p.shown.agents z) ∙ e))
 

@@ -1,4 +1,4 @@
--- Where the right member stands beside the net and the pair is retired, the cells show the net taken apart.
+-- Once the right member is beside the net and the pair is retired, the cells show the net taken apart.
 use Rattle.std.proofs.Common.{◌≡◌, ◌≢◌, ◌⊎◌, ◌+◌, ◌<◌, ◌≤◌, ℕ, suc, List, length, take, slice_get, Option, Some, None, option_map, refl, sym, ap, subst, ◌∙◌, inl, inr, arith}
 use native.Mathlib.Decide.{ℕ_discrete}
 use Rattle.std.specs.Prelude.{IsSome, IsSomeAnd}
@@ -119,7 +119,7 @@ module _ (t : Tables) (x : Interaction) (own many : ℕ) (old a : ArenaView) (en
       let w = mapped point_of (stands_at old (take own ends) p) q (sym (set.shown.wires p) ∙ h) in
       w.1 ∙ ap (λ (w : End). Some w) (sym (point_end w.0) ∙ ap end_of w.2)
 
-  -- .. and stands there yet
+  -- .. and is there yet
   stands_yet : (y i : ℕ) (q : Point ℕ) → y ≢ x.one.0 → y ≢ x.two.0 → n.partner (Port y i) ≡ Some q → end_at (state_at a y) i ≡ Some (end_of q)
   stands_yet y i q one two h =
       let s = symbol_of sig (n.symbol y) i (can.net.points (Port y i) q h) in

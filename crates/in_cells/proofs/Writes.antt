@@ -1,4 +1,4 @@
--- What stands at points after an end is written at one.
+-- The words at points after an end is written at one.
 use Rattle.std.proofs.Common.{◌≡◌, ◌≢◌, ◌<◌, ℕ, List, length, slice_get, Some, refl, sym, ap, subst, ◌∙◌, arith, get_or-set_same, get_or-set_other, length-set}
 use native.Mathlib.Decide.{ℕ_discrete}
 use Rattle.in_base.proofs.Places.{set_here, set_there}

@@ -127,7 +127,7 @@ number_or cells d n = go (cases_lt n (class_no d * cells)) (cases_lt n ((class_n
     go (inr l) (inl k) = inl (l, k)
     go (inr l) (inr k) = inr (λ h. (let a = h.1 in omega (arith, k, a)))
 
--- a cell that is live before and after is none of those that are free
+-- a cell that is live before and after isn't one of the free ones
 pub live_keeps_free : (a : ArenaView) (n : ℕ) (x : State) → HasAllCells a → IsLive (state_at a n) → IsLive x → (d : CellClass) → free_of (changed a n x) d ≡ free_of a d
 live_keeps_free a n x all was is d = go (class_of_number a.cells n (let i = live_inside a n was in omega (arith, i, all))) (number_or a.cells d n)
   where

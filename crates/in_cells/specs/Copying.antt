@@ -81,7 +81,7 @@ HasCellsFor a agents b = (d : CellClass) → count_by (is_for a d) agents ≤ fr
 abbrev pub HaveOwnNames : List CellNo → List CellNo → Type 0
 HaveOwnNames agents names = (j k : ℕ) (c d : CellNo) → slice_get agents j ≡ Some c → slice_get agents k ≡ Some d → name_in names c.0 ≡ name_in names d.0 → j ≡ k
 
--- each agent stands in a cell of its own, which was free and is of the class for its places, with what it leads to under the new numbers; all
+-- each agent is in a cell of its own, which was free and is of the class for its places, with what it leads to under the new numbers; all
 -- other cells are as they were
 pub record IsCopied (from : ArenaView) (agents : List CellNo) (ends : List ℕ) (names : List CellNo) (old new : ArenaView) : Type 0 where
   pub each : (k : ℕ) (c : CellNo) → slice_get agents k ≡ Some c

@@ -1,4 +1,4 @@
--- What copies are to nets.
+-- Copies as parts of nets.
 use Rattle.std.specs.Prelude.{◌≡◌, ◌<◌, ℕ, zero, suc, List, [], ◌∷◌, length, map, Option, Some, None, slice_get, option_map}
 use Rattle.in_arena.specs.Arenas.{ArenaView, NoneLeased, state_at}
 use Rattle.in_arena.specs.declared.content.CellNo.{CellNo}
@@ -28,7 +28,7 @@ pub record HasCopies (n : Net ℕ) (agents : List CellNo) (name number : ℕ →
   pub apart : (j k : ℕ) (c d : CellNo) → slice_get agents j ≡ Some c → slice_get agents k ≡ Some d → name c.0 ≡ name d.0 → c ≡ d
   pub others : (y : ℕ) → ((k : ℕ) (c : CellNo) → slice_get agents k ≡ Some c → name c.0 ≡ y → ⊥) → (new.symbol y ≡ old.symbol y) × ((i : ℕ) → new.partner (Port y i) ≡ old.partner (Port y i))
 
--- what the cells show afterwards has copies of the agents, whatever the lists of ends
+-- the net that the cells show afterwards has copies of the agents, for any lists of ends
 abbrev pub CopiesAreShown : Type 0
 CopiesAreShown = (from old new : ArenaView) (agents names : List CellNo) (ends : List ℕ) (of_from of_old of_new : List End) (n m w : Net ℕ) → IsShown from of_from n → IsShown old of_old m →
     IsCopied from agents ends names old new → IsShown new of_new w → HasCopies n agents (name_in names) (number_in ends) m w
@@ -57,13 +57,13 @@ abbrev pub number_of : (ℕ → ℕ) → (ℕ → ℕ) → ℕ → ℕ → ℕ
 number_of own number zero e = own e
 number_of own number (suc i) e = number e
 
--- what it leads to there, where part 0 has this list of ends and part 1 that
+-- its partner there, if part 0 has this list of ends and part 1 that
 abbrev pub leads_to : (ℕ → ℕ) → (ℕ → ℕ) → (ℕ → ℕ) → List End → List End → ℕ → ℕ → Option End
 leads_to name own number of_one of_two zero e = option_map (moved_end (λ z. z) own) (slice_get of_one e)
 leads_to name own number of_one of_two (suc zero) e = option_map (moved_end name number) (slice_get of_two e)
 leads_to name own number of_one of_two (suc (suc i)) e = None
 
--- the list has what each free end of both parts leads to, in this order of free ends
+-- the list has the partner of each free end of both parts, in this order of free ends
 pub record AreEndsOfBoth (one two : Net ℕ) (name own number : ℕ → ℕ) (of_one of_two : List End) (ends : List (ℕ × ℕ)) (of_both : List End) : Type 0 where
   pub many : length of_both ≡ length ends
   pub each : (k i e : ℕ) → slice_get ends k ≡ Some (i, e) → (number_of own number i e ≡ k) × (slice_get of_both k ≡ leads_to name own number of_one of_two i e)
@@ -94,7 +94,7 @@ abbrev pub LeadsIntoPart : List CellNo → List (ℕ × ℕ) → End → Type 0
 LeadsIntoPart agents ends (end.Cell c i) = (k : ℕ) × (slice_get agents k ≡ Some c)
 LeadsIntoPart agents ends (end.Free f) = (e : ℕ) × (slice_get ends f ≡ Some (1, e))
 
--- each free end of the net is one of the rest, part 0, or of the part, part 1, and there it leads to what it leads to in the net
+-- each free end of the net is one of the rest, part 0, or of the part, part 1, and there it has the same partner as in the net
 pub record AreEndsSplit (one two : Net ℕ) (agents : List CellNo) (name own number : ℕ → ℕ) (place : ℕ → ℕ → ℕ) (of_both of_one of_two : List End) (ends : List (ℕ × ℕ)) : Type 0 where
   pub many : length of_both ≡ length ends
   pub places : (k i e : ℕ) → slice_get ends k ≡ Some (i, e) → place i e ≡ k

@@ -34,7 +34,7 @@ abbrev pub AreInnerSides : Interaction → ℕ → ℕ → List End → Type 0
 AreInnerSides x own many ends = (e : ℕ) (u v : Point ℕ) → (redex_of x).member.partner (Free e) ≡ Some u →
     IsInnerAt (before x) (redex_of x) x.name u v → slice_get ends (own + many + e) ≡ Some (end_of v)
 
--- the cells showed the net; now the right member stands beside it, the pair is retired, and all other cells are as they were
+-- the cells showed the net; now the right member is beside it, the pair is retired, and all other cells are as they were
 pub record AreSet (t : Tables) (x : Interaction) (own many : ℕ) (old a : ArenaView) (ends : List End) : Type 0 where
   pub given : IsWith t x own many
   pub shown : IsShown old (take own ends) (before x)

@@ -10,7 +10,7 @@ use Rattle.in_arena.specs.declared.content.End.{End}
 use Rattle.in_arena.specs.declared.content.End.TheVariants.{Cell, Free}
 use Rattle.in_cells.specs.Copying.{is_for, moved}
 
--- each of these agents stands in a cell of the class for its places
+-- each of these agents is in a cell of the class for its places
 abbrev pub AreClassed : ArenaView → List CellNo → Type 0
 AreClassed a agents = (k : ℕ) (c : CellNo) (d : CellClass) → slice_get agents k ≡ Some c → IsNumberOf a.cells d c.0 → Holds d (places (state_at a c.0))
 

@@ -1,4 +1,4 @@
-// Writing what a point leads to.
+// Writing the partner of a point.
 ghost use Rattle.in_cells.specs.Shown.{IsPlaceAt, IsWritten, AreExchanged};
 
 use in_arena::{Arena, End, EndWord};

@@ -8,8 +8,8 @@ use crate::pairing::add_pair;
 use in_arena::{Arena, EndWord};
 use in_symbols::Symbols;
 
-/// Joins one boundary end: what stands at its outer side and what stands at its inner side lead to each other from now on. Where both are
-/// principal ports, their agents are a new pair.
+/// Joins one boundary end: its outer side and its inner side lead to each other from now on. If both sides are principal ports, their agents are a
+/// new pair.
 #[inline(always)]
 fn join(
     arena: &mut Arena,

@@ -25,7 +25,7 @@ pub fn pairs_are_added_once()
     ensures { PairsAreAddedOnce }
 {}
 
-/// What the cells show afterwards has the copied agents under their new names, with their wires, beside all that was there.
+/// The net that the cells show afterwards has the copied agents under their new names, with their wires, beside all that was there before.
 pub fn copies_are_shown()
     ensures { CopiesAreShown }
 {}

@@ -6,8 +6,8 @@ ghost use Rattle.in_cells.specs.TakingOut.{AreLedTo, AreNumberedAnew};
 use in_arena::{Arena, End, EndWord};
 use in_base::use_promise;
 
-/// Writes the new number of each free end at the place that leads to it: that of free end k is `numbers[k]`. The list has what each free end
-/// leads to, and stays as it is. It takes no memory.
+/// Writes the new number of each free end at the place that leads to it: that of free end k is `numbers[k]`. The list has the other end of each free
+/// end's wire, and isn't changed. It takes no memory.
 pub fn number_anew(arena: &mut Arena, ends: &[EndWord], numbers: &[u32])
     requires led { AreLedTo arena.old ends.now }
     requires numbers { length ends.now ≤ length numbers.now }

@@ -1,4 +1,4 @@
-// The pair that stands where two principal ports are joined.
+// The active pair of two principal ports that are joined.
 ghost use Rattle.std.specs.Prelude.{◌≡◌, ◌≢◌, ◌<◌, ◌≤◌, ◌+◌, MatchOption, Some, vec_len, vec_capacity};
 ghost use Rattle.in_arena.specs.Arenas.{state_at};
 ghost use Rattle.in_arena.specs.States.{IsLive, word_of};

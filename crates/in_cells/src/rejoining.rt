@@ -13,9 +13,8 @@ use crate::pairing::add_pair;
 use in_arena::{Arena, EndWord};
 use in_symbols::Symbols;
 
-/// Joins the last two free ends of a net, which has `own` more: what the one leads to and what the other leads to lead to each other from now
-/// on, and the two are gone. Where both were led to by principal ports, their agents are a new pair, which is added to `made`. A cycle of the
-/// two alone is dropped. It takes no memory.
+/// Joins the last two free ends of a net, which has `own` more: their partners lead to each other from now on, and the two are gone. If both
+/// partners are principal ports, their agents are a new pair, which is added to `made`. A cycle of the two alone is dropped. It takes no memory.
 pub fn join_last(
     arena: &mut Arena,
     ends: &mut [EndWord],

@@ -1,4 +1,4 @@
--- What steps build, told of the numbers that they are.
+-- The net that steps build, by the numbers of the steps.
 use Rattle.std.proofs.Common.{◌≡◌, ◌↔◌, ◌∙◌, ℕ, Bool, IsTrue, IfOk, List, Option, Some, Result, option_map, ap, subst, sym}
 use Rattle.in_open_nets.specs.OpenNets.{OpenNet}
 use Rattle.in_open_nets.specs.declared.derivations.Step.{Step}

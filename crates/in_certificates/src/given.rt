@@ -51,7 +51,7 @@ fn graft(alloc: Global, given: GivenStep, parts: &[u32]) -> Result<Option<Step>,
     }
 }
 
-/// The step that these numbers are; nothing where they are none.
+/// The step with these numbers; `None` if they are those of no step.
 fn step_of(alloc: Global, given: GivenStep, parts: &[u32]) -> Result<Option<Step>, AllocError>
     ensures { IfOk result (λ found. found ≡ step_of parts.now given) }
 {
@@ -79,7 +79,7 @@ fn step_of(alloc: Global, given: GivenStep, parts: &[u32]) -> Result<Option<Step
     }
 }
 
-/// The steps that these numbers are; nothing where one of them is none.
+/// The steps with these numbers; `None` if one of them has the numbers of no step.
 pub(crate) fn steps_of(
     alloc: Global,
     given: &[GivenStep],

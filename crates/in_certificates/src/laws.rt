@@ -1,8 +1,8 @@
-//! A law over what verifying given steps answers, for whoever reasons above it. No function here does anything.
+//! A law on the result of verifying given steps, for proofs above it. No function here does anything.
 
 ghost use Rattle.in_certificates.specs.Laws.{StepsAreJudgedOnce};
 
-/// A text, an item of it and steps have one answer: yes, no, or the text's one refusal. The law doesn't cover running out of memory.
+/// A text, an item of it and steps have one result: yes, no, or the text's one refusal. The law doesn't cover running out of memory.
 pub fn steps_are_judged_once()
     ensures { StepsAreJudgedOnce }
 {}

@@ -1,6 +1,6 @@
-//! Certificates that somebody else made: steps that come as numbers, of which is asked whether they build a rule or the net of a text.
+//! Certificates from elsewhere: steps given as numbers, and the question whether they build a rule or the net of a text.
 //!
-//! `given` reads the steps, and `verifying` has the call, which asks `in_simple::verify`; `laws` says that it has one answer. The static
+//! `given` reads the steps, and `verifying` has the call, which uses `in_simple::verify`; by `laws` it has one result. The static
 //! library gives it to C.
 #![tactic(auto)]
 

@@ -1,4 +1,4 @@
--- A chain of passes: the first one refuses, or the rest answers.
+-- A chain of passes: the first one refuses, or the result is that of the others.
 use Rattle.std.proofs.Common.{◌≡◌, inl, inr, List, length, ℕ, ◌<◌, ◌^◌, Result, Ok, Err, sym, subst, arith}
 use Rattle.std.specs.Prelude.{None, Some}
 use Rattle.std.specs.Result.{result_err}

@@ -1,4 +1,4 @@
--- A text has one answer.
+-- A text has one result.
 use Rattle.std.proofs.Common.{◌≡◌, ℕ, List, Result, Ok, Err, refl, sym, subst}
 use Rattle.in_syntax.specs.declared.faults.Fault.{Fault}
 use Rattle.in_syntax.specs.declared.faults.Fault.TheVariants.{Refused, Memory}
@@ -45,7 +45,7 @@ net_opens s t n o tabled builds opens = is_open_net t n o (tables_numbered s t t
 rule_opens : (s : Source) (t : Tables) (i : ℕ) (p : RuleParts) (o : OpenNet) → Tabulates s (Ok t) → BuildsRule s t i (Ok p) → OpensRule t p o → IsOpenNet o
 rule_opens s t i p o tabled builds opens = rules_open t p o (tables_numbered s t tabled.0) (rule_whole t builds.0 p builds.2) builds.2.1.member.whole builds.2.0 opens
 
--- ---- each pass up to the net has one answer, and then the rest
+-- ---- each pass up to the net has one result, and then the others
 
 module _ (s : Source) (t : Tables) (of_text : IsOfText s) (tabled : Tabulates s (Ok t)) where
   all_one : (rules : List RuleParts) → BuildsRules s t (Ok rules) → AllOne t rules

@@ -1,4 +1,4 @@
--- Each pass that goes rule by rule has one answer, and so have the steps.
+-- Each pass that goes rule by rule has one result, and so have the steps.
 use Rattle.std.proofs.Common.{◌≡◌, inl, inr, ℕ, ◌<◌, List, length, Some, slice_get, Ok, Err, sym, ◌∙◌, ap, subst, arith}
 use Rattle.std.proofs.lemmas.Bool.{cases_order}
 use Rattle.std.proofs.lemmas.Option.{slice_get_within}

@@ -1,4 +1,4 @@
--- What checking a text answers: its tree, its tables, its rules and its net, their types, one rule for each pair, and the steps that
+-- The result of checking a text: its tree, its tables, its rules and its net, their types, one rule for each pair, and the steps that
 -- build its rules and its net, one after another.
 use Rattle.std.specs.Prelude.{◌≡◌, ◌⊎◌, ℕ, ◌<◌, List, length, slice_get, Some, Result, Ok, Err}
 use Rattle.std.specs.List.{AllByRecursion}
@@ -55,16 +55,16 @@ abbrev pub TypesAll : Tables → List RuleParts → Parts → Result (Unit {0}) 
 TypesAll t rules n (Ok u) = TypesRules t rules (Ok tt) × Types t n (Ok tt)
 TypesAll t rules n (Err r) = TypesRules t rules (Err r) ⊎ (TypesRules t rules (Ok tt) × Types t n (Err r))
 
--- the same as an answer of a pass, which takes no memory
+-- the same as the result of a pass, which takes no memory
 abbrev pub TypePasses : Tables → List RuleParts → Parts → Result (Unit {0}) Fault → Type 0
 TypePasses t rules n (Ok u) = TypesAll t rules n (Ok u)
 TypePasses t rules n (Err (Refused r)) = TypesAll t rules n (Err r)
 TypePasses t rules n (Err (Memory e)) = ⊥
 
--- ---- pass by pass: each answers, and, where it is Ok, the rest of them do
+-- ---- pass by pass: each has a result, and, if it is Ok, the others have
 
 module _ (t : Tables) (rules : List RuleParts) (n : Parts) where
-  -- what the passes answered is kept
+  -- the results of the passes are kept
   abbrev pub KeepsAnswers : Cells → List Certificate → Certificate → Result Program Fault → Type 0
   KeepsAnswers numbers cs c (Ok p) = p ≡ record { tables = t; rules = rules; net = n; numbers = numbers; rule_certificates = cs; net_certificate = c }
   KeepsAnswers numbers cs c (Err (Refused r)) = ⊥

@@ -1,4 +1,4 @@
--- Laws over what checking a text answers.
+-- Laws on the result of checking a text.
 use Rattle.std.specs.Prelude.{◌≡◌, ℕ, List}
 use Rattle.in_syntax.specs.Answers.{IsOneBy}
 use Rattle.in_cover.specs.Laws.{AreOneTable}
@@ -14,6 +14,6 @@ pub record AreOneProgram (p q : Program) : Type 0 where
   pub rule_certificates : p.rule_certificates ≡ q.rule_certificates
   pub net_certificate : p.net_certificate ≡ q.net_certificate
 
--- all that checking may answer a text agrees
+-- all results that checking may have for a text agree
 abbrev pub TextsAreCheckedOnce : Type 0
 TextsAreCheckedOnce = (text : List ℕ) → IsOneBy AreOneProgram (IsChecked text)

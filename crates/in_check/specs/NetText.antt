@@ -62,7 +62,7 @@ pair_lines sig n d (q ∷ qs) = agent_term sig n (term sig n d) q.0 ++ (Bytes (3
 abbrev pub text_parts : {A : Type 0} → Signature → Words → Net A → ℕ → List (A × A) → List (TextPart A)
 text_parts sig words n d queue = free_lines sig words n d 0 (length n.free) ++ pair_lines sig n d queue
 
--- points are told apart as agents are
+-- points are distinguished as agents are
 abbrev pub same_point : {A : Type 0} → (A → A → Bool) → Point A → Point A → Bool
 same_point same (Port x i) (Port y j) = same x y && nat_eq i j
 same_point same (Port x i) (Free k) = false

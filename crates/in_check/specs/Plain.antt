@@ -79,7 +79,7 @@ PlainSteps = (p q : PlainParts) (a b : AgentNo) → IsPlain p → IsPairAt p a b
 abbrev pub PlainStepsUnderNames : Type 0
 PlainStepsUnderNames = (p q : PlainParts) (a b : AgentNo) (name : ℕ → ℕ) → IsPlain p → IsPairAt p a b → StepsAs p a b name q → IsPlain q × ((k : ℕ) → IsReachedBy p k → IsReachedBy q (suc k))
 
--- .. and of an accepted program what a step leads to is one: its net with its numbers, its wires in their order, and its free ends
+-- .. and of an accepted program a step leads to one net: its net with its numbers, its wires in their order, and its free ends
 abbrev pub PlainStepsAreOne : Type 0
 PlainStepsAreOne = (text : List ℕ) (p q r : PlainParts) (a b : AgentNo) → IsAccepted text p.program → IsPlain p → IsPairAt p a b → count_by is_some p.net.cells ≤ most_agents →
     IsWhole q.net → IsWhole r.net → StepsTo p a b q → StepsTo p a b r → q ≡ r

@@ -1,4 +1,4 @@
--- What is kept of a program that is accepted.
+-- The invariant of an accepted program.
 use Rattle.std.specs.Prelude.{◌<◌, List, length, slice_get, Option, Some, is_some, count_by}
 use Rattle.in_symbols.specs.Tables.{Tables}
 use Rattle.in_net.specs.Parts.{Parts}

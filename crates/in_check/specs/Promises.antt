@@ -1,4 +1,4 @@
--- What is said of every net that an accepted program reaches. Lafont 1990: reduction preserves types, each active pair has its rule, and a
+-- The promises on every net that an accepted program reaches. Lafont 1990: reduction preserves types, each active pair has its rule, and a
 -- net that comes from a semi-simple one has no vicious circle. The sentences on paths, on what is ahead of an agent and on the text are
 -- this project's own.
 use Rattle.std.specs.Prelude.{◌≡◌, ◌⊎◌, ◌↔◌, ℕ, suc, nat_eq, List, [], length, map, Some, IsSome}

@@ -1,4 +1,4 @@
--- What a program reaches: nets after any number of interactions, the agents under any names. Lafont 1990 reduces a net by interactions,
+-- The nets that a program reaches: after any number of interactions, the agents under any names. Lafont 1990 reduces a net by interactions,
 -- one active pair after another, and takes nets up to the names of their agents.
 use Rattle.std.specs.Prelude.{◌≡◌, ℕ, zero, suc, Some, slice_get}
 use Rattle.in_net.specs.Interactions.{Redex, IsStep}
@@ -25,7 +25,7 @@ pub record IsInteraction {A : Type 0} (p : System) (n : Net A) (x : Redex A ℕ)
   pub at : IsPairWithRule p n x
   pub step : IsStep p.symbols n x name after
 
--- the net stands after a run of a given number of interactions
+-- the net is after a run of a given number of interactions
 pub data Reached {A : Type 0} (p : System) : ℕ → Net A → Type 0 where
   at_start : (f : ℕ → A) (n : Net A) → IsRenamed f p.start n → Reached p zero n
   then_step : (k : ℕ) (n : Net A) (x : Redex A ℕ) (name : ℕ → A) (after : Net A) → Reached p k n → IsInteraction p n x name after → Reached p (suc k) after

@@ -33,7 +33,7 @@ pub enum Evidence {
     Stuck(StuckPart),
 }
 
-/// An open net with the steps that build it; or its refusal, with this code, and then `evidence` has what is stuck.
+/// Derives an open net. If a part is stuck, the refusal has this code, and `evidence` gets the stuck part.
 fn certify(
     alloc: Global,
     shape: OpenNet,

@@ -34,7 +34,7 @@ pub struct Certificate {
     pub derivation: Derivation,
 }
 
-/// What the passes answered of a text: its tables, its rules and its net, the number of the rule of every two matching symbols, and
+/// The results of the passes on a text: its tables, its rules and its net, the number of the rule of every two matching symbols, and
 /// for each rule and the net the steps that build it.
 #[derive(Drop)]
 pub(crate) struct Passed {
@@ -85,7 +85,7 @@ impl Model for Checked {
 }
 
 impl Checked {
-    /// The program is the accepted one of some text: what its proof rests on. The call does nothing.
+    /// The program is the accepted one of some text, for proofs. The call does nothing.
     pub fn is_accepted(&self)
         ensures { (text : List ℕ) × IsAccepted text self.now }
     {

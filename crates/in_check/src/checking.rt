@@ -40,7 +40,7 @@ use in_typing::{type_net, type_rule};
 use sqlite_items::Items;
 use std::alloc::{AllocError, Global};
 
-/// What a text declares: its tables, its rules and its net.
+/// The parts of a text: its tables, its rules and its net.
 #[derive(Drop)]
 struct Declared {
     symbols: Symbols,
@@ -85,7 +85,7 @@ fn type_all(symbols: &Symbols, rules: &[Rule], net: &Net) -> Result<(), Refusal>
     type_net(symbols, net)
 }
 
-/// The same as an answer of a pass.
+/// Types the rules and the net; a refusal is a fault, as other passes return it.
 fn type_pass(symbols: &Symbols, rules: &[Rule], net: &Net) -> Result<(), Fault>
     requires rules { AllByRecursion (IsRuleOver symbols.now) rules.now }
     requires net { IsOver symbols.now net.now }
@@ -98,7 +98,7 @@ fn type_pass(symbols: &Symbols, rules: &[Rule], net: &Net) -> Result<(), Fault>
     }
 }
 
-/// What the passes answered is kept, once the steps of the net are found.
+/// Derives the net, and puts the results of all passes together.
 fn check_net_steps(
     alloc: Global,
     declared: Declared,
@@ -331,9 +331,9 @@ pub fn check(alloc: Global, text: &[u8]) -> Result<Checked, Fault>
     Ok(Checked { passed })
 }
 
-/// Why a program is refused, of which the tree is given: as `check` refuses a text of that tree; nothing where it is accepted. `evidence`
+/// The refusal of a program by its tree: as `check` refuses a text of that tree; `None` if it is accepted. `evidence`
 /// gets the parts that explain E10, E12 or E13: the two ends of a wire whose types don't fit, or the open net that no steps build, with its
-/// first part in which no node splits. The only error is running out of memory, and then `evidence` is as it was.
+/// first part in which no node splits. The only error is running out of memory, and then `evidence` is as before.
 pub fn refusal_of(
     alloc: Global,
     source: &Source,

@@ -1,11 +1,11 @@
-//! Laws over what checking a text answers, for whoever reasons above it. No function here does anything.
+//! Laws on the result of checking a text, for proofs above them. No function here does anything.
 
 ghost use Rattle.in_check.specs.Laws.{TextsAreCheckedOnce};
 ghost use Rattle.in_check.specs.Plain.{PairsHaveTheirRule, PlainAsPromised, PlainStarts, PlainSteps, PlainStepsAreOne, PlainStepsUnderNames};
 ghost use Rattle.in_check.specs.Promises.{AcceptedIsSound, RenamedStepsAreRenamed, RenamingChangesNothing, SoundReachesAsPromised, StepsReach};
 
-/// A text has one answer: it is accepted or refused, never both; two refusals are equal, and two accepted programs have equal tables,
-/// rules, nets, numbers of rules, open nets and steps. The law doesn't cover running out of memory.
+/// A text has one result: it is accepted or refused, never both; two refusals are equal, and two accepted programs have equal tables, rules, nets,
+/// numbers of rules, open nets and steps. The law doesn't cover running out of memory.
 pub fn texts_are_checked_once()
     ensures { TextsAreCheckedOnce }
 {}
@@ -32,8 +32,7 @@ pub fn renaming_changes_nothing()
     ensures { RenamingChangesNothing }
 {}
 
-/// The same interaction of two nets that differ in names alone leads to nets that differ in names alone, whatever the new agents are
-/// named in each.
+/// The same interaction of two nets that differ in names alone leads to nets that differ in names alone, however the new agents are named in each.
 pub fn renamed_steps_are_renamed()
     ensures { RenamedStepsAreRenamed }
 {}
@@ -53,7 +52,7 @@ pub fn plain_steps_under_names()
     ensures { PlainStepsUnderNames }
 {}
 
-/// Of an accepted program, what a step at an active pair leads to is one.
+/// In an accepted program, a step at an active pair leads to one net.
 pub fn plain_steps_are_one()
     ensures { PlainStepsAreOne }
 {}

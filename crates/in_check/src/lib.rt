@@ -1,12 +1,12 @@
-//! The one door to a program: its text is checked by all passes, one after another, and what is accepted is kept, with the steps
-//! that build its rules and its net.
+//! The one door to a program: its text is checked by all passes, one after another, and an accepted program is kept, with the steps that build its
+//! rules and its net.
 //!
-//! `checking` calls the passes in their order, rule by rule where a pass is about rules, each pass in a small function that goes on with
-//! the rest of them; `certifying` has the last ones, on the open net of each rule and of the net. `Checked` keeps what they answered.
-//! `misfits` looks up the two ends of a wire whose types don't fit, for the diagnosis.
+//! `checking` calls the passes in their order, rule by rule where a pass is about rules, each pass in a small function that then calls the others;
+//! `certifying` has the last ones, on the open net of each rule and of the net. `Checked` keeps their results. `misfits` looks up the two ends
+//! of a wire whose types don't fit, for the diagnosis.
 //!
 //! `plain` is the slow reducer over plain nets: it borrows a `Checked`, finds the rule of an active pair with `rule_of` and leaves the
-//! work to `interact`. What it keeps is that its net is one which its program reaches.
+//! work to `interact`. Its invariant is that its program reaches its net.
 #![tactic(auto)]
 
 mod certifying;

@@ -1,4 +1,4 @@
-//! The two ends of a wire whose types don't fit: for who tells why a program is refused.
+//! The two ends of a wire whose types don't fit, for the diagnosis.
 use in_net::{AgentNo, Net, Point, Rule};
 use in_symbols::{SymbolNo, Symbols};
 use in_syntax::Place;
@@ -64,7 +64,7 @@ fn boundary_end(symbols: &Symbols, rule: &Rule, number: u32) -> Option<WireEnd> 
     })
 }
 
-/// The two points of the wire of a net that stands at a place of the text.
+/// The two points of the net's wire whose place is this one.
 fn wire_at(net: &Net, place: Place) -> Option<(Point, Point)> {
     if !net.is_built() {
         return None;
@@ -77,7 +77,7 @@ fn wire_at(net: &Net, place: Place) -> Option<(Point, Point)> {
     None
 }
 
-/// What stands at a point of the net.
+/// The end of a wire at a point of the net.
 fn net_end(net: &Net, point: Point) -> Option<WireEnd> {
     match point {
         Point::Port(agent, port) => agent_end(net, agent, port),
@@ -94,7 +94,7 @@ fn misfit_in_net(net: &Net, place: Place) -> Option<Misfit> {
     })
 }
 
-/// What stands at a point of a rule's right member.
+/// The end of a wire at a point of a rule's right member.
 fn rule_end(symbols: &Symbols, rule: &Rule, point: Point) -> Option<WireEnd> {
     match point {
         Point::Port(agent, port) => agent_end(rule.member(), agent, port),
@@ -122,7 +122,7 @@ fn rule_before(rules: &[Rule], place: Place) -> Option<&Rule> {
     last
 }
 
-/// The ends of the wire at a place of the text, in the net or in the rule in which the place stands.
+/// The ends of the wire at a place of the text, in the net or the rule around that place.
 pub(crate) fn misfit_at(
     symbols: &Symbols,
     rules: &[Rule],

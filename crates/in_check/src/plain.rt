@@ -40,7 +40,7 @@ impl<'a> Plain<'a> {
         Ok(Plain { checked, net })
     }
 
-    /// The net as it is now. It is over the program's tables.
+    /// The present net. It is over the program's tables.
     pub fn net(&self) -> &Net
         ensures net { result.now ≡ self.now.net }
         ensures over { IsOver self.now.program.tables self.now.net }

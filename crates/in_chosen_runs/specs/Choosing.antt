@@ -15,7 +15,7 @@ abbrev pub StepsBy : MachineParts → List ℕ → MachineParts → Type 0
 StepsBy m [] after = after ≡ m
 StepsBy m (i ∷ choices) after = (next : MachineParts) × StepsAt m i next × StepsBy next choices after
 
--- there is no pair of that number, or what it needs isn't free
+-- there is no pair of that number, or the cells that it needs aren't free
 abbrev pub CannotStep : MachineParts → ℕ → Type 0
 CannotStep m i = (length m.queue ≤ i) ⊎ (HasRoomAt m i → ⊥)
 

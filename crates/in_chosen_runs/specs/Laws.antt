@@ -30,6 +30,6 @@ ChosenRunsAreRefusedOnce = (p : Program) (choices : List ℕ) (limit cells : ℕ
     ((o : Chosen) → RunsAsChosen p choices limit cells (Ok o) → ⊥)
     × ((d : CellClass) (more less : ℕ) → RunsAsChosen p choices limit cells (Err (start.Full d more less)) → (c ≡ d) × (need ≡ more) × (free ≡ less))
 
--- what such a run came to is a machine
+-- the end of such a run is a machine
 abbrev pub ChosenRunsAreMachines : Type 0
 ChosenRunsAreMachines = (text : List ℕ) (p : Program) (choices : List ℕ) (limit cells : ℕ) (o : Chosen) → IsAccepted text p → cells ≤ most_cells → RunsAsChosen p choices limit cells (Ok o) → IsMachine o.machine

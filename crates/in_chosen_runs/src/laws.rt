@@ -1,4 +1,4 @@
-//! Laws over runs whose first pairs are chosen, for whoever reasons above them. No function here does anything.
+//! Laws on runs whose first pairs are chosen, for proofs above them. No function here does anything.
 
 ghost use Rattle.in_chosen_runs.specs.Laws.{ChosenRunsAreMachines, ChosenRunsAreOne, ChosenRunsAreRefusedOnce, StartsAreRefusedOnce};
 
@@ -18,7 +18,7 @@ pub fn chosen_runs_are_refused_once()
     ensures { ChosenRunsAreRefusedOnce }
 {}
 
-/// What such a run of an accepted program came to is a machine: what is said of machines holds of it.
+/// The end of such a run of an accepted program is a machine: the laws on machines hold of it.
 pub fn chosen_runs_are_machines()
     ensures { ChosenRunsAreMachines }
 {}

@@ -25,10 +25,10 @@ fn allowed(chosen: usize, choices: &[u32], limit: u64) -> u64
     if chosen < choices.len() { 0 } else { limit }
 }
 
-/// Runs a program: first the interactions of the pairs of these numbers in the queue, from 0, one after another, and then, where all were
-/// done, at most `limit` interactions first in, first out. It breaks off at the first choice of which there is no pair, or whose pair needs
-/// more cells than are free; and after the choices where no pair is left, or the first one needs more. Each interaction is Lafont 1990's, and
-/// takes no memory. Refused only where no machine starts.
+/// Runs a program: first the interactions of the pairs of these numbers in the queue, from 0, one after another, and then, where all were done, at
+/// most `limit` interactions first in, first out. It breaks off at the first choice without a pair, or whose pair needs more cells than are free;
+/// and after the choices if no pair is left, or the first one needs more. Each interaction is Lafont 1990's, and takes no memory. Refused only if no
+/// machine starts.
 pub fn run_chosen<'a>(
     alloc: Global,
     checked: &'a Checked,

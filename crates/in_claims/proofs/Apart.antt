@@ -1,4 +1,4 @@
--- What the rule of a board says of claims: none is made twice, none is left out once a seat is done, and none was made where all seats are new.
+-- The claims under the rule of a board: none is made twice, none is left out once a seat is done, and none was made while all seats are new.
 use Rattle.std.proofs.Common.{◌≡◌, inl, inr, ℕ, zero, suc, ◌≤◌, ◌<◌, min, true, false, cond, nat_lt, Some, List, [], ◌∷◌, map, length, get_or, replicate, refl, sym, ap, subst, ◌∙◌, arith, eqb, Contains, count_by, slice_get}
 use Rattle.std.proofs.Math.ListN.{get_or-eq_default}
 use Rattle.std.proofs.lemmas.Bool.{cases_lt, cases_eq}
@@ -48,7 +48,7 @@ stands hands k seat place at =
       is = subst (λ (l : List ℕ). get_or l place 0 ≡ k) same (get_or_from_slice_get (numbers_of hands seat) place k 0 at);
     }
 
--- how often the number stands in this list
+-- how often the number is in this list
 abbrev count : ℕ → List ℕ → ℕ
 count k numbers = count_by (λ j. eqb j k) numbers
 
@@ -99,7 +99,7 @@ all_claimed limit word hands claims some_done k lt =
 is_done : (h : Hand) → h.done ≡ true → 1 ≤ cond h.done 1 0
 is_done h e = let one : Path ℕ (cond h.done 1 0) 1 = ap (λ b. cond b 1 0) e in omega arith
 
--- a number that is counted in a seat's list stands there
+-- a number that is counted in a seat's list is there
 place_of : (hands : List Hand) (k seat : ℕ) → seat < length hands → 1 ≤ count k (of_seat hands seat).numbers → (place : ℕ) × (slice_get (numbers_of hands seat) place ≡ Some k)
 place_of hands k seat inside counted =
     let same : numbers_of hands seat ≡ (of_seat hands seat).numbers = get_or-map (λ (u : Hand). u.numbers) hands seat nobody [] inside in

@@ -1,4 +1,4 @@
--- The steps of a board keep its rule: a claim, one seat more, two seats taken together, and what the seat with all hands is told.
+-- The steps of a board keep its rule: a claim, one seat more, and two seats taken together; and the claims in the seat that has all hands.
 use Rattle.std.proofs.Common.{◌≡◌, ℕ, ◌+◌, ◌-◌, ◌≤◌, ◌<◌, ◌%◌, ◌^◌, min, Bool, true, false, cond, nat_lt, List, [], ◌∷◌, ◌++◌, length, refl, sym, ap, subst, ◌∙◌, arith, inl, inr, set, get_or, get_or-set_same, length-set, length-append, ltb-true, ltb-false, eqb, All, count_by}
 use Rattle.std.specs.List.{sum_by}
 use Rattle.std.specs.List.Sorted.{IsStrictlyIncreasing}

@@ -1,4 +1,4 @@
--- Sums over lists: two terms of one sum, a positive term of a positive sum, larger terms, and where a number stands that is counted.
+-- Sums over lists: two terms of one sum, a positive term of a positive sum, larger terms, and the place of a number that is counted.
 use Rattle.std.proofs.Common.{◌≡◌, ◌≢◌, inl, inr, ℕ, zero, suc, ◌+◌, ◌≤◌, ◌<◌, Bool, true, false, cond, List, [], ◌∷◌, length, get_or, take, sym, ap, arith, eqb, nat_lt, count_by, All}
 use Rattle.std.specs.List.{sum_by}
 use Rattle.std.proofs.lemmas.Bool.{cases_lt}

@@ -20,7 +20,7 @@ pub record SeatView : Type 0 where
 abbrev pub fresh : BoardView → SeatView
 fresh board = record { board = board; numbers = []; done = false }
 
--- what a claim answers, of its seat before and after: a number below the limit, which the seat has then, or nothing, and the seat is done
+-- the result of a claim, by its seat before and after: a number below the limit, which the seat has then; or none, and the seat is done
 abbrev pub Claims : SeatView → Option ℕ → SeatView → Type 0
 Claims old (Some k) new = (k < old.board.limit) × (new ≡ record { board = old.board; numbers = old.numbers ++ k ∷ []; done = old.done })
 Claims old None new = new ≡ record { board = old.board; numbers = old.numbers; done = true }

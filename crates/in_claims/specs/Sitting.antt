@@ -1,4 +1,4 @@
--- What contracts see of the fields of a board and of a seat, and what these fields keep.
+-- The views of a board and of a seat, and the invariants of their fields.
 use Rattle.std.specs.Prelude.{◌≡◌, ◌<◌, ◌≤◌, false, List, [], ◌∷◌}
 use Rattle.in_claims.specs.Rule.{hand}
 use Rattle.in_claims.specs.Seats.{BoardView, SeatView, hand_of}

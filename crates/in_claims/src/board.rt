@@ -50,8 +50,8 @@ impl Model for Seat {
 }
 
 impl Board {
-    /// A board that hands out the numbers below `limit`, none of which is claimed yet, and its 1 to 64 seats: these are all that it
-    /// has, and all that it will have. Refused only when out of memory.
+    /// A board of the numbers below `limit`, none of which is claimed yet, and all its seats, 1 to 64. It gets no others. Refused only when out of
+    /// memory.
     pub fn new(alloc: Global, limit: u32, seats: u32) -> Result<(Board, Vec<Seat>), AllocError>
         requires some { 0 < seats }
         requires most { seats ≤ 64 }
@@ -91,9 +91,9 @@ impl Board {
         }
     }
 
-    /// Takes all seats of this board back, and answers how many claims were made, those that found nothing among them. What the seats
-    /// hold together are the claims of the board: each number below that answer and below the limit once, and no other; and as many
-    /// seats are done as the answer is past the limit. It refuses nothing, waits for nobody and takes no memory.
+    /// Takes all seats of this board back, and returns how many claims were made, those that found nothing among them. What the seats hold together
+    /// are the claims of the board: each number below that count and below the limit once, and no other; and as many seats are done as the count is
+    /// past the limit. It refuses nothing, waits for nobody and takes no memory.
     pub fn take_back(&self, seats: Vec<Seat>) -> u64
         requires of_this_board { All (λ s. s.board ≡ self.now) seats.items }
         requires all { length seats.items ≡ self.now.seats }

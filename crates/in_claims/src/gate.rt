@@ -1,4 +1,4 @@
-// What a worker passes between a claim and the work on it.
+// The gate that a worker passes between a claim and the work on it.
 
 /// A place that each worker passes once it has claimed a job, before it does anything for it.
 pub trait Gate {

@@ -1,4 +1,4 @@
-// What the table of a board keeps of its seats, and what its steps do to it.
+// The values in the table of a board for its seats, and its steps.
 
 use atomic_table::{Join, Play, Split, TableRule};
 use std::collections::LinkedList;
@@ -10,8 +10,8 @@ pub struct Size {
     pub seats: u32,
 }
 
-// What a seat knows: how large its board is, the numbers that it claimed, and whether it is done. Of the shares of the board, one for
-// each of its seats, it has some, and a seat that a caller has got has one. No value of it is made.
+// The knowledge of a seat: how large its board is, the numbers that it claimed, and whether it is done. Of the shares of the board, one for
+// each of its seats, it has some, and a seat of a caller has one. No value of it is made.
 pub struct Hand {
     shares: u64,
     size: Size,
@@ -19,7 +19,7 @@ pub struct Hand {
     done: bool,
 }
 
-// What the table has for a seat: its hand alone, or the hands of all seats that were taken together, the first one first.
+// The table's value for a seat: its hand alone, or the hands of all seats that were taken together, the first one first.
 pub type Hands = LinkedList<Hand>;
 
 // The rule of the table of a board.
@@ -68,7 +68,7 @@ impl Join<Hands> for Together {
     ghost spent = { [] };
 }
 
-// Whoever has the hands of all seats knows that they are the claims of the board.
+// The hands of all seats are the claims of the board.
 pub struct Told;
 
 impl Play<(), Hands> for Told {

@@ -1,4 +1,4 @@
-//! Laws over the rule of a board, for whoever claims from several threads. What they ask of hands, `Board::take_back` ensures of the seats
+//! Laws on the rule of a board, for callers that claim from several threads. `Board::take_back` ensures what they require of hands, for the seats
 //! that it takes. No function here does anything.
 
 ghost use Rattle.std.specs.Prelude.{List, slice_index};

@@ -1,4 +1,4 @@
-//! Numbers handed out in parallel: from any threads, the seats of a board claim the numbers below a limit, each once.
+//! Numbers claimed in parallel: from any threads, the seats of a board claim the numbers below a limit, each once.
 //!
 //! It needs the kit's `atomic_table` alone. One word of an atomic table counts up. `hands` says once what the word means (the plays
 //! `Drew` and `Told`, how seats are taken together, `Together`, and the rule `Claims` over the hands), and `board` is the only caller of

@@ -15,7 +15,7 @@ use Rattle.in_command_line.specs.declared.action.Action.TheVariants.{Check, Deri
 use Rattle.in_command_line.proofs.Faultless.{StopsWell, IsNoHelp, first_none, walk_well}
 use Rattle.in_command_line.proofs.Options.{limits_asked, run_shape}
 
--- the command line, as it is built, with its four subcommands
+-- the command line as built, with its four subcommands
 abbrev inet : App
 inet = built command_line
 

@@ -1,4 +1,4 @@
--- What the typed getter of `clap` reads, as the number of an option.
+-- The number of an option, as the typed getter of `clap` reads it.
 use Rattle.std.proofs.Common.{◌≡◌, ℕ, ◌<◌, ◌^◌, Option, Some, None, refl, sym, ◌∙◌, subst, ap, arith, List}
 use Rattle.std.proofs.lemmas.Option.{same_Some}
 use Rattle.std.specs.Prelude.{codes}

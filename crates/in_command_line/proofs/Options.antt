@@ -1,4 +1,4 @@
--- What the options of `run` have after words with no fault: each a text that its parser takes.
+-- The options of `run` after words without fault: each has a text that its parser takes.
 use Rattle.std.proofs.Common.{◌≡◌, ◌==◌, ◌||◌, ℕ, Bool, true, false, cond, List, [], ◌∷◌, ◌++◌, length, Option, Some, None, refl, sym, ◌∙◌, subst, ◌≤◌, arith}
 use Rattle.std.proofs.lemmas.Option.{same_Some}
 use Rattle.std.specs.Prelude.{codes, slice_get}

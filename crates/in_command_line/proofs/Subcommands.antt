@@ -1,4 +1,4 @@
--- What the getters of a match say of its subcommand, and how an error is told.
+-- The subcommand of a match by its getters, and the usage that reports an error.
 use Rattle.std.proofs.Common.{◌≡◌, ◌∙◌, List, Option, Some, None, refl, sym, ap, subst, inl, inr}
 use Rattle.std.proofs.lemmas.Option.{same_Some}
 use Rattle.std.specs.Box.{box_value}
@@ -49,7 +49,7 @@ pub run_is_named : (options : List Row) (name : Text) → name ≡ codes "run" �
 run_is_named options name is no_check no_derive (Some a) named = subst (λ (n : Text). Names n options a) (sym is) named
 run_is_named options name is no_check no_derive None none = no_run options none name no_check no_derive
 
--- an error of one of the kinds that `clap` finds in the words is told as it should be
+-- an error of one of the kinds that `clap` finds in the words is reported as it should be
 pub refused_so : (words : List Text) (e : Error) (u : Usage) → HasKind (faults words) e → IsErrorTold (kind_of e) u → AreWordsRefused words u
 refused_so words e Memory has told = tt
 refused_so words e (Help text) has told = elim has [

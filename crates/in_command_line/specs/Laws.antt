@@ -58,7 +58,7 @@ abbrev pub VersionIsAsked : Type 0
 VersionIsAsked = (faults (codes "inet" ∷ codes "-V" ∷ []) ≡ DisplayVersion ∷ [])
     × (faults (codes "inet" ∷ codes "--version" ∷ []) ≡ DisplayVersion ∷ [])
 
--- wrong are `inet` alone, a word too many and an option that stands twice
+-- wrong are `inet` alone, a word too many and an option that occurs twice
 abbrev pub OtherWordsAreWrong : Type 0
 OtherWordsAreWrong = (faults (codes "inet" ∷ []) ≡ MissingSubcommand ∷ [])
     × (faults (codes "inet" ∷ codes "check" ∷ codes "sum.inet" ∷ codes "max.inet" ∷ []) ≡ UnknownArgument ∷ [])

@@ -11,7 +11,7 @@ use in_limits::{LEAST_CELLS, Limits, MOST_CELLS, MOST_INTERACTIONS, MOST_WORKERS
 use std::alloc::{AllocError, Global};
 use thiserror::Error;
 
-/// What the program is asked to do. Which commands there are is this project's own choice.
+/// The action that the words request. The set of commands is this project's own choice.
 #[derive(Clone, Copy, Debug, PartialEq, Eq)]
 pub enum Action {
     /// Says whether a program's text is accepted.
@@ -38,13 +38,13 @@ pub struct Request<'a> {
 /// Why the words name no action.
 #[derive(Debug, Drop, Error)]
 pub enum Usage {
-    /// The words are wrong; what `clap` says of them.
+    /// The words are wrong; the message of `clap`.
     #[error("{0}")]
     Wrong(String),
-    /// Help was asked for; what `clap` says.
+    /// Help was requested; the text of `clap`.
     #[error("{0}")]
     Help(String),
-    /// The version was asked for, which the program knows.
+    /// The version was requested, which the program knows.
     #[error("version")]
     Version,
     /// Out of memory.
@@ -174,7 +174,7 @@ fn command_on_file<'a>(
         .arg(file_argument(alloc))
 }
 
-/// `inet`, which tells its version, and of whose subcommands one is needed.
+/// `inet` with its version. One of its subcommands is required.
 fn command_alone<'a>(alloc: Global) -> Command<'a>
     ensures { app_of result ≡ tells_version (needs_subcommand (new_app (codes "inet"))) }
 {
@@ -204,7 +204,7 @@ fn command_without_run<'a>(alloc: Global) -> Result<Command<'a>, AllocError>
     }
 }
 
-/// The command line: `inet` with its subcommands `check`, `derive` and `run`, of which one is needed.
+/// The command line: `inet` with its subcommands `check`, `derive` and `run`. One of them is required.
 fn command<'a>(alloc: Global) -> Result<Command<'a>, AllocError>
     ensures { IfOk result (λ c. app_of c ≡ command_line) }
 {
@@ -218,7 +218,7 @@ fn command<'a>(alloc: Global) -> Result<Command<'a>, AllocError>
     }
 }
 
-/// The file's name that stands where a command should.
+/// The file's name, if it is in the place of a command.
 fn file_for_command<'a>(kind: ErrorKind, words: &[&'a str]) -> Option<&'a str> {
     match (kind, words) {
         (ErrorKind::InvalidSubcommand, [_, file]) if file.ends_with(".inet") => Some(*file),
@@ -226,7 +226,7 @@ fn file_for_command<'a>(kind: ErrorKind, words: &[&'a str]) -> Option<&'a str> {
     }
 }
 
-/// What `clap` says of an error; and a command that is right, where a file's name stands in its place.
+/// The message of `clap` for an error; and a right command, if a file's name is in the place of one.
 fn text_of(alloc: Global, error: &clap::Error, words: &[&str]) -> Result<String, AllocError> {
     match file_for_command(error.kind(), words) {
         Some(file) => format!(in alloc;
@@ -236,7 +236,7 @@ fn text_of(alloc: Global, error: &clap::Error, words: &[&str]) -> Result<String,
     }
 }
 
-/// How an error of `clap` in these words is told.
+/// The usage that reports an error of `clap` in these words.
 fn usage_of(alloc: Global, error: clap::Error, words: &[&str]) -> Usage
     ensures { IsErrorTold (kind_of error) result }
 {
@@ -272,7 +272,7 @@ fn limits_of(options: &ArgMatches) -> Option<Limits>
     Limits::new(workers, limit, cells)
 }
 
-/// Whether a flag stands.
+/// Whether a flag is among the words.
 fn is_set(options: &ArgMatches, name: &str) -> bool
     ensures { result ≡ is_set name.now (rows_of (found_of options.now)) }
 {
@@ -316,7 +316,7 @@ fn action_named(name: &str, options: &ArgMatches) -> Option<Action>
     }
 }
 
-/// What a match asks for, nothing where it names no action.
+/// The request of a match; `None` if it names no action.
 fn request_in<'a>(matches: &ArgMatches<'a>) -> Option<Request<'a>>
     ensures { IsRequested (subcommand_rows_of matches.now) result }
 {

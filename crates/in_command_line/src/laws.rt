@@ -1,4 +1,4 @@
-//! Laws over what the words of a command line ask for. No function here does anything.
+//! Laws on the requests of command lines. No function here does anything.
 
 ghost use Rattle.in_command_line.specs.Laws.{FaultlessWordsAsk, FilesAreAsked, FlagsAreAsked, HelpIsAsked, NumbersOutOfRangeAreWrong, OtherWordsAreWrong, RunAsksForTheGiven, RunAsksForTheUsual, SubcommandsAsk, VersionIsAsked, WordsAskForOneAction};
 

@@ -1,4 +1,4 @@
--- The templates of a program: what is laid out for each rule and for the net, and that it is one.
+-- The templates of a program: the layout of each rule and of the net, and that there is one.
 pub mod Accepted
 pub mod Laid
 pub mod Made

@@ -62,6 +62,6 @@ IsOneOf p w = (p ≡ w.0) ⊎ (p ≡ w.1)
 abbrev pub ShareNone : Point ℕ × Point ℕ → Point ℕ × Point ℕ → Type 0
 ShareNone v w = (p : Point ℕ) → IsOneOf p v → IsOneOf p w → ⊥
 
--- .. and no point stands in two of them
+-- .. and no point is in two of them
 abbrev pub WiresAreListedOnce : Type 0
 WiresAreListedOnce = (t : Tables) (n : Parts) (m : MemberParts) (sig : Signature) → IsMemberOf t n m → IsNet sig (net_of n) → Pairwise ShareNone (in_two_parts (map over_point (over_of m)) (map both_points (within_of m)))

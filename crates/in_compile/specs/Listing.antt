@@ -20,7 +20,7 @@ listed l Wide = l.wide.items
 abbrev pub room_of : Lists → Need
 room_of l = record { small = vec_capacity l.small; large = vec_capacity l.large; wide = vec_capacity l.wide }
 
--- this number stands at the end of the list of its class besides
+-- this number is at the end of the list of its class besides
 pub record HasOneMore (fewer more : Lists) (c : CellClass) (n : CellNo) : Type 0 where
   pub here : listed more c ≡ listed fewer c ++ n ∷ []
   pub others : (d : CellClass) → (d ≡ c → ⊥) → listed more d ≡ listed fewer d

@@ -1,4 +1,4 @@
--- What contracts see of the fields of a member, and what these fields keep.
+-- The view of a member, and the invariant of its fields.
 use Rattle.std.specs.Prelude.{take}
 use Rattle.in_compile.specs.Members.{MemberParts, IsSoundMember}
 use Rattle.in_compile.specs.Storing.{agents_from, IsLaidOut}

@@ -1,4 +1,4 @@
--- What contracts see of the fields of what is placed, and what these fields keep.
+-- The view of a placed member, and the invariant of its fields.
 use Rattle.std.specs.Prelude.{◌<◌, ◌^◌, length, vec_capacity}
 use Rattle.in_arena.specs.Changes.{HasAllCells}
 use Rattle.in_compile.specs.Placing.{PlacedParts}

@@ -1,4 +1,4 @@
--- Laws over stocks and what is placed: no cell is lost, and a settled member stands in the arena.
+-- Laws on stocks and placed members: no cell is lost, and a settled member is in the arena.
 use Rattle.std.specs.Prelude.{◌≡◌, ◌+◌, ℕ, Some, List, slice_get}
 use Rattle.in_arena.specs.Arenas.{ArenaView, free_of, state_at}
 use Rattle.in_arena.specs.Bags.{IsBagOf, IsInBag, AreOfOne, empty_bag}
@@ -21,7 +21,7 @@ use Rattle.in_compile.specs.Stocks.{StockParts, Adds, Regains, IsStockOf}
 abbrev pub MembersAreOne : Type 0
 MembersAreOne = (t : Tables) (n : Parts) (p q : MemberParts) → IsMemberOf t n p → IsMemberOf t n q → p ≡ q
 
--- what putting a member makes is determined by the cells that its agents get
+-- the result of putting a member is determined by the cells that its agents get
 abbrev pub MemberPutsAreOne : Type 0
 MemberPutsAreOne = (m : MemberParts) (ns : List CellNo) (old new other : ArenaView) → IsPut m ns old new → IsPut m ns old other → new ≡ other
 

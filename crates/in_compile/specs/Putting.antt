@@ -9,7 +9,7 @@ use Rattle.in_arena.specs.declared.content.CellNo.{CellNo}
 use Rattle.in_compile.specs.Members.{AgentParts, MemberParts, has_class}
 use Rattle.in_compile.specs.Placing.{content}
 
--- each agent stands in a cell of its class that held none, its own one; all other cells are as they were
+-- each agent is in a cell of its class that held none, its own one; all other cells are as they were
 pub record IsPut (m : MemberParts) (ns : List CellNo) (old new : ArenaView) : Type 0 where
   pub count : length ns ≡ length m.agents
   pub each : (k : ℕ) (a : AgentParts) (n : CellNo) → slice_get m.agents k ≡ Some a → slice_get ns k ≡ Some n

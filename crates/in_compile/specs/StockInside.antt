@@ -1,4 +1,4 @@
--- What contracts see of the fields of a stock, and what these fields keep.
+-- The view of a stock, and the invariant of its fields.
 use Rattle.in_compile.specs.Listing.{listed, room_of, IsListing}
 use Rattle.in_compile.specs.Stocks.{StockParts}
 use Rattle.in_compile.specs.declared.stock.Stock.TheInside.{Inside}

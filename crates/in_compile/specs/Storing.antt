@@ -36,7 +36,7 @@ AreNarrow ps = (k : ℕ) (q : Point) → slice_get ps k ≡ Some q → IsNarrow 
 
 -- ---- agents, and all joints of a member in one list, those of the boundary ends first
 
--- an agent's joints stand in a row
+-- an agent's joints are in a row
 abbrev pub ends_from : List Joint → MemberAgent → List Joint
 ends_from joints a = take a.places (drop a.first joints)
 
@@ -46,7 +46,7 @@ agent_from joints a = record { symbol = a.symbol; class = a.class; ends = ends_f
 abbrev pub agents_from : List Joint → List MemberAgent → List AgentParts
 agents_from joints agents = map (agent_from joints) agents
 
--- what is read stands in the list, and numbers fit
+-- what is read is in the list, and numbers fit
 pub record IsLaidOut (agents : List MemberAgent) (joints : List Joint) (boundary : ℕ) (pairs : List (ℕ × ℕ)) : Type 0 where
   pub ends : boundary ≤ length joints
   pub places : (k : ℕ) (a : MemberAgent) → slice_get agents k ≡ Some a → a.first + a.places ≤ length joints

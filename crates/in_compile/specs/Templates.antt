@@ -61,7 +61,7 @@ pub record HaveFirst (t : Tables) (rules : List RuleParts) (count : ℕ) (templa
 abbrev pub HaveTemplates : Tables → List RuleParts → List TemplateParts → Type 0
 HaveTemplates t rules templates = HaveFirst t rules (length rules) templates
 
--- of this class some template needs `most`, and none more; where there are none, it is 0
+-- of this class some template needs `most`, and none more; without templates it is 0
 abbrev pub IsMost : List TemplateParts → CellClass → ℕ → Type 0
 IsMost templates c most = ((k : ℕ) (p : TemplateParts) → slice_get templates k ≡ Some p → count_of p.member.need c ≤ most)
     × (((length templates ≡ 0) × (most ≡ 0)) ⊎ ((k : ℕ) × (p : TemplateParts) × (slice_get templates k ≡ Some p) × (count_of p.member.need c ≡ most)))

@@ -1,4 +1,4 @@
--- The wires of a right member in two lists, in which each stands once: those with a boundary end, and those within the agents. So an
+-- The wires of a right member in two lists, in which each occurs once: those with a boundary end, and those within the agents. So an
 -- interaction goes over wires. The order of the lists, and numbers for the ends of wires, are this project's own choice.
 use Rattle.std.specs.Prelude.{◌&&◌, ◌||◌, ◌+◌, ◌*◌, ℕ, Bool, true, false, nat_eq, nat_lt, nat_le, List, map}
 use Rattle.std.specs.List.{filter, enumerate_from, flat_map}

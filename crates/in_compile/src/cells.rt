@@ -92,7 +92,7 @@ impl Need {
         }
     }
 
-    /// The first class of which more are needed than are free; nothing where of each class as many are free.
+    /// The first class of which more are needed than are free; `None` if enough of each class are free.
     pub fn first_short(self, free: Need) -> Option<CellClass>
         ensures { MatchOption result (IsEnough (count_of self) (count_of free)) (IsFirstShort (count_of self) (count_of free)) }
     {

@@ -1,4 +1,4 @@
-//! Laws over templates, stocks and what is placed, for whoever reasons above them. No function here does anything.
+//! Laws on templates, stocks and placed members, for proofs above them. No function here does anything.
 
 ghost use Rattle.in_compile.specs.Laws.{EachPairHasOneTemplate, TemplatesAreOne, TemplatesOfAreOne, LargestNeedsAreOne, WiresOverAreListed, WiresWithinAreListed, WiresAreListedOnce};
 ghost use Rattle.in_compile.specs.PlacingLaws.{MembersAreOne, MemberPutsAreOne, LeasingKeepsAll, GivingBackKeepsAll, AllGoBack, PlacingLosesNone, SettlingLosesNone, PlacingSharesOut, OtherBagsStay, SettledMembersStand};

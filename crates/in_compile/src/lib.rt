@@ -1,14 +1,14 @@
 //! Templates: the right members of an accepted program's rules and its initial net, in a form in which a machine over raw cells can place
-//! them without looking at nets. And what cells agents take, which is all that has to be known before one is placed.
+//! them without looking at nets. And the cells that agents take, which is all that has to be known before one is placed.
 //!
-//! What is placed in cells is a *member*: the right member of a rule, or the initial net, in a form that is placed without looking at
-//! nets. `cells` says which cells agents take, and how many a net needs (`Need`). `members` lays a member out: where the boundary ends
-//! lead, then agent after agent with where its places lead, in one list, and the active pairs that it holds. `joints`
-//! stores where a wire leads in two words. `Templates` borrows nothing of the program, so that threads can share it.
+//! A *member* is placed in cells: the right member of a rule, or the initial net, in a form that is placed without looking at nets. `cells` says
+//! which cells agents take, and how many a net needs (`Need`). `members` lays a member out: the other ends of its boundary ends, then agent after
+//! agent with the other ends of its places, in one list, and the active pairs that it holds. `joints` stores the end of a wire in two words.
+//! `Templates` borrows nothing of the program, so that threads can share it.
 //!
 //! `stock` holds leased cells, by class, over a bag; `placing` writes a member's agents into cells of a stock, end by end, and `placed`
 //! keeps which cells these are, so that placing takes no memory. A value `PlacedTemplate` keeps a template with its agents in leased
-//! cells, and that it is the template's right member, for whoever hands such a thing to another thread.
+//! cells, and that it is the template's right member, so that another thread can get it.
 #![tactic(auto)]
 
 mod cells;

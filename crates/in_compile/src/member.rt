@@ -1,4 +1,4 @@
-// A member, and what is read of it.
+// A member and its accessors.
 ghost use Rattle.std.specs.Prelude.{◌≡◌, ◌<◌, length, Some, slice_get};
 ghost use Rattle.in_compile.specs.declared.joints.Joint.TheVariants.{ToAgent, ToBoundary};
 ghost use Rattle.in_compile.specs.Members.{symbol_at, class_at, places_at, joint_at, IsPlaceOf, IsSoundMember};
@@ -11,7 +11,7 @@ use in_symbols::SymbolNo;
 use sqlite_items::Items;
 use std::marker::Model;
 
-/// An agent as it is stored: its joints stand one after another in the member's list, from number `first` on.
+/// A stored agent: its joints follow each other in the member's list, from number `first` on.
 #[derive(Clone, Copy)]
 pub(crate) struct MemberAgent {
     pub(crate) symbol: SymbolNo,
@@ -48,8 +48,7 @@ impl Model for Member {
 }
 
 impl Member {
-    /// Its agents' cells hold their places, its wires lead both ways, and its need is that of its agents: what its proof rests on. The call
-    /// does nothing.
+    /// Its agents' cells hold their places, its wires lead both ways, and its need is that of its agents, for proofs. The call does nothing.
     pub fn is_sound(&self)
         ensures { IsSoundMember self.now }
     {

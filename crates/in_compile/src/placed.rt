@@ -13,7 +13,7 @@ use std::alloc::{AllocError, Global};
 use std::marker::Model;
 
 /// The agents of a member in leased cells: which cell each has, and the cells. It is kept from one member to the next, so that placing takes
-/// no memory; after `settle` it has no cells, and tells still which they were.
+/// no memory; after `settle` it has no cells, but still has their numbers.
 #[derive(Drop)]
 pub struct Placed {
     pub(crate) numbers: Vec<CellNo>,
@@ -32,7 +32,7 @@ impl Model for Placed {
     ghost invariant = { KeepsPlaced };
 }
 
-/// The cells of a bag are live with what is written in them.
+/// Makes the cells of a bag live, with the words written in them.
 fn settle_all(numbers: &[CellNo], bag: &mut Bag, arena: &mut Arena)
     requires of { IsBagOf bag.old arena.old }
     requires all { HasAllCells arena.old }

@@ -55,7 +55,7 @@ pub fn place<'a>(template: &'a Template, stock: &mut Stock, room: Placed) -> Pla
 }
 
 impl<'a> PlacedTemplate<'a> {
-    /// It is the template's right member that is placed: what its proof rests on. The call does nothing.
+    /// The placed member is the template's right member, for proofs. The call does nothing.
     pub fn is_of_template(&self)
         ensures { IsOfTemplate self.now }
     {

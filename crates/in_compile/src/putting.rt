@@ -69,7 +69,7 @@ fn begin_all(member: &Member, arena: &mut Arena, numbers: &mut Vec<CellNo>)
     }
 }
 
-/// Writes what the places of an agent lead to.
+/// Writes the other ends of an agent's wires into its cell.
 #[inline(always)]
 fn write(member: &Member, numbers: &[CellNo], arena: &mut Arena, agent: u32)
     requires there { agent < length member.now.agents }
@@ -85,7 +85,7 @@ fn write(member: &Member, numbers: &[CellNo], arena: &mut Arena, agent: u32)
     }
 }
 
-/// Writes what the places of each agent lead to.
+/// Writes the other ends of each agent's wires into its cell.
 #[inline(always)]
 fn write_all(member: &Member, numbers: &[CellNo], arena: &mut Arena)
     requires begun { (a : ArenaView) × AreBegunBelow member.now a (length member.now.agents) arena.old numbers.now }

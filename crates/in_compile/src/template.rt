@@ -1,4 +1,4 @@
-// A template, and what is read of it.
+// A template and its accessors.
 ghost use Rattle.std.specs.Prelude.{◌≡◌, ◌≤◌, ◌<◌, length, Some, slice_get};
 ghost use Rattle.in_net.specs.NetFaults.{max_member_agents};
 ghost use Rattle.in_compile.specs.declared.joints.Joint.TheVariants.{ToAgent, ToBoundary};
@@ -48,7 +48,7 @@ impl Template {
         self.heads
     }
 
-    /// Its boundary ends and its agents are few, so that each has a slot of its own: what its proof rests on. The call does nothing.
+    /// Its boundary ends and its agents are few, so that each has a slot of its own, for proofs. The call does nothing.
     pub fn is_small(&self)
         ensures ends { length self.now.member.joints ≤ first_agent_slot }
         ensures agents { length self.now.member.agents ≤ max_member_agents }
@@ -131,7 +131,7 @@ impl Template {
         self.unmarked
     }
 
-    /// Whether the port that is this boundary end is an output of the rule's pair. What leads there is an input then, else an output.
+    /// Whether the port of this boundary end is an output of the rule's pair. Its partner is an input then, else an output.
     #[inline(always)]
     pub fn is_output(&self, end: u8) -> bool
         requires { end < length self.now.outputs }

@@ -1,4 +1,4 @@
--- What covering answers is one.
+-- Covering has one result.
 use Rattle.std.proofs.Common.{◌≡◌, List, Option, Some, None, Ok, Err, sym, ◌∙◌, refl}
 use Rattle.in_syntax.specs.declared.faults.Fault.TheVariants.{Refused, Memory}
 use Rattle.in_symbols.specs.Tables.{Tables}

@@ -97,8 +97,8 @@ pub record IsFirstMissing (t : Tables) (rules : List RuleParts) (refusal : Refus
 
 -- ---- what is answered
 
--- Ok exactly when the rules are complete, and then the table is theirs; else refused for the first second rule, or, where there is
--- none, for the first pair without a rule
+-- Ok exactly when the rules are complete, and then the table is theirs; else refused for the first second rule, or, if there is none, for the first
+-- pair without a rule
 abbrev pub Covers : Tables → List RuleParts → Result Cells Fault → Type 0
 Covers t rules (Ok table) = IsComplete t rules × IsTableOf t rules table
 Covers t rules (Err (Refused r)) = IsFirstSecond rules r ⊎ (HasNoSecond rules × IsFirstMissing t rules r)

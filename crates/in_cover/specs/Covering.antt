@@ -1,4 +1,4 @@
--- What the parts of the search for a complete table answer.
+-- The results of the parts of the search for a complete table.
 use Rattle.std.specs.Prelude.{◌≡◌, ◌↔◌, ℕ, ◌<◌, Bool, true, false, List, length, Option, Some, None, IsSome, Result, Ok, Err}
 use Rattle.in_syntax.specs.declared.faults.Fault.{Fault}
 use Rattle.in_syntax.specs.declared.faults.Fault.TheVariants.{Refused, Memory}

@@ -1,4 +1,4 @@
--- Laws over the definition of what `cover` answers.
+-- Laws on the definition of the result of `cover`.
 use Rattle.std.specs.Prelude.{◌≡◌, ℕ, List, Err}
 use Rattle.in_syntax.specs.declared.faults.Fault.TheVariants.{Refused}
 use Rattle.in_syntax.specs.declared.faults.Refusal.{Refusal}
@@ -20,6 +20,6 @@ OneRefusal = (t : Tables) (rules : List RuleParts) (r s : Refusal) → Covers t 
 abbrev pub AreOneTable : Cells → Cells → Type 0
 AreOneTable a b = (c d : ℕ) → rule_at a c d ≡ rule_at b c d
 
--- all that covering may answer for the rules agrees
+-- all results that covering may have for the rules agree
 abbrev pub RulesAreCoveredOnce : Type 0
 RulesAreCoveredOnce = (t : Tables) (rules : List RuleParts) → IsOneBy AreOneTable (Covers t rules)

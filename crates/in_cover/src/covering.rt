@@ -93,11 +93,10 @@ fn missing(symbols: &Symbols, later: SymbolNo, earlier: SymbolNo) -> Refusal
 
 /// The table that has the one rule of every two matching symbols.
 ///
-/// Refused with E14 for the first rule that is the second one for its two symbols, at the name of its first head; where there is
-/// none, with E15 for two matching symbols without a rule, at the later declared of the two, with the place of the other: for the
-/// earliest such place, and there for the earliest declared partner. Or when out of memory. Lafont 1990 asks for one rule for
-/// each constructor and destructor of one type, and for at most one for two symbols; codes and places are this project's own
-/// choice.
+/// Refused with E14 for the first rule that is the second one for its two symbols, at the name of its first head; if there is none, with E15 for two
+/// matching symbols without a rule, at the later declared of the two, with the place of the other: for the earliest such place, and there for the
+/// earliest declared partner. Or when out of memory. Lafont 1990 requires one rule for each constructor and destructor of one type, and for at most
+/// one for two symbols; codes and places are this project's own choice.
 pub fn cover(alloc: Global, symbols: &Symbols, rules: &[Rule]) -> Result<RuleTable, Fault>
     requires few { length rules.now < 2 ^ 32 }
     requires pairs { AllByRecursion (IsRuleOfPair symbols.now) rules.now }

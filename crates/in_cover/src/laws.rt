@@ -1,4 +1,4 @@
-//! Laws over the definition of what `cover` answers, for whoever reasons above it. No function here does anything.
+//! Laws on the definition of the result of `cover`, for proofs above it. No function here does anything.
 
 ghost use Rattle.in_cover.specs.Laws.{RefusedRulesAreIncomplete, OneRefusal, RulesAreCoveredOnce};
 
@@ -12,8 +12,7 @@ pub fn one_refusal()
     ensures { OneRefusal }
 {}
 
-/// What covering the rules answers is one: two tables have the same rule for each two symbols, two refusals are equal, and there is
-/// never one of each.
+/// Covering the rules has one result: two tables have the same rule for each two symbols, two refusals are equal, and there is never one of each.
 pub fn rules_are_covered_once()
     ensures { RulesAreCoveredOnce }
 {}

@@ -142,7 +142,7 @@ impl RuleTable {
         self.words.set(word, RuleWord::of(rule));
     }
 
-    /// Where the word of two symbols stands.
+    /// The index of the word of two symbols.
     fn word(&self, c: SymbolNo, d: SymbolNo) -> usize
         requires first { c.0 < self.now.size }
         requires second { d.0 < self.now.size }

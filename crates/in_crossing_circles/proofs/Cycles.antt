@@ -51,8 +51,8 @@ module _ (o : OpenNet) (t : ℕ → Bool) where
     crossing : cusps o ps ≡ 0
     apart : (n : ℕ) → one_if n v + visits n ps + one_if n w ≤ room t n
 
-  -- A closed walk from v by A to its first cusp u, and by B back to v; and one from u by q, that leaves u by another class. Where it
-  -- comes to the closed walk again, there is a closed walk with fewer cusps, or one without any.
+  -- A closed walk from v by A to its first cusp u, and by B back to v; and one from u by q, that leaves u by another class. Where it reaches the
+  -- closed walk again, there is a closed walk with fewer cusps, or one without any.
   module _ (v i j : ℕ) (A : List (Passage ℕ)) (u : Passage ℕ) (B : List (Passage ℕ)) (changes : class v i ≢ class v j)
       (way_A : Way o (v, i) A (entered u)) (way_B : Way o (left u) B (v, j)) (crossing_A : cusps o A ≡ 0) (cusp : class u.node u.enter ≡ class u.node u.leave)
       (fewer : (k l : ℕ) (ps : List (Passage ℕ)) → Cycle v k l ps → class v k ≡ class v i → cusps o ps ≤ cusps o B → HasCircleIn o t) where
@@ -98,7 +98,7 @@ module _ (o : OpenNet) (t : ℕ → Bool) where
       )
 
       module _ (q : List (Passage ℕ)) (crossing_q : cusps o q ≡ 0) (apart : (n : ℕ) → around n + one_if n u.node + visits n q ≤ room t n) where
-        -- it comes to v
+        -- it reaches v
         to_start : (c : ℕ) → Way o (u.node, x) q (v, c) → HasCircleIn o t
         to_start c way_q = elim (same_nat (class v c) (class v i)) [
           | inr differ ↦ circle o t v i c (A ++ A_to_q ∷ q) (way_join o (v, i) (v, c) A A_to_q q way_A way_q) differ
@@ -114,7 +114,7 @@ module _ (o : OpenNet) (t : ℕ → Bool) where
               (let a = cusps_join o (back q) (q_to_B ∷ B) in let b = no_cusp.1 in let d = cusps_back o q in omega arith)
         ]
 
-        -- it comes to a node of A
+        -- it reaches a node of A
         module _ (w c : ℕ) (way : Way o (u.node, x) q (w, c)) (f : Found w A) where
           cusps_A : cusps o A ≡ cusps o f.before + cusps o (f.here ∷ f.after)
           cusps_A = ap (cusps o) f.whole ∙ cusps_join o f.before (f.here ∷ f.after)
@@ -155,7 +155,7 @@ module _ (o : OpenNet) (t : ℕ → Bool) where
                     omega arith)
               ]
 
-        -- it comes to a node of B
+        -- it reaches a node of B
         module _ (w c : ℕ) (way : Way o (u.node, x) q (w, c)) (f : Found w B) where
           visits_B : (n : ℕ) → visits n B ≡ visits n f.before + visits n (f.here ∷ f.after)
           visits_B n = ap (visits n) f.whole ∙ visits_join n f.before (f.here ∷ f.after)
@@ -262,7 +262,7 @@ module _ (o : OpenNet) (t : ℕ → Bool) where
             let e = f.crossing in
             omega arith
 
-        -- a walk goes on from the cusp as one from v, by A
+        -- a walk continues from the cusp as one from v, by A
         through : (x : ℕ) (qs : List (Passage ℕ)) (w d : ℕ) → Path f.here.node x qs w d → class f.here.node x ≢ class f.here.node f.here.enter → HasCircleIn o t ⊎ (IsIn w r × (w ≢ f.here.node))
         through x qs w d path other =
             elim (stays_apart v i j f.before f.here f.after c.changes ways.0 ways.1 f.crossing f.cusp

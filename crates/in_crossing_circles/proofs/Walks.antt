@@ -39,7 +39,7 @@ total_back f same (x ∷ xs) =
     let s = same x in
     omega arith
 
--- how often the walk comes to n
+-- how often the walk visits n
 abbrev pub visits : ℕ → List (Passage ℕ) → ℕ
 visits n ps = total (λ p. one_if n p.node) ps
 

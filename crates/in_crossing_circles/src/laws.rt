@@ -1,11 +1,11 @@
-//! Laws over the definitions of open nets and crossing circles, for whoever reasons above them. No function here does anything.
+//! Laws on the definitions of open nets and crossing circles, for proofs above them. No function here does anything.
 
 ghost use Rattle.in_crossing_circles.specs.Laws.{CrossingCirclesDecide, StuckPartsHaveCrossingCircles};
 
 use in_open_nets::laws::{splits_or_first_stuck, splits_where_derivable};
 
-/// An open net is derivable exactly when it has no crossing circle, in whatever classes the ports of its nodes are. Derivable is Lafont
-/// 1990's semi-simple; that crossing circles decide it is Yeo's theorem of 1997 on edges with colours, for colours at the ends of edges.
+/// An open net is derivable exactly when it has no crossing circle, however the ports of its nodes are put into classes. Derivable is Lafont 1990's
+/// semi-simple; that crossing circles decide it is Yeo's theorem of 1997 on edges with colours, for colours at the ends of edges.
 pub fn crossing_circles_decide()
     ensures { CrossingCirclesDecide }
 {
@@ -13,7 +13,7 @@ pub fn crossing_circles_decide()
     splits_where_derivable();
 }
 
-/// What a refusal can show: the first stuck sub-net has a crossing circle in it.
+/// The first stuck sub-net has a crossing circle in it. So each refusal can show one.
 pub fn stuck_parts_have_crossing_circles()
     ensures { StuckPartsHaveCrossingCircles }
 {}

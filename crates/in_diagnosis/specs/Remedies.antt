@@ -1,4 +1,4 @@
--- What is answered of a text with other braces.
+-- The result of a check of a text with other braces.
 use Rattle.std.specs.Prelude.{◌≡◌, ℕ, Bool, true, false, List}
 use Rattle.in_syntax.specs.declared.faults.Code.{Code}
 use Rattle.in_syntax.specs.declared.faults.Code.TheVariants.{E12, E13}

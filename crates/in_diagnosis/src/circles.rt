@@ -16,7 +16,7 @@ pub(crate) struct Wires {
     ends: Vec<Option<Port>>,
 }
 
-/// Where a port's other end stands in the list.
+/// The index of a port's other end in the list.
 fn slot(port: Port) -> usize {
     let (node, place) = port;
     (node as usize)
@@ -92,7 +92,7 @@ fn reach(reached: &mut Reached, node: u32, from: u32) {
     }
 }
 
-/// Goes on from a node to those of the part that aren't reached yet.
+/// Reaches the neighbours of a node in the part that aren't reached yet.
 fn spread(
     wires: &Wires,
     part: &[bool],
@@ -112,7 +112,7 @@ fn spread(
     Ok(())
 }
 
-/// Goes on from a node to all of the part that are reached from it.
+/// Reaches all nodes of the part that are connected to this node within it.
 fn spread_all(
     wires: &Wires,
     part: &[bool],
@@ -159,7 +159,7 @@ fn way_to(alloc: Global, reached: &Reached, last: u32) -> Result<Vec<u32>, Alloc
     Ok(way)
 }
 
-/// What a circle is looked for in.
+/// The part of a net in which a circle is searched.
 #[derive(Clone, Copy)]
 pub(crate) struct Field<'a> {
     pub(crate) source: &'a Source,

@@ -1,4 +1,4 @@
-//! A directed circle in an open net: agents of which each gives what the next one takes, so that a value is needed to compute itself.
+//! A directed circle in an open net: each agent has an output that the next one takes, so that a value is needed to compute itself.
 use crate::circles::{Field, MOST_PORTS, Port};
 use in_diagnosis_words::port;
 use in_open_nets::{Node, OpenNet};
@@ -58,7 +58,7 @@ impl Field<'_> {
         true
     }
 
-    /// The port that gives what is taken at this one.
+    /// The output of the part that an input is connected to.
     fn giver(&self, input: Port) -> Option<Port> {
         let output = self.wires.end(input)?;
         if self.takes(input) && self.gives(output) {
@@ -68,7 +68,7 @@ impl Field<'_> {
         }
     }
 
-    /// The port that takes what is given at this one.
+    /// The input of the part that an output is connected to.
     fn taker(&self, output: Port) -> Option<Port> {
         let input = self.wires.end(output)?;
         if self.takes(input) && self.gives(output) {
@@ -89,7 +89,7 @@ impl Field<'_> {
         count
     }
 
-    /// Takes out a node: those that take what it gives take less.
+    /// Removes a node: each node that takes one of its outputs has an input less.
     fn take_out(
         &self,
         node: u32,
@@ -123,7 +123,7 @@ impl Field<'_> {
         Ok(())
     }
 
-    /// Takes out nodes that take nothing, again and again: what is left takes something from what is left.
+    /// Removes nodes that take no output of the part, again and again. Each node that is left takes an output of one that is left.
     fn take_out_all(&self, taken: &mut [usize], ready: &mut Vec<u32>) -> Result<(), AllocError> {
         self.count_taken(taken, ready)?;
         for index in 0..self.open.nodes() as usize {
@@ -151,7 +151,7 @@ impl Field<'_> {
         None
     }
 
-    /// Goes back from a node that is left, against the wires, until a node comes again, which is the answer.
+    /// Goes back from a node that is left, against the wires, until a node comes again, and returns that node.
     fn go_back(
         &self,
         first: u32,
@@ -189,8 +189,8 @@ impl Field<'_> {
         circle_in(alloc, way.as_slice(), last)
     }
 
-    /// A directed circle of agents, each of which takes what the one before it gives by a port whose class has no output of it; in the
-    /// direction of the values. Without a node where there is none.
+    /// A directed circle of agents, in the direction of the values. Each agent takes an output of the one before it, by a port whose class has no
+    /// output. If there is no such circle, the list is empty.
     pub(crate) fn directed_circle(&self, alloc: Global) -> Result<Vec<Flow>, AllocError> {
         let mut taken = vec![in alloc; 0; self.open.nodes() as usize]?;
         let mut ready = Vec::new(alloc);
@@ -226,7 +226,7 @@ fn mark(met: &mut [bool], node: u32) {
     }
 }
 
-/// What leads from a node back to it at the end of a way that was gone against the wires, turned.
+/// The circle at the end of a way against the wires: from the last node back to it, turned round.
 fn circle_in(alloc: Global, way: &[Flow], last: u32) -> Result<Vec<Flow>, AllocError> {
     let mut circle = Vec::new(alloc);
     for flow in way.iter().rev() {

@@ -1,4 +1,4 @@
-//! Other braces with which a program that no steps build is accepted: each is tried before it is told.
+//! Other braces with which a program that no steps build is accepted: each is tried before it is suggested.
 ghost use Rattle.std.specs.Prelude.{◌≡◌, IfOk};
 ghost use Rattle.in_diagnosis.specs.Remedies.{IsAnsweredWith, is_stuck};
 
@@ -17,7 +17,7 @@ pub(crate) const MOST_TRIED: usize = 4;
 /// How many bytes are checked at most for all that are tried, so that a diagnosis takes no more than some checks.
 const MOST_CHECKED: usize = 32_768;
 
-/// The most declarations that are told at once.
+/// At most this many declarations are suggested at once.
 const MOST_DECLARED: usize = 6;
 
 /// A symbol with other braces.
@@ -53,7 +53,7 @@ pub(crate) fn add_remedy<'a>(
     Ok(())
 }
 
-/// What `in_check::check` answers a text with other braces.
+/// The result of `in_check::check` on a text with other braces.
 #[derive(Clone, Copy)]
 enum Outcome {
     /// It is accepted.
@@ -74,7 +74,7 @@ fn is_stuck(code: Code) -> bool
     }
 }
 
-/// What `in_check::check` answers a text.
+/// The outcome of `in_check::check` on a text.
 fn answer_to(alloc: Global, text: &[u8]) -> Result<Outcome, AllocError>
     ensures { IfOk result (IsAnsweredWith text.now) }
 {
@@ -88,7 +88,7 @@ fn answer_to(alloc: Global, text: &[u8]) -> Result<Outcome, AllocError>
     }
 }
 
-/// What is refused, a rule or the net, and where: of which text.
+/// A refused rule or net, with its place and its text.
 #[derive(Clone, Copy)]
 pub(crate) struct Refused<'a> {
     pub(crate) text: &'a [u8],
@@ -97,26 +97,26 @@ pub(crate) struct Refused<'a> {
     pub(crate) place: Place,
 }
 
-/// What a change does.
+/// The effect of a change.
 #[derive(Clone, Copy, PartialEq, Eq)]
 enum Effect {
     /// The program is accepted with it.
     Accepts,
-    /// What was refused is built, and a later rule or the net is not.
+    /// The refused rule is built, and a later rule or the net is not.
     Builds,
-    /// An earlier rule, in which this byte of the text stands, is not built.
+    /// An earlier rule, around this byte of the text, is not built.
     BreaksRuleAt(usize),
-    /// What was refused is still not built.
+    /// The refused rule or net is still not built.
     Nothing,
 }
 
 impl Refused<'_> {
-    /// The number of the rule in which a byte stands; that of the net is larger.
+    /// The number of the rule around a byte; that of the net is larger.
     fn number(&self, at: usize) -> usize {
         rule_at(self.source, at).unwrap_or(usize::MAX)
     }
 
-    /// What a change does with which a rule or the net is refused, in which this byte of the text stands.
+    /// The effect of a change after which the rule or the net around this byte of the text is refused.
     fn effect_at(&self, at: usize) -> Effect {
         let (here, there) = (self.number(self.place.from), self.number(at));
         if here < there {
@@ -128,7 +128,7 @@ impl Refused<'_> {
         }
     }
 
-    /// What a change does.
+    /// The effect of a change, found by a check of the changed text.
     fn effect(&self, alloc: Global, change: Change) -> Result<Effect, AllocError> {
         let edits = change.edits(alloc, self.text, self.source)?;
         let changed = Changed::new(alloc, self.text, edits.as_slice())?;
@@ -140,7 +140,7 @@ impl Refused<'_> {
         }
     }
 
-    /// What the usual braces do, where some symbol is declared in others.
+    /// The effect of the usual braces, if some symbol is declared in others.
     fn usual_effect(&self, alloc: Global) -> Result<Effect, AllocError> {
         if Change::AllUsual.count(self.source) == 0 {
             return Ok(Effect::Nothing);
@@ -149,14 +149,14 @@ impl Refused<'_> {
     }
 }
 
-/// A remedy, and what it does.
+/// A remedy and its effect.
 #[derive(Clone, Copy)]
 struct Trial<'a> {
     remedy: Remedy<'a>,
     effect: Effect,
 }
 
-/// How much is known of a remedy by what it does: the more, the better.
+/// The rank of an effect: a better one is higher.
 fn rank(effect: Effect) -> u8 {
     match effect {
         Effect::Accepts => 3,
@@ -174,7 +174,7 @@ fn better<'a>(best: Option<Trial<'a>>, tried: Trial<'a>) -> Trial<'a> {
     }
 }
 
-/// The first of these remedies with which the text is accepted; where there is none, the first one of the best.
+/// The first of these remedies after which the text is accepted; if there is none, the first of the highest rank.
 fn best_of<'a>(
     alloc: Global,
     refused: Refused,
@@ -201,7 +201,7 @@ fn to_try<'r, 'a>(text: &[u8], remedies: &'r [Remedy<'a>]) -> &'r [Remedy<'a>] {
     remedies.get(..most).unwrap_or(remedies)
 }
 
-/// Says a sentence with the declaration of a remedy, what was refused, and a place.
+/// Writes a sentence with the declaration of a remedy, the refused rule or net, and a place.
 fn say_remedy<'s>(
     words: &mut Words,
     sentence: &str,
@@ -217,7 +217,7 @@ fn say_remedy<'s>(
     words.fill(sentence, &slots);
 }
 
-/// Adds what a remedy does, by a sentence with its declaration.
+/// Adds a sentence on a remedy, with its declaration.
 fn add_declaration(
     report: &mut Report,
     kind: Kind,
@@ -236,7 +236,7 @@ fn add_declaration(
     }
 }
 
-/// Adds a change of the text, which was tried, to what was told last.
+/// Adds a change of the text, which was tried, to the last message.
 fn add_change(report: &mut Report, refused: Refused, change: Change, accepted: bool) {
     match change.edits(report.alloc, refused.text, refused.source) {
         Ok(edits) => report.change_by(edits, accepted),
@@ -244,7 +244,7 @@ fn add_change(report: &mut Report, refused: Refused, change: Change, accepted: b
     }
 }
 
-/// Adds what a remedy does that builds what was refused, by a sentence with its declaration.
+/// Adds a remedy that builds what was refused, by a sentence with its declaration.
 fn add_mending(
     report: &mut Report,
     refused: Refused,
@@ -258,7 +258,7 @@ fn add_mending(
     add_change(report, refused, change, accepted);
 }
 
-/// Adds what a remedy does, where it does anything. Says whether it builds what was refused.
+/// Adds the effect of a remedy, if it has one. Returns whether the remedy builds the refused rule or net.
 fn add_tried(report: &mut Report, refused: Refused, tried: Trial) -> bool {
     let remedy = tried.remedy;
     match tried.effect {
@@ -304,7 +304,7 @@ fn first_without(source: &Source) -> Option<&SourceSymbol> {
     None
 }
 
-/// Adds what is known where nothing that was tried helps, or nothing was tried.
+/// Adds general help if nothing that was tried helps, or nothing was tried.
 fn add_without(report: &mut Report, source: &Source, best: Option<Trial>) {
     report.help(match best {
         Some(_) => sentences::NO_BRACES_TRIED,
@@ -323,7 +323,7 @@ fn add_without(report: &mut Report, source: &Source, best: Option<Trial>) {
     }
 }
 
-/// Adds what the usual braces do, or else one declaration, which was tried, or else what is known.
+/// Adds the effect of the usual braces if they help, else one declaration that was tried, else general help.
 fn add_usual_or(report: &mut Report, refused: Refused, best: Option<Trial>, usual: Effect) {
     match (usual, best) {
         (Effect::Accepts, _) => add_usual(report, refused, sentences::USUAL_MENDS, true),
@@ -341,8 +341,8 @@ fn add_other_help(report: &mut Report, refused: Refused, best: Option<Trial>) {
     }
 }
 
-/// Adds what helps: the first of these remedies with which the text is accepted, or else the usual braces, where what no steps build is built
-/// with them, or else the best of the remedies.
+/// Adds help: the first of these remedies with which the text is accepted, or else the usual braces, if they build the refused rule or net, or else
+/// the best of the remedies.
 pub(crate) fn add_help(report: &mut Report, remedies: &[Remedy], refused: Refused) {
     match best_of(report.alloc, refused, to_try(refused.text, remedies)) {
         Ok(Some(tried)) if tried.effect == Effect::Accepts => {
@@ -353,8 +353,7 @@ pub(crate) fn add_help(report: &mut Report, remedies: &[Remedy], refused: Refuse
     }
 }
 
-/// Adds what helps against a circle in which each agent gives what the next one takes: the first of these remedies that builds what was
-/// refused; in the usual braces it stays as it is.
+/// Adds help against a directed circle: the first of these remedies that builds the refused rule or net. In the usual braces the circle stays.
 pub(crate) fn add_help_for_value(report: &mut Report, remedies: &[Remedy], refused: Refused) {
     if remedies.is_empty() {
         report.help(sentences::NO_BRACES);

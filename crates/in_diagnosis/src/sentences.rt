@@ -1,4 +1,4 @@
-//! The sentences on wires, rules and nets that are told by what the check had at hand, whole, with named slots in braces.
+//! The sentences on wires, rules and nets that use the check's evidence, whole, with named slots in braces.
 
 pub(crate) const MISFIT: &str = "the types of the two ends of this wire don't fit";
 

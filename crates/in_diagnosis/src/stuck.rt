@@ -1,5 +1,4 @@
-//! Rules and nets that no steps build: agents in a circle of which each gives what the next one takes; or else the first part in which no
-//! node splits, and a circle in it.
+//! Rules and nets that no steps build: a directed circle of agents; or else the first part that no node splits, and a circle in it.
 use crate::circles::{Circle, Field, Port, Wires};
 use crate::directed::{Flow, agent_symbol};
 use crate::remedies::{MOST_TRIED, Refused, Remedy, add_help, add_help_for_value, add_remedy};
@@ -12,21 +11,21 @@ use in_open_nets::{Node, OpenNet};
 use in_syntax::{Place, Source, SourceSymbol};
 use std::alloc::{AllocError, Global};
 
-/// The most nodes of a list that is told whole.
+/// A list with at most this many nodes is written whole.
 const MOST_TOLD: usize = 6;
 
-/// How many of the first nodes of a longer list are told. Its last one is told too.
+/// How many of the first nodes of a longer list are written. Its last one is written too.
 const FIRST_TOLD: usize = 4;
 
 /// On a circle of at most this many nodes the line of the text is shown for each.
 const MOST_SHOWN: usize = 3;
 
-/// Whether the node of this number in a list of `count` is told.
+/// Whether the message names the node of this index in a list of `count`.
 fn is_told(index: usize, count: usize) -> bool {
     count <= MOST_TOLD || index < FIRST_TOLD || index == count - 1
 }
 
-/// How many nodes of a list of `count` are not told.
+/// How many nodes of a list of `count` the message leaves out.
 fn left_out(count: usize) -> usize {
     if count <= MOST_TOLD {
         0
@@ -52,7 +51,7 @@ fn symbol_of<'a>(
     }
 }
 
-/// Where a node stands in the text.
+/// The place of a node in the text.
 fn place_of(open: &OpenNet, node: u32) -> Option<Place> {
     if node < open.nodes() {
         Some(open.node_place(node))
@@ -71,7 +70,7 @@ fn say_node(words: &mut Words, source: &Source, open: &OpenNet, node: u32) {
     }
 }
 
-/// What stands before the node of this number in a list of `count`.
+/// The separator before the node of this index in a list of `count`.
 fn before_node(index: usize, count: usize) -> &'static str {
     if index == 0 {
         ""
@@ -115,21 +114,21 @@ fn add_ports(report: &mut Report, symbol: &SourceSymbol, class: Option<usize>, c
     report.add(Kind::Note, None, words);
 }
 
-/// Where a node stands in the text.
+/// Adds the place of a node in the text.
 fn add_place(report: &mut Report, open: &OpenNet, node: u32) {
     if let Some(place) = place_of(open, node) {
         report.note(place, sentences::THROUGH_THIS);
     }
 }
 
-/// The lines of the text in which the nodes on the way of a circle stand.
+/// Adds the lines of the text with the nodes of a circle.
 fn add_places(report: &mut Report, open: &OpenNet, way: &[u32]) {
     for node in way {
         add_place(report, open, *node);
     }
 }
 
-/// The nodes on the way of a circle: where they are few, with the lines of the text in which they stand.
+/// Adds the nodes of a circle; if they are few, with the lines of the text around them.
 fn add_way(report: &mut Report, field: Field, way: &[u32]) {
     if way.len() <= MOST_SHOWN {
         add_places(report, field.open, way);
@@ -170,7 +169,7 @@ fn add_passed(report: &mut Report, field: Field, way: (u32, u32, u32), shown: &m
     }
 }
 
-/// The same for the nodes on the way of a circle that are told, each symbol once.
+/// The same for those nodes of a circle that the message names, each symbol once.
 fn add_braces_on_the_way(
     report: &mut Report,
     field: Field,
@@ -259,7 +258,7 @@ fn remedies_for<'a>(
     Ok(remedies)
 }
 
-/// What helps against a circle through a node.
+/// Adds help against a circle through a node.
 fn add_help_for(report: &mut Report, field: Field, node: u32, circle: &Circle, refused: Refused) {
     match remedies_for(report.alloc, field, node, circle) {
         Ok(remedies) => add_help(report, remedies.as_slice(), refused),
@@ -365,7 +364,7 @@ fn add_flow(report: &mut Report, field: Field, flow: Flow, shown: Option<Place>)
     report.add(Kind::Note, shown, words);
 }
 
-/// Where the agent stands that gives something.
+/// The place of the agent whose output a flow comes from.
 fn giver_place(open: &OpenNet, flow: Flow) -> Option<Place> {
     let (from, _) = flow.output;
     place_of(open, from)
@@ -464,7 +463,7 @@ fn add_value(report: &mut Report, field: Field, circle: &[Flow], refused: Refuse
     }
 }
 
-/// A directed circle of agents in an open net; without a wire where there is none.
+/// A directed circle of agents in an open net; without wires if there is none.
 fn value_circle(
     alloc: Global,
     source: &Source,

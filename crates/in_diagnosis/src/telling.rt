@@ -24,7 +24,7 @@ fn add_agents(report: &mut Report, source: &Source, place: Place) {
     report.help(sentences::BUILD_LATER);
 }
 
-/// What is refused of a program that has a tree, but for wires that don't fit and for what no steps build.
+/// Adds the refusal of a program that has a tree, except for a wire that doesn't fit and for a stuck part.
 fn add_fault(report: &mut Report, source: &Source, refusal: Refusal) {
     match refusal.code {
         Code::E03 => add_agents(report, source, refusal.place),
@@ -48,8 +48,8 @@ fn stuck_in(evidence: Option<&Evidence>) -> Option<&StuckPart> {
     }
 }
 
-/// A wire that doesn't fit, or what no steps build, with what was at hand when it was refused.
-// Apart from `add_fault`: where a function with a contract takes an open net, what contracts see of it takes 18 seconds to check.
+/// Adds a wire that doesn't fit, or a stuck rule or net, with the evidence of the refusal.
+// Apart from `add_fault`: if a function with a contract takes an open net, its view takes 18 seconds to check.
 fn add_shape_fault(
     report: &mut Report,
     source: &Source,
@@ -65,7 +65,7 @@ fn add_shape_fault(
     }
 }
 
-/// What is wrong with a program that has a tree, and why it is refused; nothing where it isn't.
+/// Adds why a program that has a tree is refused, and returns the refusal; `None` if the program is accepted.
 fn add_refusal(report: &mut Report, source: &Source) -> Result<Option<Refusal>, AllocError>
     requires { IsOfText source.now }
     ensures { IfOk result (RefusesTree source.now) }
@@ -84,7 +84,7 @@ fn add_refusal(report: &mut Report, source: &Source) -> Result<Option<Refusal>, 
     told
 }
 
-/// What is wrong with a text, the report's, and why it is refused; nothing where it isn't.
+/// Adds why the report's text is refused, and returns the refusal; `None` if the text is accepted.
 fn add_first_fault(report: &mut Report, text: &[u8]) -> Result<Option<Refusal>, AllocError>
     ensures { IfOk result (Refuses text.now) }
 {

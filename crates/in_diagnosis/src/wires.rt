@@ -10,7 +10,7 @@ fn declared(source: &Source, symbol: SymbolNo) -> Option<&SourceSymbol> {
     source.symbols.get(symbol.0 as usize)
 }
 
-/// An end of a wire as it is told.
+/// An end of a wire, for a message.
 fn told<'a>(source: &'a Source, end: WireEnd) -> Option<ToldEnd<'a>> {
     match end {
         WireEnd::Agent {
@@ -27,7 +27,7 @@ fn told<'a>(source: &'a Source, end: WireEnd) -> Option<ToldEnd<'a>> {
     }
 }
 
-/// The two ends of a wire as they are told.
+/// The two ends of a wire, for a message.
 fn told_both<'a>(
     source: &'a Source,
     misfit: Option<&Misfit>,

@@ -1,4 +1,4 @@
-//! What stands before a place at which the grammar refuses a text, and right after it.
+//! The tokens before a place at which the grammar refuses a text, and the one right after it.
 use crate::reports::Report;
 use in_syntax::{Fault, Place, Token, TokenKind, tokens};
 use std::alloc::{AllocError, Global};
@@ -95,7 +95,7 @@ pub(crate) fn last_name(tokens: &[Token]) -> Option<Place> {
     }
 }
 
-/// The place right after the last of these tokens. Only its line and its bytes are told, so its column is the token's.
+/// The place right after the last of these tokens. Only its line and its bytes are shown, so its column is the token's.
 pub(crate) fn place_after(tokens: &[Token]) -> Option<Place> {
     let Place { to, line, col, .. } = tokens.last()?.place;
     Some(Place {

@@ -92,7 +92,7 @@ fn is_unusual(symbol: &SourceSymbol) -> bool {
     false
 }
 
-/// What stands before the auxiliary port of that number.
+/// The separator before the auxiliary port of that number.
 fn before_port(symbol: &SourceSymbol, braces: Braces, number: usize) -> &'static str {
     if number == 1 {
         " {"
@@ -103,7 +103,7 @@ fn before_port(symbol: &SourceSymbol, braces: Braces, number: usize) -> &'static
     }
 }
 
-/// Says the port of that number of a symbol, as it is declared.
+/// Writes the port of that number of a symbol, as it is declared.
 fn say_port(words: &mut Words, symbol: &SourceSymbol, number: usize) {
     if let Some((_, port)) = port(symbol, number) {
         words.say(port.kind.text.as_str());
@@ -111,7 +111,7 @@ fn say_port(words: &mut Words, symbol: &SourceSymbol, number: usize) {
     }
 }
 
-/// Says what a symbol is declared as with these braces.
+/// Writes the declaration of a symbol with these braces.
 fn say_declaration(words: &mut Words, symbol: &SourceSymbol, braces: Braces) {
     words.say(symbol.name.text.as_str());
     words.say(" : ");
@@ -154,7 +154,7 @@ impl Change<'_> {
         count
     }
 
-    /// What it changes in the text of this program, in the order of the text.
+    /// Its changes of the text of this program, in the order of the text.
     pub fn edits(
         &self,
         alloc: Global,
@@ -170,7 +170,7 @@ impl Change<'_> {
         Ok(edits)
     }
 
-    /// Says the first declarations that it changes, `most` at most, each as it is with the change and in a line of its own.
+    /// Writes the first declarations that it changes, at most `most`, each with the change and on a line of its own.
     pub fn say(&self, words: &mut Words, source: &Source, most: usize) {
         let mut left = most;
         for symbol in source.symbols.as_slice() {
@@ -184,7 +184,7 @@ impl Change<'_> {
     }
 }
 
-/// What a symbol is declared as with these braces, without the word `symbol` and the `;`.
+/// The declaration of a symbol with these braces, without the word `symbol` and the `;`.
 pub fn declaration_with(
     alloc: Global,
     symbol: &SourceSymbol,
@@ -195,7 +195,7 @@ pub fn declaration_with(
     words.into_text()
 }
 
-/// Where the declaration ends whose name stands at a place: at its `;`, which the tree doesn't have. Comments may stand in it.
+/// The end of the declaration of a name: its `;`, which the tree doesn't have. Comments may come before it.
 fn declaration_end(text: &[u8], name: Place) -> usize {
     let mut is_comment = false;
     for (index, byte) in text.get(name.from..).unwrap_or(&[]).iter().enumerate() {
@@ -224,7 +224,7 @@ fn edit_of(
     })
 }
 
-/// Where what is replaced ended, and where its replacement ends.
+/// The end of a replaced text, and the end of its replacement.
 #[derive(Clone, Copy)]
 struct Shift {
     before: usize,
@@ -255,7 +255,7 @@ impl Changed {
         found
     }
 
-    /// Goes on with the text from the end of what was replaced last, up to this byte.
+    /// Copies the text from the end of the last replacement up to this byte.
     fn copy(&mut self, text: &[u8], to: usize) -> Result<(), AllocError> {
         let from = match self.shifts.last() {
             Some(shift) => shift.before,
@@ -266,7 +266,7 @@ impl Changed {
         Ok(())
     }
 
-    /// Goes on up to a change, and with it.
+    /// Copies the text up to a change, and adds the change.
     fn replace(&mut self, text: &[u8], edit: &Edit) -> Result<(), AllocError> {
         self.copy(text, edit.from)?;
         self.text.extend_from_slice(edit.words.as_bytes())?;
@@ -277,7 +277,7 @@ impl Changed {
         Ok(())
     }
 
-    /// Goes on to the end with these changes.
+    /// Copies the text to its end, with these changes.
     fn fill(&mut self, text: &[u8], edits: &[Edit]) -> Result<(), AllocError> {
         for edit in edits {
             self.replace(text, edit)?;
@@ -296,7 +296,7 @@ impl Changed {
     }
 }
 
-/// Whether a byte goes on with a character.
+/// Whether a byte continues a character.
 fn is_inside(byte: u8) -> bool {
     (0x80..=0xBF).contains(&byte)
 }

@@ -14,7 +14,7 @@ fn bare_names(equation: &Equation) -> Option<(&str, &str)> {
     }
 }
 
-/// Another equation of two bare names, one of which is this one: its number, and its other name.
+/// Another equation of two bare names that has this name: its number, and its other name.
 fn next_equation<'a>(
     equations: &'a [Equation],
     number: usize,
@@ -35,7 +35,7 @@ fn next_equation<'a>(
     None
 }
 
-/// The number of the equation whose `~` stands at a place.
+/// The number of the equation whose `~` is at a place.
 fn equation_at(equations: &[Equation], place: Place) -> Option<usize> {
     for (number, equation) in equations.iter().enumerate() {
         if equation.tilde.from == place.from {
@@ -45,7 +45,7 @@ fn equation_at(equations: &[Equation], place: Place) -> Option<usize> {
     None
 }
 
-/// Where the equation of this number stands.
+/// Adds the place of the equation of this number.
 fn add_turn(report: &mut Report, equations: &[Equation], number: usize) {
     if let Some(equation) = equations.get(number) {
         report.note(equation.tilde, sentences::GOES_ON_HERE);
@@ -68,14 +68,14 @@ fn add_ring(report: &mut Report, equations: &[Equation], first: usize, from: &st
     }
 }
 
-/// The number of the equation whose `~` stands at a place, and its second name, where it is of two bare names.
+/// The number of the equation whose `~` is at a place, and its second name, if it has two bare names.
 fn ring_at(equations: &[Equation], place: Place) -> Option<(usize, &str)> {
     let first = equation_at(equations, place)?;
     let (_, name) = bare_names(equations.get(first)?)?;
     Some((first, name))
 }
 
-/// The equations among which a place stands: those of a rule, or those of the net.
+/// The equations around a place: those of a rule, or those of the net.
 fn equations_around(source: &Source, place: Place) -> &[Equation] {
     match rule_around(source, place) {
         Some(rule) => rule.equations.as_slice(),

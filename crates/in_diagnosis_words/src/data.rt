@@ -4,7 +4,7 @@ use crate::reports::{Kind, Part, Remedy};
 use crate::words::Words;
 use in_syntax::Place;
 
-/// Whether a byte goes on with a character.
+/// Whether a byte continues a character.
 fn is_inside(byte: u8) -> bool {
     (0x80..=0xBF).contains(&byte)
 }
@@ -20,7 +20,7 @@ fn characters_before(text: &[u8], at: usize) -> usize {
     count
 }
 
-/// Adds from where to where something stands in the text, in bytes and in characters, as two members.
+/// Adds the start and the end of a range of the text, in bytes and in characters, as two members.
 fn add_range(page: &mut Words, text: &[u8], from: usize, to: usize) {
     let first = characters_before(text, from);
     let last = characters_before(text, to);
@@ -60,7 +60,7 @@ fn add_change(page: &mut Words, text: &[u8], edit: &Edit) {
     page.say("}");
 }
 
-/// What stands between two elements of a list, of which so many are there.
+/// The separator before the next element of a list that has `count` so far.
 fn comma(count: usize) -> &'static str {
     if count > 0 { "," } else { "" }
 }
@@ -130,7 +130,7 @@ fn add_all(page: &mut Words, text: &[u8], parts: &[Part], remedies: &[Remedy], k
     }
 }
 
-/// Adds the parts of a diagnosis as three members: what is wrong, what belongs to it, and what helps; and the object's end.
+/// Adds the parts of a diagnosis as three members: the error, its notes, and the help; and the object's end.
 pub(crate) fn add_parts(page: &mut Words, text: &[u8], parts: &[Part], remedies: &[Remedy]) {
     page.say("\"errors\":[");
     add_all(page, text, parts, remedies, Kind::Error);

@@ -1,7 +1,7 @@
-//! What a program declares.
+//! The declarations of a program.
 use in_syntax::{Name, Place, Source, SourceClass, SourceFree, SourcePort, SourceSymbol};
 
-/// What is declared by a name: a type, a symbol or a free end.
+/// A declaration of a name: a type, a symbol or a free end.
 pub(crate) trait Declared {
     /// Its name.
     fn name(&self) -> &Name;
@@ -36,7 +36,7 @@ pub(crate) fn first_of<'a, D: Declared>(declared: &'a [D], text: &str) -> Option
     None
 }
 
-/// Whether one of these names stands at this place.
+/// Whether one of these names is at this place.
 pub(crate) fn is_among<D: Declared>(declared: &[D], place: Place) -> bool {
     for one in declared {
         if one.name().place.from == place.from {

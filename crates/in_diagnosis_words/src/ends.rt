@@ -6,12 +6,12 @@ use crate::slots::Value;
 use crate::words::{Words, letter};
 use in_syntax::{Place, Source, SourcePort, SourceSymbol};
 
-/// What stands at an end of a wire.
+/// The owner of an end of a wire.
 #[derive(Clone, Copy)]
 enum Owner<'a> {
     /// An agent of this symbol, with the port of this number.
     Agent(&'a SourceSymbol, usize),
-    /// A head of a rule, of which the port of this number is replaced.
+    /// A head of a rule, and the number of its port at this end.
     Head(&'a SourceSymbol, usize),
     /// The free end of this name.
     Free(&'a str),
@@ -49,7 +49,7 @@ pub fn head_end(symbol: &SourceSymbol, number: usize, place: Place) -> Option<To
     })
 }
 
-/// The end of a wire at the free end of that number, in the order of the net. Nothing where there is none of that number.
+/// The end of a wire at the free end of that number, in the order of the net. `None` if there is none of that number.
 pub fn free_end(source: &Source, number: u32) -> Option<ToldEnd<'_>> {
     let end = source.net.free.get(number as usize)?;
     Some(ToldEnd {
@@ -81,7 +81,7 @@ fn add_end(report: &mut Report, end: &ToldEnd) {
     report.note_with(end.place, sentence, &slots);
 }
 
-/// Adds what is wrong with a wire of these two ends, at a place of the text.
+/// Adds why a wire of these two ends doesn't fit, at a place of the text.
 fn add_misfit(report: &mut Report, place: Place, one: &ToldEnd, other: &ToldEnd) {
     let first = Value::Text(one.port.kind.text.as_str());
     let second = Value::Text(other.port.kind.text.as_str());
@@ -128,7 +128,7 @@ fn outputs(symbol: &SourceSymbol, kind: &str) -> usize {
     count
 }
 
-/// What agents of a symbol give of this type.
+/// The outputs of this type that agents of a symbol have.
 fn giving_of<'a>(symbol: &'a SourceSymbol, kind: &'a str) -> Giving<'a> {
     Giving {
         symbol,
@@ -171,8 +171,7 @@ fn result_beside<'a>(end: &ToldEnd<'a>) -> Option<Giving<'a>> {
     }
 }
 
-/// The agent of which an end is an auxiliary output, and its first auxiliary port that is an input of the same type, for which the end may
-/// have been taken.
+/// If an end is an auxiliary output: its agent, and the agent's first auxiliary input of the same type, which may have been meant.
 fn input_beside<'a>(end: &ToldEnd<'a>) -> Option<(&'a SourceSymbol, usize)> {
     let Owner::Agent(symbol, number) = end.owner else {
         return None;
@@ -188,7 +187,7 @@ fn input_beside<'a>(end: &ToldEnd<'a>) -> Option<(&'a SourceSymbol, usize)> {
     None
 }
 
-/// What stands before the next one of `count`, where `told` are told.
+/// The separator before the next of `count` elements, after the first `told`.
 fn separator(told: usize, count: usize) -> &'static str {
     if told == 0 {
         ""
@@ -264,7 +263,7 @@ fn help_with_giving(report: &mut Report, sentence: &str, giving: Giving) {
     report.help_with(sentence, &slots);
 }
 
-/// What helps where a term is taken for what its agent gives.
+/// Adds help if a term is taken for its agent's result.
 fn help_with_result(report: &mut Report, giving: Giving) {
     let symbol = giving.symbol;
     let slots = [
@@ -275,7 +274,7 @@ fn help_with_result(report: &mut Report, giving: Giving) {
     help_with_giving(report, sentences::TERM_GIVES, giving);
 }
 
-/// What helps where a free end has the wrong sign: its declaration with the other one.
+/// Adds help if a free end has the wrong sign: its declaration with the other one.
 fn help_with_free_end<'e>(
     report: &mut Report,
     sentence: &str,
@@ -300,7 +299,7 @@ fn free_end_of<'a>(one: &ToldEnd<'a>, other: &ToldEnd<'a>) -> Option<(&'a str, &
     }
 }
 
-/// Where an agent gives what may be wanted from one of these ends, of which a term may have been taken for that.
+/// The outputs of an agent that may have been meant at one of these ends, if a term there was taken for the result.
 fn result_of<'a>(one: &ToldEnd<'a>, other: &ToldEnd<'a>) -> Option<Giving<'a>> {
     match result_at(one) {
         Some(result) => Some(result),
@@ -316,7 +315,7 @@ fn port_of<'a>(one: &ToldEnd<'a>, other: &ToldEnd<'a>) -> Option<Giving<'a>> {
     }
 }
 
-/// What helps besides where an auxiliary output of an agent, joined to no principal port, was taken for an auxiliary input.
+/// Adds further help if an auxiliary output of an agent, joined to no principal port, was taken for an auxiliary input.
 fn add_input(report: &mut Report, one: &ToldEnd, other: &ToldEnd) {
     if has_principal(one, other) {
         return;
@@ -347,8 +346,8 @@ fn add_other_port(report: &mut Report, one: &ToldEnd, other: &ToldEnd) -> bool {
     true
 }
 
-/// What helps where both ends are outputs of one type, or both inputs: a port of an agent may have been taken for another one, or a free end
-/// may have the wrong sign. Says whether anything does.
+/// Adds help if both ends are outputs of one type, or both inputs: a port of an agent may have been taken for another one, or a free end may have
+/// the wrong sign. Returns whether it added any.
 fn add_turned(report: &mut Report, one: &ToldEnd, other: &ToldEnd) -> bool {
     match (free_end_of(one, other), result_of(one, other)) {
         (Some((name, port)), _) => {

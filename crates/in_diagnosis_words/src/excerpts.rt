@@ -26,7 +26,7 @@ pub(crate) fn front(bytes: &[u8]) -> &str {
     }
 }
 
-/// What stands from one byte to another one.
+/// The text from one byte to another.
 pub(crate) fn between(text: &[u8], from: usize, to: usize) -> &str {
     match text.get(from..to) {
         Some(bytes) => front(bytes),
@@ -34,8 +34,8 @@ pub(crate) fn between(text: &[u8], from: usize, to: usize) -> &str {
     }
 }
 
-/// A line, as far as it is looked at: what stands before a place in it, at the place, and after it. A byte at the place that is part of no
-/// character stands in none of them.
+/// A line, as far as it is read: the text before a place in it, at the place, and after it. A byte at the place that is part of no character is in
+/// none of them.
 #[derive(Clone, Copy)]
 struct Line<'a> {
     before: &'a str,
@@ -44,12 +44,12 @@ struct Line<'a> {
     after: &'a str,
 }
 
-/// Whether the byte there goes on with a character.
+/// Whether the byte there continues a character.
 fn goes_on(text: &[u8], index: usize) -> bool {
     matches!(text.get(index), Some(0x80..=0xBF))
 }
 
-/// Where the first character begins that stands in these bytes.
+/// The start of the first character in these bytes.
 fn character_start(text: &[u8], from: usize, to: usize) -> usize {
     for index in from..to {
         if !goes_on(text, index) {
@@ -59,8 +59,8 @@ fn character_start(text: &[u8], from: usize, to: usize) -> usize {
     to
 }
 
-/// Where the line begins in which a byte stands, or so far before that byte that no more of the line is looked at: a text may be one long
-/// line, of which many places are shown.
+/// The start of the line around a byte, or a fixed distance before that byte if the line is longer: a text may be one long line with many places to
+/// show.
 fn near_start(text: &[u8], at: usize) -> usize {
     for before in 0..at {
         if before == MOST_BYTES_BEFORE {
@@ -74,7 +74,7 @@ fn near_start(text: &[u8], at: usize) -> usize {
     character_start(text, at.saturating_sub(MOST_BYTES_BEFORE), at)
 }
 
-/// Where the line ends in which a byte stands, or the last byte before which it is looked at.
+/// The end of the line around a byte, or the byte `most` if the line is longer.
 fn near_end(text: &[u8], at: usize, most: usize) -> usize {
     let end = text.len().min(most);
     for index in at..end {
@@ -85,7 +85,7 @@ fn near_end(text: &[u8], at: usize, most: usize) -> usize {
     end
 }
 
-/// What stands from one byte to another one, without the carriage returns at the end of a line.
+/// The text from one byte to another, without the carriage returns at the end of a line.
 fn rest(text: &[u8], from: usize, to: usize) -> &str {
     let words = between(text, from, to);
     match text.get(to) {
@@ -109,7 +109,7 @@ fn line_of(text: &[u8], place: Place) -> Line<'_> {
     }
 }
 
-/// What is shown in the place of what can't be shown.
+/// The character that replaces one that can't be shown.
 const REPLACEMENT: char = '\u{FFFD}';
 
 /// Whether a character isn't seen, or turns the direction of what follows it.
@@ -117,7 +117,7 @@ pub(crate) fn is_hidden(c: char) -> bool {
     matches!(c, '\u{AD}' | '\u{200B}'..='\u{200F}' | '\u{2028}'..='\u{202E}' | '\u{2060}'..='\u{206F}' | '\u{FEFF}')
 }
 
-/// A character as it is shown: control characters other than tabs would change the screen, and hidden ones would not be seen.
+/// The shown form of a character: control characters other than tabs would change the screen, and hidden ones would not be seen.
 fn shown(c: char) -> char {
     if c != '\t' && (c.is_control() || is_hidden(c)) {
         REPLACEMENT
@@ -126,19 +126,19 @@ fn shown(c: char) -> char {
     }
 }
 
-/// What stands above the mark, where this character stands in the line: a tab is as wide below a tab.
+/// The character above the mark, below this character of the line: a tab is as wide below a tab.
 fn blank(c: char) -> char {
     if c == '\t' { '\t' } else { ' ' }
 }
 
-/// Adds what stands before the place, but for the first `hidden` characters.
+/// Adds the line before the place, except for its first `hidden` characters.
 fn add_before(page: &mut Words, before: &str, hidden: usize) {
     for c in before.chars().skip(hidden) {
         page.push(shown(c));
     }
 }
 
-/// Adds at most `most` of these characters; answers how many more may come, or nothing where some are left out.
+/// Adds at most `most` of these characters. Returns how many more may come, or `None` if some are left out.
 fn add_some(page: &mut Words, text: &str, most: usize) -> Option<usize> {
     let mut left = most;
     for c in text.chars() {
@@ -152,7 +152,7 @@ fn add_some(page: &mut Words, text: &str, most: usize) -> Option<usize> {
     Some(left)
 }
 
-/// Adds the marked part and what stands after it, as far as there is room.
+/// Adds the marked part and the line after it, as far as there is room.
 fn add_rest(page: &mut Words, line: &Line) {
     if let Some(left) = add_some(page, line.marked, AFTER) {
         let _ = add_some(page, line.after, left);
@@ -164,7 +164,7 @@ fn where_it_holds(holds: bool, words: &'static str) -> &'static str {
     if holds { words } else { "" }
 }
 
-/// Adds the line, of which the first `hidden` characters are not shown.
+/// Adds the line without its first `hidden` characters.
 fn add_line(page: &mut Words, line: &Line, hidden: usize) {
     page.say(where_it_holds(hidden > 0, "..."));
     add_before(page, line.before, hidden);
@@ -172,7 +172,7 @@ fn add_line(page: &mut Words, line: &Line, hidden: usize) {
     add_rest(page, line);
 }
 
-/// Adds blanks as wide as what stands before the place, but for the first `hidden` characters.
+/// Adds blanks as wide as the line before the place, without its first `hidden` characters.
 fn add_blanks(page: &mut Words, before: &str, hidden: usize) {
     for c in before.chars().skip(hidden) {
         page.push(blank(c));

@@ -1,4 +1,4 @@
-//! What the grammar expects, and its limits.
+//! The tokens that the grammar expects, and its limits.
 use crate::before::{
     begin_symbol, end_with_name_at, kind_after, last_kind, last_name, open_bracket, place_after,
     tokens_before,
@@ -13,7 +13,7 @@ use in_syntax::{
 };
 use std::alloc::{AllocError, Global};
 
-/// What may follow a name alone, or a whole term.
+/// The tokens that may follow a name alone, or a whole term.
 fn after_term(part: PartOf, name: bool) -> &'static str {
     match (part, name) {
         (PartOf::Left, true) => "`(` or `~`",
@@ -27,7 +27,7 @@ fn after_term(part: PartOf, name: bool) -> &'static str {
     }
 }
 
-/// What is expected, in words.
+/// The expected token, in words.
 fn words(expected: Expected) -> &'static str {
     match expected {
         Expected::Item => "`type`, `symbol`, `rule` or `net`",
@@ -83,7 +83,7 @@ fn is_sign(token: &str) -> bool {
     )
 }
 
-/// A token, or the end of the text, with which no program goes on.
+/// A token, or the end of the text, that no program has there.
 #[derive(Clone, Copy)]
 struct Unexpected<'a> {
     place: Place,
@@ -94,7 +94,7 @@ struct Unexpected<'a> {
 }
 
 impl Unexpected<'_> {
-    /// Whether a name is expected, and this is a word that is none.
+    /// Whether a name is expected, and this is a reserved word.
     fn is_no_name(&self) -> bool {
         is_reserved(self.found)
             && matches!(
@@ -128,7 +128,7 @@ impl Unexpected<'_> {
         }
     }
 
-    /// Whether what is open before it may have been meant to be closed.
+    /// Whether a bracket that is open before the token may lack its end.
     fn may_be_open(&self) -> bool {
         self.is_next_item() && !self.is_no_name()
             || matches!(
@@ -170,7 +170,7 @@ impl Unexpected<'_> {
         }
     }
 
-    /// What helps where brackets close after a comma, or with nothing in them.
+    /// Help for brackets that close after a comma, or with nothing in them.
     fn help_with_closing(&self) -> Option<&'static str> {
         match (self.expected, last_kind(self.before)?) {
             (Expected::Term, TokenKind::Comma) => Some(sentences::TERM_AFTER_COMMA),
@@ -182,7 +182,7 @@ impl Unexpected<'_> {
         }
     }
 
-    /// What helps where it was found in the place of brackets, or closes brackets that are empty or end with a comma.
+    /// Help for a token in the place of brackets, or one that closes brackets that are empty or end with a comma.
     fn help_with_brackets(&self) -> Option<&'static str> {
         match (self.expected, self.found) {
             (_, ")" | "]" | "}") => self.help_with_closing(),
@@ -196,7 +196,7 @@ impl Unexpected<'_> {
         }
     }
 
-    /// What helps where it was found in the place of a name, or of what stands after one.
+    /// Help for a token in the place of a name, or of a token after one.
     fn help_with_name(&self) -> Option<&'static str> {
         match self.expected {
             Expected::Colon if begin_symbol(self.before) => Some(sentences::SYMBOL_DECLARATION),
@@ -206,7 +206,7 @@ impl Unexpected<'_> {
         }
     }
 
-    /// What helps where it was found in the place of a section, or after the last one.
+    /// Help for a token in the place of a section, or after the last one.
     fn help_with_section(&self) -> Option<&'static str> {
         match (self.expected, self.found, self.after) {
             (Expected::Item, "", _) => Some(sentences::ENDS_WITH_NET),
@@ -221,7 +221,7 @@ impl Unexpected<'_> {
         }
     }
 
-    /// What helps where it was found in the place of something else.
+    /// Help for a token in any other place.
     fn help_with_other(&self) -> &'static str {
         match (self.expected, self.found) {
             (Expected::AfterName(PartOf::Left) | Expected::AfterTerm(PartOf::Left), _) =>
@@ -236,7 +236,7 @@ impl Unexpected<'_> {
         }
     }
 
-    /// What helps where it was found within a declaration or a rule.
+    /// Help for a token within a declaration or a rule.
     fn help_with_declaration(&self) -> &'static str {
         match (self.expected, self.found) {
             (Expected::PortSign, _) => sentences::PORT_FORM,
@@ -251,7 +251,7 @@ impl Unexpected<'_> {
         }
     }
 
-    /// What helps.
+    /// The help for the token.
     fn help(&self) -> &'static str {
         if self.cuts_name() {
             return sentences::NO_MINUS_IN_NAMES;
@@ -277,7 +277,7 @@ fn add_missing_semicolon(report: &mut Report, before: &[Token]) {
     }
 }
 
-/// What closes a bracket.
+/// The sign that closes a bracket.
 fn closing(kind: TokenKind) -> &'static str {
     match kind {
         TokenKind::OpenBrace => "`}`",
@@ -307,7 +307,7 @@ fn add_meant(report: &mut Report, place: Place, word: &str) {
     report.change(place.from, place.to, word);
 }
 
-/// What helps.
+/// Adds help for a token that wasn't expected.
 fn add_help(report: &mut Report, unexpected: &Unexpected) {
     if let Some(name) = unexpected.bare_name() {
         report.help_on(sentences::BARE_AGENT, report.at(name));
@@ -320,7 +320,7 @@ fn add_help(report: &mut Report, unexpected: &Unexpected) {
     }
 }
 
-/// Adds what belongs to a token with which no program goes on, and what helps.
+/// Adds the notes on a token that no program has there, and help.
 fn add_reasons(report: &mut Report, unexpected: &Unexpected) {
     if unexpected.misses_semicolon() {
         add_missing_semicolon(report, unexpected.before);
@@ -331,14 +331,14 @@ fn add_reasons(report: &mut Report, unexpected: &Unexpected) {
     }
 }
 
-/// What stands before a place, and right after it.
+/// The tokens before a place, and the one right after it.
 fn around(report: &Report, place: Place) -> Result<(Vec<Token>, Option<TokenKind>), AllocError> {
     let before = tokens_before(report, place)?;
     let after = kind_after(report, place)?;
     Ok((before, after))
 }
 
-/// What was found in the place of what is expected.
+/// Adds which token was found in the place of an expected one.
 fn wrong_token(report: &mut Report, place: Place, found: &str, expected: Expected) {
     let sentence = if found.is_empty() {
         sentences::ENDS_HERE
@@ -371,7 +371,7 @@ pub(crate) fn add_unexpected(report: &mut Report, place: Place, expected: Expect
     }
 }
 
-/// A text of too many bytes. How many is not known: who reads one stops past the limit.
+/// A text of too many bytes. Their number is not known, since reading stops past the limit.
 pub(crate) fn add_long_text(report: &mut Report, place: Place) {
     let most = Value::Number(MAX_TEXT_BYTES);
     report.wrong_with(place, sentences::LONG_TEXT, &[("most", most)]);
@@ -383,7 +383,7 @@ pub(crate) fn add_long_word(report: &mut Report, place: Place) {
     report.wrong_with(place, sentences::LONG_WORD, &[("most", most)]);
 }
 
-/// What there is too much of, and the most of it, where the grammar expects this.
+/// The limit that is passed where the grammar expects this, and what it counts.
 fn limit(expected: Expected) -> (usize, &'static str) {
     match expected {
         Expected::TypeName => (MAX_TYPES, "types"),
@@ -395,7 +395,7 @@ fn limit(expected: Expected) -> (usize, &'static str) {
     }
 }
 
-/// What helps against too much of it, where anything does.
+/// Help at that limit, if there is any.
 fn limit_help(expected: Expected) -> Option<&'static str> {
     match expected {
         Expected::Term => Some(sentences::NAME_AN_INNER_TERM),

@@ -6,7 +6,7 @@ use crate::slots::Value;
 use in_diagnosis_characters::name_of;
 use in_syntax::Place;
 
-/// What a character without a name is: nothing here, private, or not a character at all.
+/// The kind of a character without a name: unassigned, private, or not a character at all.
 fn nameless(c: char) -> &'static str {
     match u32::from(c) {
         0xE000..=0xF8FF | 0xF0000..=0xFFFFD | 0x100000..=0x10FFFD => "private-use character",
@@ -35,7 +35,7 @@ fn meant(c: char) -> Option<&'static str> {
     })
 }
 
-/// What helps where the text goes on with this character and that one, after a byte.
+/// Help for a text that has these two characters next, after a byte.
 fn help_with(before: Option<u8>, first: char, second: Option<char>) -> &'static str {
     match (before, first, second) {
         (_, '=', Some('>')) | (Some(b'-' | b'='), '>', _) | (_, '\u{21D2}', _) =>
@@ -44,7 +44,7 @@ fn help_with(before: Option<u8>, first: char, second: Option<char>) -> &'static 
     }
 }
 
-/// What helps where the text goes on with this character and that one, which are no arrow.
+/// Help for a text that has these two characters next, which are no arrow.
 fn help_with_character(first: char, second: Option<char>) -> &'static str {
     if let Some(help) = meant(first) {
         return help;
@@ -86,7 +86,7 @@ fn add_letter(report: &mut Report, place: Place, c: char) {
     report.wrong_with(place, sentence, &slots);
 }
 
-/// What stands at the place, where there is something: a character, or a byte that is part of none.
+/// Adds the character at the place, or the byte if it is part of none. At the end of the text it adds nothing.
 fn add_rest(report: &mut Report, place: Place, rest: &[u8]) {
     match (first_two(rest), rest.first()) {
         ((Some(first), second), _) => {

@@ -9,7 +9,7 @@ use crate::single::add_single;
 use crate::slots::{Slot, Value};
 use in_syntax::{Name, NameUse, Place, Source, SourceSymbol};
 
-/// Adds what is wrong with the name at a place.
+/// Adds what is wrong with the name at a place, by this sentence.
 fn wrong_name(report: &mut Report, place: Place, sentence: &str) {
     report.wrong_on(place, sentence, report.at(place));
 }
@@ -74,7 +74,7 @@ pub(crate) fn add_unknown_symbol(report: &mut Report, source: &Source, place: Pl
     report.help(sentences::NAMES_BEFORE_BRACKETS);
 }
 
-/// What helps where a symbol has that many auxiliary ports.
+/// Help for a symbol with that many auxiliary ports.
 fn arity_help(ports: usize) -> &'static str {
     if ports == 0 {
         sentences::WITHOUT_BRACKETS
@@ -102,7 +102,7 @@ struct Miscounted<'a> {
 }
 
 impl<'a> Miscounted<'a> {
-    /// What stands in the slots of the sentence on it.
+    /// The values for the slots of its sentence.
     fn slots(&self) -> [Slot<'a>; 3] {
         let ports = arity(self.symbol);
         [
@@ -188,8 +188,8 @@ fn add_first_miscounted(report: &mut Report, source: &Source, names: &[NameUse])
     }
 }
 
-/// Adds the first such name of the rule in which a place stands, or of the net's equations: a term that is forgotten there leaves a
-/// variable with one place, or a free end with none. Says whether there is one.
+/// Adds the first such name of the rule around a place, or of the net's equations: a forgotten term leaves a variable with one occurrence, or a free
+/// end with none. Returns whether there is such a name.
 fn add_miscounted(report: &mut Report, source: &Source, at: Place) -> bool {
     match names_around(report.alloc, source, at) {
         Ok(names) => add_first_miscounted(report, source, names.as_slice()),
@@ -209,7 +209,7 @@ fn add_earlier(report: &mut Report, places: &[Place], place: Place) {
     }
 }
 
-/// What helps with a variable of this name: this, but for the name that means nothing in other languages.
+/// Help for a variable of this name: this, except for the name that means nothing in other languages.
 fn variable_help(name: &str, help: &'static str) -> &'static str {
     if name == "_" {
         sentences::ERASE_NO_WILDCARD

@@ -69,7 +69,7 @@ fn near_names<'a, D: Declared>(
     Ok(found)
 }
 
-/// How many near names are told.
+/// How many near names are written.
 const MOST_TOLD: usize = 4;
 
 /// Asks whether this name was meant, or this one too.
@@ -85,7 +85,7 @@ fn add_name(report: &mut Report, name: &Name, further: bool) {
     }
 }
 
-/// Adds those names that differ by `distance` characters, where `told` are told already; answers how many are told now.
+/// Adds the names that differ by `distance` characters, after the first `told`. Returns how many there are now.
 fn add_at(report: &mut Report, found: &[Near], distance: usize, told: usize) -> usize {
     let mut count = told;
     for near in found {

@@ -6,7 +6,7 @@ use crate::slots::Value;
 use crate::words::Words;
 use in_syntax::{Place, SourceSymbol};
 
-/// Says what a node is, and its place: an agent of the symbol, or the class of that number of a head with the symbol.
+/// Writes a node and its place: an agent of the symbol, or the class of that number of a head with the symbol.
 pub fn say_node_at(words: &mut Words, symbol: &SourceSymbol, class: Option<usize>, place: Place) {
     let sentence = match class {
         Some(_) => sentences::CLASS_AT,

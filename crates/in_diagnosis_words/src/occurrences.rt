@@ -1,4 +1,4 @@
-//! Where a name stands in a rule or in the net.
+//! The places of a name in a rule or in the net.
 use in_syntax::{NameUse, Place, Source, SourceNet, SourceRule, names_of_body, names_of_rule};
 use sqlite_items::Items;
 use std::alloc::{AllocError, Global};
@@ -28,12 +28,12 @@ pub fn rule_at(source: &Source, at: usize) -> Option<usize> {
     found
 }
 
-/// The rule in which a place stands.
+/// The rule around a place.
 pub(crate) fn rule_around(source: &Source, at: Place) -> Option<&SourceRule> {
     source.rules.as_slice().get(rule_at(source, at.from)?)
 }
 
-/// The names of the rule in which a place stands, or those of the net's equations, in the order of the text.
+/// The names of the rule around a place, or those of the net's equations, in the order of the text.
 pub(crate) fn names_around(
     alloc: Global,
     source: &Source,
@@ -45,7 +45,7 @@ pub(crate) fn names_around(
     }
 }
 
-/// Where a name stands in the rule in which a place stands, or in the net's equations.
+/// The places of a name in the rule around a place, or in the net's equations.
 pub(crate) fn occurrences(
     alloc: Global,
     text: &[u8],

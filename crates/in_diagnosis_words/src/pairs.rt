@@ -6,7 +6,7 @@ use crate::sentences;
 use crate::slots::Value;
 use in_syntax::{Name, Place, Source, SourceRule, SourceSymbol};
 
-/// The rule of which a head's name stands at a place.
+/// The rule with a head whose name is at a place.
 fn rule_with(source: &Source, place: Place) -> Option<&SourceRule> {
     for rule in source.rules.as_slice() {
         if rule.first.name.place.from == place.from || rule.second.name.place.from == place.from {
@@ -16,7 +16,7 @@ fn rule_with(source: &Source, place: Place) -> Option<&SourceRule> {
     None
 }
 
-/// Adds what a symbol is, by its principal port, where it is declared.
+/// Adds whether a symbol is a constructor or a destructor, by its principal port, at its declaration.
 fn add_principal(report: &mut Report, symbol: &SourceSymbol) {
     let sentence = if symbol.port.output {
         sentences::CONSTRUCTOR
@@ -72,7 +72,7 @@ fn is_unmet(source: &Source, rule: &SourceRule) -> bool {
     }
 }
 
-/// Adds that the heads of the rule in which a place stands can't meet, and what helps; says whether they can't.
+/// Adds that the heads of the rule around a place can't meet, with help. Returns whether they can't.
 pub(crate) fn add_unmet(report: &mut Report, source: &Source, place: Place) -> bool {
     let Some(rule) = rule_around(source, place) else {
         return false;
@@ -108,7 +108,7 @@ fn first_for<'a>(source: &'a Source, rule: &SourceRule) -> Option<&'a SourceRule
     None
 }
 
-/// Where the first rule for the two symbols of this one stands.
+/// Adds the place of the first rule for the two symbols of this one.
 fn note_first(report: &mut Report, source: &Source, rule: &SourceRule) {
     if let Some(first) = first_for(source, rule) {
         report.note(first.first.name.place, sentences::FIRST_RULE);
@@ -155,7 +155,7 @@ fn gives_back(symbol: &SourceSymbol, place: usize) -> bool {
     }
 }
 
-/// Whether a destructor has the ports of an eraser or of a duplicator: none, or two outputs of what it takes.
+/// Whether a destructor has the ports of an eraser or of a duplicator: no auxiliary port, or two outputs of the type that it takes.
 fn erases_or_copies(destructor: &SourceSymbol) -> bool {
     match arity(destructor) {
         0 => true,
@@ -198,7 +198,7 @@ fn add_gap_of<'s>(
     }
 }
 
-/// The symbol of which the name stands at a place, where there is one and it is declared.
+/// The symbol whose name is at a place, if there is one and it is declared.
 fn symbol_at<'a>(
     report: &Report,
     source: &'a Source,

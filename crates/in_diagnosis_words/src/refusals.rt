@@ -1,4 +1,4 @@
-//! What is refused of a text, or of a program's tree without a look at its nets.
+//! The refusals of a text, and those of a program's tree that need no nets.
 use crate::closed_wires::add_closed;
 use crate::grammar::{add_limit, add_long_text, add_long_word, add_unexpected};
 use crate::letters::add_no_token;
@@ -29,7 +29,7 @@ pub fn add_text_fault(report: &mut Report, refusal: Refusal, expected: Expected)
     }
 }
 
-/// What is wrong with a name, or with how often it stands.
+/// Adds what is wrong with a name, or with how often it occurs.
 fn add_name_fault(report: &mut Report, source: &Source, code: Code, place: Place) {
     match code {
         Code::E04 => add_declared_twice(report, source, place),
@@ -40,7 +40,7 @@ fn add_name_fault(report: &mut Report, source: &Source, code: Code, place: Place
     }
 }
 
-/// What is wrong with a pair of symbols, or the wire that is closed.
+/// Adds what is wrong with a pair of symbols, or which wire is closed.
 fn add_pair_fault(report: &mut Report, source: &Source, refusal: Refusal) {
     let Refusal { code, place, other } = refusal;
     match code {

@@ -23,8 +23,8 @@ pub(crate) struct Part {
     pub(crate) sentence: String,
 }
 
-/// A change of the text that the part of this number tells. Whether the program is accepted with all changes of that part, as a check of the
-/// changed text found; where none was made, it is false.
+/// A change of the text that the part of this number suggests, and whether the program is accepted with all changes of that part, as a check of the
+/// changed text found; without such a check, it is false.
 #[derive(Drop)]
 pub(crate) struct Remedy {
     pub(crate) part: usize,
@@ -61,7 +61,7 @@ impl<'a> Report<'a> {
         self.text
     }
 
-    /// What stands at a place of the text.
+    /// The text at a place.
     pub(crate) fn at(&self, place: Place) -> &'a str {
         between(self.text, place.from, place.to)
     }
@@ -172,7 +172,7 @@ impl<'a> Report<'a> {
         Ok(())
     }
 
-    /// Adds these changes of the text to the last part: what it tells, as data. Whether the program is accepted with all of them.
+    /// Adds these changes of the text to the last part, as data, and whether the program is accepted with all of them.
     pub fn change_by(&mut self, edits: Vec<Edit>, accepted: bool) {
         for edit in edits {
             let done = self.push_change(edit, accepted);
@@ -191,7 +191,7 @@ impl<'a> Report<'a> {
         }
     }
 
-    /// The place of what is wrong, which is told first.
+    /// The place of the error, which comes first.
     pub(crate) fn wrong_place(&self) -> Option<Place> {
         self.parts.first()?.place
     }
@@ -248,7 +248,7 @@ fn text_of(alloc: Global, text: &[u8], parts: &[Part]) -> Result<String, AllocEr
     page.into_text()
 }
 
-/// What stands before a sentence of this kind.
+/// The words before a sentence of this kind.
 fn head(kind: Kind) -> &'static str {
     match kind {
         Kind::Error => "error: ",

@@ -1,4 +1,4 @@
-//! The sentences of diagnoses, whole, with named slots in braces: what is wrong, what belongs to it, and what helps.
+//! The sentences of diagnoses, whole, with named slots in braces: errors, notes and help.
 
 // ---- characters
 

@@ -1,4 +1,4 @@
-//! Variables that stand once in a rule or in the net.
+//! Variables that occur once in a rule or in the net.
 use crate::declarations::{first_of, symbol_named};
 use crate::excerpts::between;
 use crate::near::distance;
@@ -7,13 +7,13 @@ use crate::reports::Report;
 use in_syntax::{NameUse, Place, Source};
 use std::alloc::{AllocError, Global};
 
-/// How many of them are looked at.
+/// At most this many of them are read.
 const MOST_LOOKED_AT: usize = 64;
 
-/// How many of them are told.
+/// How many of them are written.
 const MOST_TOLD: usize = 3;
 
-/// A name that no bracket follows, and where it stands.
+/// A name that no bracket follows, and its place.
 #[derive(Clone, Copy)]
 struct Bare<'a> {
     name: &'a str,
@@ -25,7 +25,7 @@ fn is_bare(name: &NameUse) -> bool {
     !name.is_head && name.arguments == 0
 }
 
-/// The bare names of the rule in which a place stands, or of the net's equations.
+/// The bare names of the rule around a place, or of the net's equations.
 fn bare_names<'a>(
     alloc: Global,
     text: &'a [u8],
@@ -62,7 +62,7 @@ fn is_variable(source: &Source, at: Place, name: &str) -> bool {
             || first_of(source.net.free.as_slice(), name).is_none())
 }
 
-/// Of names that are sorted, the first variables that stand once, but for that of a place.
+/// The first variables that occur once among sorted names, except for the one at a place.
 fn single_variables<'a>(
     alloc: Global,
     source: &Source,
@@ -85,8 +85,7 @@ fn single_variables<'a>(
     Ok(single)
 }
 
-/// The variables that stand once in the rule or in the net in which a place stands, but for that of the place, in the order of the text: 64
-/// at most.
+/// The variables that occur once in the rule or net around a place, except for the one at that place, in the order of the text: at most 64.
 fn single_in<'a>(
     alloc: Global,
     text: &'a [u8],
@@ -100,7 +99,7 @@ fn single_in<'a>(
     Ok(single)
 }
 
-/// What is told of them: those that are near to a name, or the others.
+/// The wanted ones: those that are near to a name, or the others.
 #[derive(Clone, Copy)]
 struct Wanted<'a> {
     name: &'a str,
@@ -108,7 +107,7 @@ struct Wanted<'a> {
     sentence: &'static str,
 }
 
-/// Adds those that are asked for, where `told` are told already; answers how many are told now.
+/// Adds the wanted ones, after the first `told`. Returns how many there are now.
 fn add_wanted(report: &mut Report, single: &[Bare], wanted: Wanted, told: usize) -> usize {
     let mut count = told;
     for bare in single {
@@ -127,7 +126,7 @@ fn add_wanted(report: &mut Report, single: &[Bare], wanted: Wanted, told: usize)
     count
 }
 
-/// Adds these, the near ones first; answers how many are told.
+/// Adds these, the near ones first. Returns how many were added.
 fn add_all(report: &mut Report, single: &[Bare], name: &str, sentence: &'static str) -> usize {
     let near = Wanted {
         name,
@@ -146,8 +145,8 @@ fn add_all(report: &mut Report, single: &[Bare], name: &str, sentence: &'static 
     )
 }
 
-/// Adds the variables that stand once in the rule or in the net of a place, but for that of the place: those that are near to a name first.
-/// Says whether there are any.
+/// Adds the variables that occur once in the rule or net around a place, except for the one at the place: those that are near to a name first.
+/// Returns whether there are any.
 pub(crate) fn add_single(
     report: &mut Report,
     source: &Source,

@@ -1,4 +1,4 @@
-//! What stands in the slots of a sentence.
+//! The values of a sentence's slots.
 use crate::ends::Giving;
 use in_syntax::{Place, SourcePort, SourceSymbol};
 

@@ -1,4 +1,4 @@
-//! Words that are being written: sentences with slots, and what stands in these.
+//! Words that are being written: sentences with slots, and their values.
 use crate::declarations::sign;
 use crate::slots::{Slot, Value, value_of};
 use in_syntax::{Place, SourcePort, SourceSymbol};
@@ -28,25 +28,25 @@ impl Words {
         }
     }
 
-    /// Goes on with these words, as they are.
+    /// Writes these words.
     pub fn say(&mut self, words: &str) {
         let done = self.text.push_str(words);
         self.keep(done);
     }
 
-    /// Goes on with a character.
+    /// Writes a character.
     pub(crate) fn push(&mut self, c: char) {
         let done = self.text.push(c);
         self.keep(done);
     }
 
-    /// Goes on with what is shown so.
+    /// Writes a value by its `Display`.
     pub(crate) fn put<S: Display>(&mut self, shown: &S) {
         let done = write!(self.text, "{shown}");
         self.keep(done);
     }
 
-    /// Goes on with a character as it stands in a string of JSON.
+    /// Writes a character as a string of JSON has it.
     fn quote_character(&mut self, c: char) {
         match c {
             '"' => self.say("\\\""),
@@ -56,14 +56,14 @@ impl Words {
         }
     }
 
-    /// Goes on with the number of a character, as JSON writes it.
+    /// Writes the number of a character as JSON has it.
     fn escape(&mut self, c: char) {
         let number = u32::from(c);
         self.say("\\u");
         self.put(&format_args!("{number:04x}"));
     }
 
-    /// Goes on with these words as a string of JSON.
+    /// Writes these words as a string of JSON.
     pub(crate) fn quote(&mut self, words: &str) {
         self.say("\"");
         for c in words.chars() {
@@ -72,7 +72,7 @@ impl Words {
         self.say("\"");
     }
 
-    /// Goes on with a sentence, with a text in the place of its one slot.
+    /// Writes a sentence, with a text in its one slot.
     pub(crate) fn fill_one(&mut self, sentence: &str, text: &str) {
         match sentence.split_once('{') {
             Some((before, after)) => {
@@ -84,7 +84,7 @@ impl Words {
         }
     }
 
-    /// Goes on with a sentence, with a value in the place of each of its slots.
+    /// Writes a sentence, with a value in each of its slots.
     pub fn fill(&mut self, sentence: &str, slots: &[Slot]) {
         let mut rest = sentence;
         for _slot in 0..sentence.len() {
@@ -99,7 +99,7 @@ impl Words {
         self.say(rest);
     }
 
-    /// Goes on where a sentence goes on with this after a `{`: with the value of a slot, or with the brace. Says what is left of the sentence.
+    /// Writes the value of a slot, or the brace, where a sentence has this after a `{`. Returns the rest of the sentence.
     fn fill_slot<'w>(&mut self, after: &'w str, slots: &[Slot]) -> &'w str {
         if let Some((name, rest)) = after.split_once('}') {
             if let Some(value) = value_of(slots, name) {
@@ -111,7 +111,7 @@ impl Words {
         after
     }
 
-    /// Goes on with a value.
+    /// Writes a value.
     fn value(&mut self, value: Value) {
         match value {
             Value::Text(text) => self.say(text),
@@ -124,7 +124,7 @@ impl Words {
         }
     }
 
-    /// Goes on with a value that is of what a program declares.
+    /// Writes a value that has a part of a program's declarations.
     fn told(&mut self, value: Value) {
         match value {
             Value::Type(port) => self.port_type(port),
@@ -137,36 +137,36 @@ impl Words {
         }
     }
 
-    /// Goes on with a byte.
+    /// Writes a byte.
     fn byte(&mut self, byte: u8) {
         self.put(&format_args!("{byte:#04x}"));
     }
 
-    /// Goes on with a line and a column.
+    /// Writes a line and a column.
     fn spot(&mut self, place: Place) {
         let (line, column) = (place.line, place.col);
         self.put(&format_args!("{line}:{column}"));
     }
 
-    /// Goes on with a number and the words after it.
+    /// Writes a number and the words after it.
     fn count(&mut self, number: usize, one: &str, several: &str) {
         self.put(&number);
         self.say(if number == 1 { one } else { several });
     }
 
-    /// Goes on with the number of a character.
+    /// Writes the number of a character.
     fn code(&mut self, c: char) {
         let number = u32::from(c);
         self.put(&format_args!("U+{number:04X}"));
     }
 
-    /// Goes on with a port's type, as it is written.
+    /// Writes a port's type, as the text has it.
     fn port_type(&mut self, port: &SourcePort) {
         self.say(port.kind.text.as_str());
         self.say(sign(port));
     }
 
-    /// Goes on with a port of a symbol.
+    /// Writes a port of a symbol.
     fn port(&mut self, symbol: &SourceSymbol, number: usize) {
         if number == 0 {
             self.say("the principal port");
@@ -179,7 +179,7 @@ impl Words {
         self.say("`");
     }
 
-    /// Goes on with a letter for each of `count` terms, from letter `first` on.
+    /// Writes a letter for each of `count` terms, from letter `first` on.
     fn letters(&mut self, first: usize, count: usize) {
         for number in 0..count {
             self.say(if number > 0 { ", " } else { "" });
@@ -197,7 +197,7 @@ impl Words {
     }
 }
 
-/// What follows a slot, of which the name begins here.
+/// The text after the slot whose name begins here.
 fn after_slot(slot: &str) -> &str {
     match slot.split_once('}') {
         Some((_, after)) => after,

@@ -19,7 +19,7 @@ use Rattle.in_export.specs.Queues.{AreOnWires, ActiveWiresAreTheQueue}
 
 -- ---- the pair of a wire
 
--- two agents stand in one order or the other
+-- two agents are in one order or the other
 ordered : (t : Tables) (a b : AgentNo) (f s : SymbolNo) → a ≢ b → (z : AgentNo × AgentNo) × IsOrdered t (a, f) (b, s) z
 ordered t a b f s apart = go (is_constructor t f.0) (is_constructor t s.0) refl refl (let o : (a.0 < b.0) ⊎ (a.0 ≡ b.0) ⊎ (b.0 < a.0) = grind arith in o)
   where

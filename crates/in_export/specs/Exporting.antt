@@ -1,4 +1,4 @@
--- What exporting a text answers, and the law over it.
+-- The result of exporting a text, and the law on it.
 use Rattle.std.specs.Prelude.{◌≡◌, ℕ, List, Result, Ok, Err, Vec}
 use Rattle.std.specs.Global.{Global}
 use Rattle.in_syntax.specs.declared.faults.Fault.{Fault}
@@ -8,7 +8,7 @@ use Rattle.in_check.specs.Checking.{IsAccepted, IsRefused}
 use Rattle.in_check.specs.Programs.{Program}
 use Rattle.in_export.specs.Programs.{program_line}
 
--- the answer with the bytes of the line
+-- the result with the bytes of the line
 abbrev pub as_bytes : Result (Vec ℕ Global) Fault → Result (List ℕ) Fault
 as_bytes (Ok line) = Ok line.items
 as_bytes (Err f) = Err f
@@ -19,6 +19,6 @@ Exports text (Ok line) = (p : Program) × IsAccepted text p × (line ≡ program
 Exports text (Err (Refused r)) = IsRefused text r
 Exports text (Err (Memory e)) = Unit {0}
 
--- all that exporting may answer a text agrees: it has one line, or one refusal, and never both
+-- all results that exporting may have for a text agree: one line, or one refusal, and never both
 abbrev pub TextsAreExportedOnce : Type 0
 TextsAreExportedOnce = (text : List ℕ) → IsOne (Exports text)

@@ -1,7 +1,7 @@
 //! An accepted program as data: one JSON object on one line, with the program's tables, its rules, its net, and the steps that build
 //! them. `docs/use/EXPORT.md` has the format for readers, `specs/Programs.antt` its definition.
 //!
-//! It stands on what `in_check` gives out, and no other crate on it but the program `inet_export`. `json` writes numbers, names and
+//! It uses the calls of `in_check`. `json` writes numbers, names and
 //! commas; `symbols`, `nets` and `steps` write a table, a net and a certificate, `programs` the line. Each function adds to a list of
 //! bytes the text that its contract names, and each loop is one lemma (`Arrays`).
 #![tactic(auto)]

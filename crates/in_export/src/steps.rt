@@ -43,7 +43,7 @@ fn add_further(bytes: &mut Vec<u8>, alloc: Global, number: u32) -> Result<(), Al
     add_number(bytes, alloc, number)
 }
 
-/// Adds what a step is made of, after its word.
+/// Adds the operands of a step, after its word.
 fn add_operands(bytes: &mut Vec<u8>, alloc: Global, step: &Step) -> Result<(), AllocError>
     ensures { OnOk result (bytes.new.items ≡ bytes.old.items ++ operands_text step.now) }
 {
@@ -68,7 +68,7 @@ fn add_operands(bytes: &mut Vec<u8>, alloc: Global, step: &Step) -> Result<(), A
     }
 }
 
-/// What a step is called.
+/// The name of a step.
 fn step_name(step: &Step) -> &'static str
     ensures { result.now ≡ step_name step.now }
 {
@@ -89,7 +89,7 @@ fn step_name(step: &Step) -> &'static str
     }
 }
 
-/// Adds a step: its name, and what it is made of.
+/// Adds a step: its name and its operands.
 fn add_step(bytes: &mut Vec<u8>, alloc: Global, step: &Step) -> Result<(), AllocError>
     ensures { OnOk result (bytes.new.items ≡ bytes.old.items ++ step_text (Some step.now)) }
 {

@@ -1,4 +1,4 @@
--- The net after an interaction is glued from the rest and the right member, and what is glued from them is the net after it.
+-- The net after an interaction is glued from the rest and the right member, and each net glued from them is the net after it.
 use Rattle.std.proofs.Common.{◌≡◌, ◌≢◌, ◌⊎◌, ◌+◌, ◌<◌, ◌≤◌, ℕ, zero, suc, Bool, true, false, cond, nat_lt, Some, List, [], ◌∷◌, ◌++◌, length, map, slice_get, refl, sym, subst, ap, ◌∙◌, inl, inr, arith, lt-ltb, ltb-true, ltb-false, le-ltb, append_assoc}
 use Rattle.std.proofs.lemmas.List.{length-map}
 use Rattle.std.proofs.lemmas.Option.{same_Some}

@@ -1,5 +1,5 @@
--- Two nets that stand side by side in a net are determined by it and by the symbols of the first, but for the numbers that agents of the
--- second have by themselves; and what two nets are side by side is one net, up to the names of its agents.
+-- Two nets side by side in a net are determined by it and by the symbols of the first, except for the numbers that agents of the second have by
+-- themselves. Two nets are side by side in one net, up to the names of its agents.
 use Rattle.std.proofs.Common.{◌≡◌, ◌<◌, ℕ, zero, suc, Option, Some, None, IsSome, List, [], length, slice_get, refl, sym, ap, ◌∙◌}
 use Rattle.std.proofs.lemmas.Option.{slice_get_within}
 use Rattle.in_symbols.specs.declared.symbols.PortType.{PortType}

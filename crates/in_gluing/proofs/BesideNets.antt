@@ -1,4 +1,4 @@
--- What stands side by side in a net is a net.
+-- Nets side by side are a net.
 use Rattle.std.proofs.Common.{◌≡◌, ℕ, zero, suc, Option, Some, IsSome, IsSomeAnd, ◌≤◌, List, sym, subst, ◌∙◌}
 use Rattle.in_net.specs.Nets.{Point, Port, Free, Net, Signature, IsPoint, IsNet}
 use Rattle.in_interaction.proofs.Public.{has_value}
@@ -58,6 +58,6 @@ module _ (sig : Signature) (one two m : Net ℕ) (name : ℕ → ℕ) (ends : Li
 pub beside_parts_are_nets : BesidePartsAreNets
 beside_parts_are_nets sig one two n name ends net wired_one wired_two h = (first_net sig one two n name ends h net wired_one wired_two, second_net sig one two n name ends h net wired_one wired_two)
 
--- the wires of a net lead between what it has
+-- the wires of a net lead between its own points
 pub net_within : (sig : Signature) (n : Net ℕ) → IsNet sig n → IsWiredWithin n
 net_within sig n net = record { agents = net.agents; all = net.all; there = λ u v e. point_there sig n u (net.points u v e); back = (net.back, net.apart) }

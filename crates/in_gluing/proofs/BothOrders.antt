@@ -26,7 +26,7 @@ birth_discrete (Born a b k) (Born c d l) = go (birth_discrete a c) (birth_discre
     go (yes e) (no u) h = no (λ i. let w : b ≡ d = cc in u w)
     go (yes e) (yes f) (no u) = no (λ i. let w : k ≡ l = cc in u w)
 
--- the other pair stands after the interaction
+-- the other pair is after the interaction
 pub redex_stays : {A B : Type 0} (sig : Signature) (n : Net A) (x y : Redex A B) → IsRedex sig n y → AreApart x y → (name : B → A) (one : Net A) → IsStep sig n x name one → IsRedex sig one y
 redex_stays sig n x y ry apart name one step = record {
   one = (step.agents y.one y.first).1 (inl ((λ e. apart.one.0 (sym e)), (λ e. apart.two.0 (sym e)), ry.one));

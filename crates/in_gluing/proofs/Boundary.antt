@@ -205,7 +205,7 @@ module _ (sig : Signature) (n : Net ℕ) (x : Redex ℕ ℕ) (name : ℕ → ℕ
           ),
         )
 
-    -- where a path of the parts ends, and what it is a path of
+    -- where a path of the parts ends, and of which net it is a path
     record From (s : Side) (u : Point ℕ) (q : Spot) : Type 0 where
       side : Side
       is_side : q.0 ≡ part_of side

@@ -1,4 +1,4 @@
--- Names of glued nets: what is glued from the same parts is one net up to names.
+-- Names of glued nets: those glued from the same parts are one net up to names.
 use Rattle.std.proofs.Common.{◌≡◌, ◌⊎◌, ℕ, Option, Some, None, IsSome, List, [], ◌∷◌, option_map, refl, sym, ap, ◌∙◌, inl, inr}
 use native.Mathlib.Decide.{ℕ_discrete}
 use Rattle.in_base.specs.Lists.{IsAmong}

@@ -1,4 +1,4 @@
--- What is left of a net without an active pair exists.
+-- The rest of a net, once an active pair is taken out, exists.
 use Rattle.std.proofs.Common.{◌≡◌, ◌≢◌, ◌+◌, ◌-◌, ◌<◌, ◌≤◌, ℕ, zero, suc, Bool, true, false, cond, nat_lt, Option, Some, None, IsSomeAnd, length, map, ◌++◌, refl, sym, subst, ap, ◌∙◌, inl, inr, arith, lt-ltb, ltb-true, ltb-false, le-ltb}
 use native.Mathlib.Decide.{ℕ_discrete}
 use Rattle.std.specs.Prelude.{option_and_then}

@@ -1,4 +1,4 @@
--- The rest and the right member stand side by side in some net.
+-- The rest and the right member are side by side in some net.
 use Rattle.std.proofs.Common.{◌≡◌, ◌⊎◌, ◌+◌, ◌-◌, ◌<◌, ◌≤◌, ℕ, zero, suc, Option, Some, None, option_map, length, refl, sym, subst, ap, ◌∙◌, inl, inr, arith}
 use Rattle.in_net.specs.Interactions.{Redex}
 use Rattle.in_net.specs.Nets.{Point, Port, Free, Signature, Net, IsNet}

@@ -1,4 +1,4 @@
--- Where the pair is taken out of the net and the right member stands beside it, no boundary end is joined.
+-- When the pair is taken out of the net and the right member is beside it, no boundary end is joined.
 use Rattle.std.proofs.Common.{◌≡◌, ◌⊎◌, ◌+◌, ◌<◌, ℕ, zero, suc, false, Some, length, refl, sym, subst, ap, ◌∙◌, inl, inr}
 use Rattle.in_net.specs.Interactions.{Redex}
 use Rattle.in_net.specs.Nets.{Point, Port, Free, Signature, Net}

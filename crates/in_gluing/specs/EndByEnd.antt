@@ -36,7 +36,7 @@ pub record IsOneEndMore (joined more : ℕ → Bool) (e : ℕ) : Type 0 where
   pub now : more e ≡ true
   pub others : (d : ℕ) → d ≢ e → more d ≡ joined d
 
--- where a point of the net, and one of the right member, is when the two stand side by side
+-- where a point of the net, and one of the right member, is when the two are side by side
 abbrev pub IsOuterAt : Signature → Net ℕ → Redex ℕ ℕ → Point ℕ → Point ℕ → Type 0
 IsOuterAt sig n x (Port y i) u = ((y ≢ x.one) × (y ≢ x.two) × (u ≡ Port y i)) ⊎ ((e : ℕ) × (e < length x.member.free) × (boundary_port sig x e ≡ Port y i) × (u ≡ Free (outer_end n x e)))
 IsOuterAt sig n x (Free k) u = u ≡ Free k
@@ -45,7 +45,7 @@ abbrev pub IsInnerAt : Net ℕ → Redex ℕ ℕ → (ℕ → ℕ) → Point ℕ
 IsInnerAt n x name (Port k i) u = u ≡ Port (name k) i
 IsInnerAt n x name (Free e) u = u ≡ Free (inner_end n x e)
 
--- the pair is taken out of the net, and the right member stands beside it: the wires are those of the net before, without the one between
+-- the pair is taken out of the net, and the right member is beside it: the wires are those of the net before, without the one between
 -- the pair's principal ports, and those of the right member
 pub record IsTakenApart (sig : Signature) (n : Net ℕ) (x : Redex ℕ ℕ) (name : ℕ → ℕ) (m : Net ℕ) : Type 0 where
   pub agents : (y s : ℕ) → (m.symbol y ≡ Some s) ↔ (((y ≢ x.one) × (y ≢ x.two) × (n.symbol y ≡ Some s)) ⊎ ((k : ℕ) × (name k ≡ y) × (x.member.symbol k ≡ Some s)))
@@ -61,7 +61,7 @@ abbrev pub TakenApartHasJoinedNone : Type 0
 TakenApartHasJoinedNone = (sig : Signature) (n : Net ℕ) (x : Redex ℕ ℕ) (name : ℕ → ℕ) (joined : ℕ → Bool) (m : Net ℕ) → CanStep sig n x name →
     ((e : ℕ) → joined e ≡ false) → IsTakenApart sig n x name m → HasJoined sig n x name joined m
 
--- nor is one where the rest and the right member stand side by side
+-- nor is one where the rest and the right member are side by side
 abbrev pub BesideHasJoinedNone : Type 0
 BesideHasJoinedNone = (sig : Signature) (n : Net ℕ) (x : Redex ℕ ℕ) (name : ℕ → ℕ) (joined : ℕ → Bool) (rest m : Net ℕ) →
     CanStep sig n x name → IsRestOf sig n x rest →

@@ -1,5 +1,5 @@
 -- A net that is glued from parts: each part is a net with free ends of its own, and some of these are joined, two and two. Lafont 1990
--- reduces nets locally, and takes the rest of a net as it is; that a net is cut into parts and glued again is this project's own choice.
+-- reduces nets locally, and leaves the rest of a net unchanged; that a net is cut into parts and glued again is this project's own choice.
 use Rattle.std.specs.Prelude.{◌≡◌, ◌≢◌, ◌↔◌, ◌<◌, ℕ, List, length, map, slice_get, Option, Some, None, IsSome}
 use Rattle.in_symbols.specs.declared.symbols.PortType.{PortType}
 use Rattle.in_net.specs.Interactions.{Redex, Side, Outer, Inner, Alternates}

@@ -1,4 +1,4 @@
--- Gluing joint by joint, in place: the parts stand side by side in one net, whose free ends have numbers of their own, and one joint after
+-- Gluing joint by joint, in place: the parts are side by side in one net, whose free ends have numbers of their own, and one joint after
 -- another joins two of these. A free end that is joined has no wire from then on.
 use Rattle.std.specs.Prelude.{◌≡◌, ◌≢◌, ◌⊎◌, ◌↔◌, ℕ, List, map, slice_get, Some, None}
 use Rattle.in_net.specs.Nets.{Point, Port, Free, Net}
@@ -35,7 +35,7 @@ IsNeither a b u = (u ≢ Free a) × (u ≢ Free b)
 abbrev pub ArePartnersAfter : {C : Type 0} → Net C → ℕ → ℕ → Point C → Point C → Type 0
 ArePartnersAfter m a b u v = (m.partner u ≡ Some v) ⊎ ((m.partner u ≡ Some (Free a)) × (m.partner (Free b) ≡ Some v)) ⊎ ((m.partner u ≡ Some (Free b)) × (m.partner (Free a) ≡ Some v))
 
--- what one joint makes of a net: the partners of the two free ends are partners of one another
+-- the result of one joint: the partners of the two free ends are partners of one another
 pub record JoinsEnds {C : Type 0} (m : Net C) (a b : ℕ) (w : Net C) : Type 0 where
   pub agents : HasSameAgents w m
   pub wires : (u v : Point C) → (w.partner u ≡ Some v) ↔ (IsNeither a b u × IsNeither a b v × ArePartnersAfter m a b u v)
@@ -60,7 +60,7 @@ JoinsNext = (parts : ℕ → Net ℕ) (name : ℕ → ℕ → ℕ) (number : ℕ
 
 -- ---- where gluing begins, and where it ends
 
--- the parts stand side by side: the wires are those of the parts
+-- the parts are side by side: the wires are those of the parts
 pub record IsBeside {A C : Type 0} (parts : ℕ → Net A) (name : ℕ → A → C) (number : ℕ × ℕ → ℕ) (m : Net C) : Type 0 where
   pub agents : HasAgentsOfParts parts name m
   pub wires : (u v : Point C) → (m.partner u ≡ Some v) ↔ ((i : ℕ) × (p q : Point A) × IsAtNumber number name i p u × IsAtNumber number name i q v × ((parts i).partner p ≡ Some q))

@@ -5,13 +5,13 @@ use Rattle.in_net.specs.Nets.{Point, Port, Free, Signature, Net, IsNet}
 use Rattle.in_net.specs.Renaming.{IsRenamed}
 use Rattle.in_gluing.specs.Gluing.{Cuts, glue_wire, AreAllApart, IsGlued, placed_pair, AreOthers}
 
--- what an interaction makes of one part it makes of the whole: each net that is glued from the parts after it is the whole after it
+-- an interaction of one part is one of the whole: each net that is glued from the parts after it is the whole after it
 abbrev pub FramesStep : Type 0
 FramesStep = (sig : Signature) (parts after : ℕ → Net ℕ) (name : ℕ → ℕ → ℕ) (cuts : Cuts) (i : ℕ) (x : Redex ℕ ℕ) (new : ℕ → ℕ) (whole whole_after : Net ℕ) →
     AreAllApart name → IsGlued parts name cuts whole → IsStep sig (parts i) x new (after i) → AreOthers i parts after → IsGlued after name cuts whole_after →
     IsStep sig whole (placed_pair name i x) (λ k. name i (new k)) whole_after
 
--- .. and what it makes of the whole is glued from the parts after it
+-- .. and the whole after it is glued from the parts after it
 abbrev pub FramesGlue : Type 0
 FramesGlue = (sig : Signature) (parts after : ℕ → Net ℕ) (name : ℕ → ℕ → ℕ) (cuts : Cuts) (i : ℕ) (x : Redex ℕ ℕ) (new : ℕ → ℕ) (whole whole_after : Net ℕ) →
     AreAllApart name → IsGlued parts name cuts whole → IsStep sig (parts i) x new (after i) → AreOthers i parts after →

@@ -72,7 +72,7 @@ abbrev pub OneMoreIsMade : Type 0
 OneMoreIsMade = (t : Tables) (n : Parts) (r : RuleParts) (a b : AgentNo) (name : ℕ → ℕ) (end : ℕ) (made : List (AgentNo × AgentNo)) (q : AgentNo × AgentNo) →
     CanStepAt t n r a b name → AreMadeSoFar t n r a b name (suc end) made → IsMade t n r a b name end q → AreMadeSoFar t n r a b name end (made ++ q ∷ [])
 
--- .. and where none is made there, there is none more
+-- .. and if none is made there, there is no more
 abbrev pub NoMoreIsMade : Type 0
 NoMoreIsMade = (t : Tables) (n : Parts) (r : RuleParts) (a b : AgentNo) (name : ℕ → ℕ) (end : ℕ) (made : List (AgentNo × AgentNo)) →
     AreMadeSoFar t n r a b name (suc end) made → ((q : AgentNo × AgentNo) → IsMade t n r a b name end q → ⊥) → AreMadeSoFar t n r a b name end made

@@ -30,7 +30,7 @@ pub record IsWiredWithin (m : Net ℕ) : Type 0 where
   pub there : (u v : Point ℕ) → m.partner u ≡ Some v → IsThere m u
   pub back : WiresLeadBack m
 
--- what stands side by side in a net is a net
+-- nets side by side in a net are nets
 abbrev pub BesidePartsAreNets : Type 0
 BesidePartsAreNets = (sig : Signature) (one two n : Net ℕ) (name : ℕ → ℕ) (ends : List (ℕ × ℕ)) → IsNet sig n → IsWiredWithin one → IsWiredWithin two →
     StandBeside one two name ends n → IsNet sig one × IsNet sig two
@@ -43,7 +43,7 @@ BesidePartsAreAlike = (one two one_too two_too n : Net ℕ) (name name_too : ℕ
     StandBeside one two name ends n → StandBeside one_too two_too name_too ends n → ((y : ℕ) → one.symbol y ≡ one_too.symbol y) →
     IsRenamed (λ y. y) one one_too × (f : ℕ → ℕ) × IsRenamed f two two_too
 
--- what two nets are side by side is one net, up to the names of its agents
+-- two nets are side by side in one net, up to the names of its agents
 abbrev pub BesideIsOne : Type 0
 BesideIsOne = (one two n n_too : Net ℕ) (name name_too : ℕ → ℕ) (ends : List (ℕ × ℕ)) → IsWiredWithin one → IsWiredWithin two →
     StandBeside one two name ends n → StandBeside one two name_too ends n_too → (f : ℕ → ℕ) × IsRenamed f n n_too

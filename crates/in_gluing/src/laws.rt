@@ -13,12 +13,12 @@ pub fn interactions_commute()
     ensures { InteractionsCommute }
 {}
 
-/// Under birth names, whatever two interactions lead to in either order is one net.
+/// Under birth names, two interactions lead to one net in either order.
 pub fn orders_are_one()
     ensures { OrdersAreOne }
 {}
 
-/// What two interactions lead to, one after the other, is the net after both at once.
+/// Two interactions, one after the other, lead to the net after both at once.
 pub fn orders_are_both_at_once()
     ensures { OrdersAreBothAtOnce }
 {}
@@ -29,7 +29,7 @@ pub fn frames_step()
     ensures { FramesStep }
 {}
 
-/// What an interaction of one part makes of the whole is glued from the parts after it, so that there is such a net.
+/// The whole after an interaction of one part is glued from the parts after it, so there is such a net.
 pub fn frames_glue()
     ensures { FramesGlue }
 {}
@@ -75,7 +75,7 @@ pub fn join_exists()
     ensures { JoinExists }
 {}
 
-/// Whatever net a joint makes, its partners lead back.
+/// In each net that a joint makes, partners lead back.
 pub fn joins_lead_back()
     ensures { JoinsLeadBack }
 {}
@@ -187,7 +187,7 @@ pub fn beside_parts_are_alike()
     ensures { BesidePartsAreAlike }
 {}
 
-/// What two nets are side by side is one net, up to the names of its agents.
+/// Two nets are side by side in one net, up to the names of its agents.
 pub fn beside_is_one()
     ensures { BesideIsOne }
 {}

@@ -1,4 +1,4 @@
--- A stock, a gather and what is in hand have all cells that are on lease.
+-- A stock, a gather and a hand have together all cells that are on lease.
 use Rattle.std.proofs.Common.{ℕ, List, [], ◌∷◌, All, Some, Ok, sym, ap, ◌∙◌, subst, arith}
 use Rattle.std.proofs.lemmas.List.Elements.{All-cons, All-head, All-nil, All-tail}
 use Rattle.in_arena.specs.Arenas.{ArenaView, NoneLeased}

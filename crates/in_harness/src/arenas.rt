@@ -1,4 +1,4 @@
-//! What is asked of a program's templates over a new arena.
+//! Questions about a program's templates over a new arena.
 ghost use Rattle.in_compile.specs.Templates.{AreTemplatesOf};
 
 use crate::gathers::add_gather;
@@ -41,7 +41,7 @@ fn add_in_many<R: Threads + Wait>(
     }
 }
 
-/// What the words ask: `gather` or `workers`.
+/// Answers the words `gather` or `workers`.
 pub fn add_over_arena<R: Threads + Wait>(
     rt: &R,
     sheet: &mut Sheet,

@@ -28,7 +28,7 @@ fn gather(alloc: Global) -> Option<Came> {
     came_of(Gather::new(alloc, &jobs))
 }
 
-/// What comes of printing a machine's net, which is this text. When out of memory, no byte is written.
+/// The result of printing a machine's net, which is this text. When out of memory, no byte is written.
 fn written(alloc: Global, machine: &Machine, writer: &mut MemoryOut, text: &[u8]) -> Came
     requires { writer.old.failures ≡ 0 }
 {
@@ -46,7 +46,7 @@ fn print(alloc: Global, machine: &Machine) -> Option<Came> {
     Some(written(alloc, machine, &mut writer, first.text()))
 }
 
-/// What came of a call, if it left the machine like this.
+/// The result of a call, if it left the machine like this.
 fn if_left(alloc: Global, machine: &Machine, wanted: &Sheet, came: Came) -> Came {
     let mut found = Sheet::new(alloc);
     add_view(&mut found, machine);
@@ -68,7 +68,7 @@ fn of_two<R: Threads + Wait>(
     one_round(rt, alloc, machine, 2, BUDGET as u64, &NoGate)
 }
 
-/// What comes of a round after one that was refused, which has to leave the machine as it was.
+/// The result of a round after a refused one, which has to leave the machine as before.
 fn rounded_then<R: Threads + Wait>(
     rt: &R,
     alloc: Global,
@@ -99,7 +99,7 @@ fn rounded_then<R: Threads + Wait>(
     }
 }
 
-/// What comes of a round.
+/// The result of a round.
 fn rounded<R: Threads + Wait>(
     rt: &R,
     alloc: Global,
@@ -121,7 +121,7 @@ fn rounded<R: Threads + Wait>(
     }
 }
 
-/// The same of a machine of which it is looked at first how it is before.
+/// The same for a machine whose net was read first, before the call.
 fn looked_at_and_rounded<R: Threads + Wait>(
     rt: &R,
     alloc: Global,
@@ -137,20 +137,20 @@ fn looked_at_and_rounded<R: Threads + Wait>(
     }
 }
 
-/// What is asked of a new machine.
+/// A question about a new machine.
 #[derive(Clone, Copy)]
 enum Question {
     /// Whether there is one.
     Start,
-    /// What comes of printing its net.
+    /// The result of printing its net.
     Printing,
-    /// What it shows after as many steps as a round does.
+    /// The net that it shows after as many steps as a round does.
     Steps,
-    /// What comes of a round, after which it has to show that.
+    /// The result of a round, after which it has to show that.
     Round,
 }
 
-/// What comes of a question. The view is what a machine shows after the steps.
+/// Adds the answer to a question. The view is the net that a machine shows after the steps.
 fn asked<R: Threads + Wait>(
     rt: &R,
     alloc: Global,
@@ -170,7 +170,7 @@ fn asked<R: Threads + Wait>(
     }
 }
 
-/// What comes of a question where memory runs out before there is a machine.
+/// The answer to a question if memory runs out before there is a machine.
 fn unasked(question: Question) -> Option<Came> {
     match question {
         Question::Start => Some(Came::Memory),
@@ -178,7 +178,7 @@ fn unasked(question: Question) -> Option<Came> {
     }
 }
 
-/// What comes of a question to a new machine of a program.
+/// The answer to a question about a new machine of a program.
 fn of_machine<R: Threads + Wait>(
     rt: &R,
     alloc: Global,

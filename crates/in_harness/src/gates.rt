@@ -15,7 +15,7 @@ pub struct Together {
 }
 
 impl Together {
-    /// For `jobs` jobs; for one it stands open.
+    /// A gate for `jobs` jobs. For one job it is open.
     pub fn of(jobs: u32) -> Together {
         Together {
             jobs,

@@ -15,7 +15,7 @@ use in_rounds::{Done, Gather, Why};
 use in_symbols::SymbolNo;
 use std::alloc::Global;
 
-/// Two symbols by their numbers, the first of which is at this place of the words.
+/// Two symbols by their numbers, of which the first is the word at this index.
 fn pair_at(words: &[String], at: usize) -> (SymbolNo, SymbolNo) {
     let first = SymbolNo(small(words, at));
     (first, SymbolNo(small(words, at.saturating_add(1))))
@@ -33,7 +33,7 @@ pub fn is_pair(checked: &Checked, templates: &Templates, c: SymbolNo, d: SymbolN
     symbols.matching(c, d)
 }
 
-/// What is placed for a job, in cells of the stock. Nothing where it may hold too few, or when out of memory.
+/// The placed member of a job, in cells of the stock; `None` if the stock may hold too few, or when out of memory.
 fn made<'t>(
     alloc: Global,
     templates: &'t Templates,
@@ -103,7 +103,7 @@ fn taken(arena: &mut Arena, stock: &Stock, gather: &mut Gather, job: u32) -> &'s
     }
 }
 
-/// What is answered to the words from this one on: `put JOB ONE OTHER` or `take JOB`; nothing for other words.
+/// Answers the words from this one on: `put JOB ONE OTHER` or `take JOB`; `None` for other words.
 fn answered<'t>(
     alloc: Global,
     program: &Checked,
@@ -170,8 +170,8 @@ fn add_free(sheet: &mut Sheet, arena: &Arena) {
     sheet.fill("#\n", &[arena.free_count(CellClass::Small) as u64]);
 }
 
-/// What a row of puts and takes answers, over a list of two jobs; how many small cells are free before, once the stock is spent, and once the gather
-/// is.
+/// The results of a row of puts and takes, over a list of two jobs; how many small cells are free before, once the stock is spent, and once the
+/// gather is.
 pub fn add_gather(
     sheet: &mut Sheet,
     program: &Checked,

@@ -63,7 +63,7 @@ fn read_text<R: Read>(alloc: Global, reader: &mut R) -> io::Result<Vec<u8>> {
     Ok(text)
 }
 
-/// What is asked of a machine.
+/// Adds the answer to a question about a machine.
 fn add_of_machine<R: Threads + Wait>(
     rt: &R,
     sheet: &mut Sheet,
@@ -80,7 +80,7 @@ fn add_of_machine<R: Threads + Wait>(
     }
 }
 
-/// A machine of a program with the cells of each class that the words say, and what is asked of it.
+/// Builds a machine of a program, with as many cells of each class as the words say, and adds the answer to a question about it.
 fn add_machine_run<R: Threads + Wait>(
     rt: &R,
     sheet: &mut Sheet,
@@ -101,7 +101,7 @@ fn add_machine_run<R: Threads + Wait>(
     }
 }
 
-/// What is asked of an accepted program.
+/// Adds the answer to a question about an accepted program.
 fn add_of_program<R: Threads + Wait>(
     rt: &R,
     sheet: &mut Sheet,

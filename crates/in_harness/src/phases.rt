@@ -59,7 +59,7 @@ fn one_phase<R: Threads>(
     phase(rt, alloc, machine, sharing, room)
 }
 
-/// As many interactions in turn as are asked for, and a phase, within what is left.
+/// As many interactions in turn as requested, and a phase, within the interactions that are left.
 fn turns_and_phase<R: Threads>(
     rt: &R,
     alloc: Global,

@@ -7,7 +7,7 @@ use std::alloc::{AllocError, Global};
 use std::sync::Wait;
 use std::thread::Threads;
 
-/// The interactions of the first pairs in turn, at most `most`, while what the first one needs is free. Says how many they were.
+/// The interactions of the first pairs in turn, at most `most`, while the cells that the first one needs are free. Returns how many there were.
 pub fn turns(machine: &mut Machine, most: u64) -> u64 {
     for turn in 0..most {
         if machine.pairs() == 0 || !machine.has_room(0) {
@@ -18,7 +18,7 @@ pub fn turns(machine: &mut Machine, most: u64) -> u64 {
     most
 }
 
-/// A round with these workers and this budget; nothing where these are out of range, or no pair is there, or what it needs isn't free.
+/// A round with these workers and this budget; `None` if these are out of range, there is no pair, or the cells that it needs aren't free.
 pub fn one_round<R: Threads + Wait, G: Gate + Sync>(
     rt: &R,
     alloc: Global,
@@ -75,7 +75,7 @@ fn add_done(sheet: &mut Sheet, machine: &mut Machine, done: Round, steps: u64) {
     add_printed(sheet, machine);
 }
 
-/// A round among others, and what the machine shows after it.
+/// Adds one of several rounds, and the net that the machine shows after it.
 fn add_one_of_rounds<R: Threads + Wait>(
     rt: &R,
     sheet: &mut Sheet,
@@ -91,7 +91,7 @@ fn add_one_of_rounds<R: Threads + Wait>(
     add_view(sheet, machine);
 }
 
-/// As many rounds in a row as the words say, with the workers and the budget that they say, and what the machine shows after each.
+/// As many rounds in a row as the words say, with the workers and the budget that they say, and the view of the machine after each.
 pub fn add_rounds<R: Threads + Wait>(
     rt: &R,
     sheet: &mut Sheet,
@@ -103,7 +103,7 @@ pub fn add_rounds<R: Threads + Wait>(
     }
 }
 
-/// Interactions in turn, as many as each of the words says, and what the machine shows after these.
+/// Interactions in turn, as many as each of the words says, and the view of the machine after these.
 pub fn add_steps(sheet: &mut Sheet, machine: &mut Machine, words: &[String]) {
     for at in 3..words.len() {
         let done = turns(machine, number(words, at));
@@ -112,8 +112,8 @@ pub fn add_steps(sheet: &mut Sheet, machine: &mut Machine, words: &[String]) {
     }
 }
 
-/// Interactions, as many as the words say, by `step`, by `take_newest` and by `take_first`, and how many each did: nothing of the net, so that
-/// whoever counts requests for memory sees those of these calls.
+/// Interactions, as many as the words say, by `step`, by `take_newest` and by `take_first`, and how many each did: nothing of the net, so that a
+/// count of the requests for memory has those of these calls alone.
 pub fn add_still(sheet: &mut Sheet, machine: &mut Machine, words: &[String]) {
     let stepped = turns(machine, number(words, 3));
     let newest = machine.take_newest(0, number(words, 4));

@@ -1,4 +1,4 @@
-//! Runs, and what they come to.
+//! Runs and their outcomes.
 use crate::showing::add_machine;
 use in_check::Checked;
 use in_harness_texts::{Came, Sheet, add_call, number, small};
@@ -8,7 +8,7 @@ use in_run::{Outcome, RunFault, run};
 use std::sync::Wait;
 use std::thread::Threads;
 
-/// What is told of a run.
+/// Which part of a run's outcome is written.
 #[derive(Clone, Copy)]
 pub enum Told {
     /// How it ended, and what its machine shows.
@@ -17,7 +17,7 @@ pub enum Told {
     Counted(u64),
 }
 
-/// What a run came to.
+/// Adds the outcome of a run.
 fn add_outcome(sheet: &mut Sheet, outcome: &Outcome, told: Told) {
     match told {
         Told::All => {
@@ -42,7 +42,7 @@ fn add_no_run(sheet: &mut Sheet, fault: &RunFault) {
     }
 }
 
-/// What came of a run that is refused. Memory runs out before a run alone: within one it lets phases have fewer parts.
+/// The result of a refused run. Memory runs out before a run alone: within one it lets phases have fewer parts.
 fn came_of_fault(fault: &RunFault) -> Came {
     match fault {
         RunFault::Start(StartFault::Memory(_)) => Came::Memory,

@@ -1,4 +1,4 @@
-//! What a machine shows, and its net as it is printed.
+//! The view of a machine, and its printed net.
 use in_harness_texts::Sheet;
 use in_print::{PrintFault, write_net};
 use in_rounds::{CellClass, End, Machine};
@@ -38,7 +38,7 @@ fn add_free(sheet: &mut Sheet, machine: &Machine, number: u32) {
     }
 }
 
-/// What a machine shows: agents and free cells, pairs, free ends, a line each.
+/// Adds the view of a machine: agents and free cells, pairs, free ends, a line each.
 pub fn add_machine(sheet: &mut Sheet, machine: &Machine) {
     let numbers = [
         machine.agents() as u64,
@@ -55,7 +55,7 @@ pub fn add_machine(sheet: &mut Sheet, machine: &Machine) {
     }
 }
 
-/// A machine's net as it is printed; nothing when out of memory.
+/// A machine's printed net; `None` when out of memory.
 pub fn printed(alloc: Global, machine: &Machine) -> Option<MemoryOut> {
     let mut writer = MemoryOut::new(alloc, ROOM).ok()?;
     match write_net(alloc, machine, &mut writer) {
@@ -64,7 +64,7 @@ pub fn printed(alloc: Global, machine: &Machine) -> Option<MemoryOut> {
     }
 }
 
-/// Adds the net as it is printed.
+/// Adds the printed net.
 pub fn add_printed(sheet: &mut Sheet, machine: &Machine) {
     match printed(sheet.alloc, machine) {
         Some(writer) => sheet.say(str::from_utf8(writer.text()).unwrap_or("?")),
@@ -72,13 +72,13 @@ pub fn add_printed(sheet: &mut Sheet, machine: &Machine) {
     }
 }
 
-/// Adds its printed net, and what it shows.
+/// Adds a machine's printed net and its view.
 pub fn add_view(sheet: &mut Sheet, machine: &Machine) {
     add_printed(sheet, machine);
     add_machine(sheet, machine);
 }
 
-/// What came of writing a machine's net.
+/// Adds the result of writing a machine's net.
 fn add_came(sheet: &mut Sheet, came: Result<u64, PrintFault>) {
     match came {
         Ok(bytes) => sheet.fill("# bytes: ", &[bytes]),

@@ -1,4 +1,4 @@
--- What `check` answers is the only answer.
+-- The result of `check` is the only one.
 use Rattle.std.proofs.Common.{ℕ, List, Result, Ok, Err}
 use Rattle.in_syntax.specs.declared.faults.Fault.{Fault}
 use Rattle.in_syntax.specs.declared.faults.Fault.TheVariants.{Refused, Memory}

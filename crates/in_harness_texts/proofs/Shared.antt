@@ -1,4 +1,4 @@
--- What is known of a stock that is filled, and of what is placed from it.
+-- A stock that is filled, and the cells placed from it.
 use Rattle.std.proofs.Common.{◌≡◌, ◌⊎◌, inl, inr, ℕ, ◌<◌, sym, ap, subst, ◌∙◌}
 use Rattle.in_arena.specs.Arenas.{ArenaView, NoneLeased, state_at}
 use Rattle.in_arena.specs.Bags.{IsBagOf, IsInBag, AreOfOne, empty_bag}

@@ -1,4 +1,4 @@
--- Answers to a text beside which the definitions allow no other.
+-- Results for a text, if the definitions allow no other.
 use Rattle.std.specs.Prelude.{◌≡◌, ⊤, ℕ, List, Result, Ok, Err}
 use Rattle.in_syntax.specs.declared.faults.Fault.{Fault}
 use Rattle.in_syntax.specs.declared.faults.Fault.TheVariants.{Refused, Memory}
@@ -15,7 +15,7 @@ IsOnlyRefusal text r = IsRefused text r × ((s : Refusal) → IsRefused text s �
 abbrev pub IsOnlyProgram : List ℕ → Program → Type 0
 IsOnlyProgram text p = IsAccepted text p × ((q : Program) → IsAccepted text q → AreOneProgram p q) × ((r : Refusal) → IsRefused text r → ⊥)
 
--- the answer is the only one; when out of memory there may be any
+-- the result is the only one; when out of memory it may be any
 abbrev pub IsOnlyAnswer : List ℕ → Result Program Fault → Type 0
 IsOnlyAnswer text (Ok p) = IsOnlyProgram text p
 IsOnlyAnswer text (Err (Refused r)) = IsOnlyRefusal text r

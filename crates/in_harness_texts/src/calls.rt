@@ -1,5 +1,5 @@
-//! Calls that take memory, each made directly on a program, and a line on what came of each. It is for a run in which one request for memory is
-//! refused: then the line of one call says that memory ran out, what has to be unchanged is looked at, and the others are as ever.
+//! Calls that take memory, each made directly on a program, and a line on the result of each. They are for a run in which one request for memory is
+//! refused: then the line of one call says that memory ran out, the values that it has to leave unchanged are read, and the other lines are as ever.
 ghost use Rattle.std.specs.Prelude.{◌≡◌, ◌≤◌, IfOk, IfSome, IsTrue};
 ghost use Rattle.in_arena.specs.Arenas.{NoneLeased, free_of};
 ghost use Rattle.in_compile.specs.Cells.{count_of, IsEnough};
@@ -19,16 +19,16 @@ use std::alloc::{AllocError, Global};
 /// How many cells of each class an arena has.
 const CELLS: u32 = 64;
 
-/// What came of a call that takes memory.
+/// The result of a call that takes memory.
 #[derive(Clone, Copy, PartialEq, Eq)]
 pub enum Came {
-    /// It did what it has to do.
+    /// It did its work.
     Done,
     /// Memory ran out.
     Memory,
     /// .. and what has to be as before is.
     Unchanged,
-    /// Memory ran out before what it left could be looked at.
+    /// Memory ran out before its result could be read.
     Unseen,
     /// It isn't as it has to be.
     Wrong,
@@ -38,7 +38,7 @@ pub enum Came {
     RoundedThen(u32, u32),
 }
 
-/// What came of a call, in words, where no round was done. Where nothing came of it, memory ran out before the call.
+/// The result of a call, in words, if no round was done. Without a result, memory ran out before the call.
 fn words_of(came: Option<Came>) -> &'static str {
     match came {
         None => "memory before it",
@@ -70,7 +70,7 @@ pub fn add_call(sheet: &mut Sheet, call: &str, came: Option<Came>) {
     sheet.say("\n");
 }
 
-/// What came of a call that is refused only when out of memory.
+/// The result of a call that is refused only when out of memory.
 pub fn came_of<T: Drop>(answer: Result<T, AllocError>) -> Option<Came> {
     Some(match answer {
         Ok(_) => Came::Done,
@@ -78,7 +78,7 @@ pub fn came_of<T: Drop>(answer: Result<T, AllocError>) -> Option<Came> {
     })
 }
 
-/// An arena of which no cell is on lease.
+/// An arena without leased cells.
 pub fn fresh(alloc: Global, cells: u32) -> Result<Arena, AllocError>
     requires { cells ≤ 1048576 }
     ensures { IfOk result (λ a. NoneLeased a) }
@@ -117,7 +117,7 @@ fn unchanged(arena: &Arena, before: Need) -> Came {
     }
 }
 
-/// What comes of a stock of the cells of `need`, which are given back.
+/// The result of filling a stock with the cells of `need`, which are given back.
 fn filled(alloc: Global, arena: &mut Arena, need: Need) -> Came
     ensures { arena.new ≡ arena.old }
 {
@@ -208,7 +208,7 @@ fn are_same(net: &Net, other: &Net) -> bool {
     true
 }
 
-/// What comes of the first step after one that was refused, which has to leave the program's net as it was.
+/// The result of the first step after a refused one, which has to leave the program's net as before.
 fn stepped_then(alloc: Global, program: &Checked, plain: &mut Plain) -> Came
     requires { plain.old.program ≡ program.now }
 {
@@ -222,7 +222,7 @@ fn stepped_then(alloc: Global, program: &Checked, plain: &mut Plain) -> Came
     }
 }
 
-/// What comes of the first step.
+/// The result of the first step.
 fn stepped(alloc: Global, program: &Checked, plain: &mut Plain) -> Came
     requires { plain.old.program ≡ program.now }
 {

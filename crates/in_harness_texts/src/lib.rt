@@ -1,4 +1,4 @@
-//! What the program `in_harness` answers of a text and of an accepted program, without machines, and what it prints on (`Sheet`). It is a crate
+//! The answers of the program `in_harness` on a text and on an accepted program, without machines, and the `Sheet` that it prints. It is a crate
 //! of its own so that it is proved beside the machines and the runs.
 #![tactic(auto)]
 
@@ -27,7 +27,7 @@ pub use only::answer;
 pub use sheet::Sheet;
 pub use words::{number, small, word};
 
-/// What is asked of an accepted program.
+/// Adds the answer to a question about an accepted program.
 fn add_of_program(sheet: &mut Sheet, program: &Checked, words: &[String]) {
     match word(words, 1) {
         "program" => add_program(sheet, program),
@@ -50,7 +50,7 @@ fn add_checked(sheet: &mut Sheet, words: &[String], text: &[u8]) {
     }
 }
 
-/// What the words ask of a text.
+/// Answers the words on a text.
 pub fn add_answer(sheet: &mut Sheet, words: &[String], text: &[u8]) {
     match word(words, 1) {
         "tokens" => add_tokens(sheet, text),

@@ -1,4 +1,4 @@
-//! Tables, rules and nets as they are read, before types are looked at.
+//! Tables, rules and nets after reading, before types are checked.
 ghost use Rattle.std.specs.Prelude.{◌≡◌, ◌<◌, ◌≤◌, length, IfOk, IsTrue};
 ghost use Rattle.in_symbols.specs.Tables.{IsSymbol};
 ghost use Rattle.in_net.specs.Built.{IsOver};
@@ -11,7 +11,7 @@ use in_symbols::{PortType, SymbolNo, Symbols};
 use in_syntax::{Fault, Source, parse};
 use std::alloc::{AllocError, Global};
 
-/// What is written of a program that is read.
+/// Which part of a read program is written.
 #[derive(Clone, Copy)]
 pub enum Read {
     Tables,
@@ -24,7 +24,7 @@ fn add_port(sheet: &mut Sheet, port: PortType, class: u8) {
     sheet.fill(form, &[port.kind as u64, class as u64]);
 }
 
-/// What follows the name of a symbol: its place, how many ports and classes it has, and each port's type, sign and class.
+/// Adds the parts of a symbol after its name: its place, how many ports and classes it has, and each port's type, sign and class.
 fn add_ports(sheet: &mut Sheet, symbols: &Symbols, symbol: SymbolNo)
     requires { IsSymbol symbols.now symbol.0 }
 {
@@ -173,7 +173,7 @@ pub fn add_net(sheet: &mut Sheet, symbols: &Symbols, net: &Net)
     add_active(sheet, symbols, net);
 }
 
-/// A rule: its symbols as they are written and constructor first, where they stand, and its right member.
+/// Adds a rule: its symbols as written and the constructor first, the places of its heads, and its right member.
 fn add_rule(sheet: &mut Sheet, symbols: &Symbols, rule: &Rule)
     requires { IsBuiltRule symbols.now rule.now }
 {

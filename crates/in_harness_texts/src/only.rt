@@ -1,4 +1,4 @@
-//! What `check` answers to a text, where the definitions allow no other answer, whatever the code does.
+//! The result of `check` on a text. The definitions allow no other, whatever the code does.
 ghost use Rattle.in_harness_texts.specs.Only.{IsOnlyAnswer};
 
 use in_check::laws::texts_are_checked_once;
@@ -6,7 +6,7 @@ use in_check::{Checked, check};
 use in_syntax::Fault;
 use std::alloc::Global;
 
-/// The answer to a text, and the definitions allow no other.
+/// The result of `check` on a text, which the definitions make unique.
 fn only_answer(alloc: Global, text: &[u8]) -> Result<Checked, Fault>
     ensures { IsOnlyAnswer text.now result }
 {
@@ -14,7 +14,7 @@ fn only_answer(alloc: Global, text: &[u8]) -> Result<Checked, Fault>
     check(alloc, text)
 }
 
-/// The same answer, where what it is the only one of matters no more.
+/// The same result, without that clause.
 pub fn answer(alloc: Global, text: &[u8]) -> Result<Checked, Fault> {
     only_answer(alloc, text)
 }

@@ -1,4 +1,4 @@
-//! Open nets, the steps that build them, and the rule of each pair, by direct calls on what is read, before types are looked at.
+//! Open nets, the steps that build them, and the rule of each pair, by direct calls on a read program, before its types are checked.
 ghost use Rattle.std.specs.Prelude.{◌<◌, length};
 ghost use Rattle.in_harness_texts.specs.Texts.{IsReadProgram};
 
@@ -60,7 +60,7 @@ fn add_opened(sheet: &mut Sheet, opened: Result<OpenNet, Fault>) {
     }
 }
 
-/// What is said of a pair without a rule, where there are no rules at all.
+/// Adds the first pair that requires a rule, if the program had no rules at all.
 fn add_uncovered(sheet: &mut Sheet, symbols: &Symbols) {
     match cover(sheet.alloc, symbols, &[]) {
         Ok(table) => {
@@ -71,7 +71,7 @@ fn add_uncovered(sheet: &mut Sheet, symbols: &Symbols) {
     }
 }
 
-/// The open nets of the rules and of the net, and then the first pair that has no rule where there are none.
+/// The open nets of the rules and of the net, and then the first pair that requires a rule, if the program had none.
 pub fn add_open_nets(sheet: &mut Sheet, source: &Source, symbols: &Symbols)
     requires { IsReadProgram source.now symbols.now }
 {

@@ -72,7 +72,7 @@ fn add_shape(sheet: &mut Sheet, shape: &OpenNet, steps: &Derivation) {
     add_answer(sheet, answer);
 }
 
-/// What `verify` answers.
+/// Adds the result of `verify`.
 fn add_answer(sheet: &mut Sheet, answer: Result<bool, AllocError>) {
     match answer {
         Ok(true) => sheet.say("built\n"),
@@ -81,7 +81,7 @@ fn add_answer(sheet: &mut Sheet, answer: Result<bool, AllocError>) {
     }
 }
 
-/// What a program has: its counts, the rule of each pair, and the open nets of its rules and of its net.
+/// Adds the parts of a program: its counts, the rule of each pair, and the open nets of its rules and of its net.
 pub fn add_program(sheet: &mut Sheet, program: &Checked) {
     sheet.show(&program.counts());
     sheet.say("\n");
@@ -186,7 +186,7 @@ fn add_named(sheet: &mut Sheet, action: &Action) {
     sheet.fill(name, &numbers);
 }
 
-/// What words ask of `inet`: the action, the file, and whether figures are wanted.
+/// Adds the request of words to `inet`: the action, the file, and whether figures are wanted.
 fn add_asked(sheet: &mut Sheet, request: &Request) {
     add_named(sheet, &request.action);
     if let Some(file) = request.file {
@@ -199,7 +199,7 @@ fn add_asked(sheet: &mut Sheet, request: &Request) {
     sheet.say("\n");
 }
 
-/// Why words ask nothing of it.
+/// Adds why words of a command line make no request.
 fn add_usage(sheet: &mut Sheet, usage: &Usage) {
     match usage {
         Usage::Help(_) => sheet.say("help: "),
@@ -218,7 +218,7 @@ fn add_action_of(sheet: &mut Sheet, words: &[&str]) {
     }
 }
 
-/// What the words after the second one ask of `inet`.
+/// Adds the request to `inet` of the words after the second one.
 pub fn add_action(sheet: &mut Sheet, words: &[String]) {
     match words
         .iter()

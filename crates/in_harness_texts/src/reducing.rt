@@ -119,7 +119,7 @@ fn order_in(words: &[String]) -> Order {
     }
 }
 
-/// What a run came to: how many interactions, how many agents the program's net still has, the net that is reached, and the pairs that wait.
+/// Adds the end of a run: how many interactions, how many agents the program's net still has, the net that was reached, and its active pairs.
 fn add_reached(sheet: &mut Sheet, checked: &Checked, plain: &Plain, waiting: &[Pair], turns: u32)
     requires { plain.now.program ≡ checked.now }
 {

@@ -1,4 +1,4 @@
-//! What is printed. That memory ran out is kept until the end, so that code which writes has one way out.
+//! The printed lines. That memory ran out is kept until the end, so that code that writes has one exit.
 use in_syntax::{Fault, Place, Refusal};
 use std::alloc::Global;
 use std::fmt::{Debug, Display};
@@ -16,7 +16,7 @@ pub struct Sheet {
 }
 
 impl Sheet {
-    /// No lines yet. The first 65,536 bytes take no more memory, so that code which tries how calls run out of it can tell.
+    /// No lines yet. The first 65,536 bytes take no more memory, so that tests of calls without memory see their requests alone.
     pub fn new(alloc: Global) -> Sheet {
         let mut lines = String::new(alloc);
         let is_short = lines.reserve(ROOM).is_err();
@@ -42,42 +42,42 @@ impl Sheet {
         self.lines.as_str()
     }
 
-    /// Goes on with these words.
+    /// Writes these words.
     pub fn say(&mut self, words: &str) {
         if self.lines.push_str(words).is_err() {
             self.fail();
         }
     }
 
-    /// Goes on with a character.
+    /// Writes a character.
     fn push(&mut self, c: char) {
         if self.lines.push(c).is_err() {
             self.fail();
         }
     }
 
-    /// Goes on with a number.
+    /// Writes a number.
     pub fn number(&mut self, number: u64) {
         if write!(self.lines, "{number}").is_err() {
             self.fail();
         }
     }
 
-    /// Goes on with what is shown so.
+    /// Writes a value by its `Debug`.
     pub fn show<D: Debug>(&mut self, shown: &D) {
         if write!(self.lines, "{shown:?}").is_err() {
             self.fail();
         }
     }
 
-    /// Goes on with what is told so.
+    /// Writes a value by its `Display`.
     pub fn tell<D: Display>(&mut self, told: &D) {
         if write!(self.lines, "{told}").is_err() {
             self.fail();
         }
     }
 
-    /// Goes on with these words, in which each `#` stands for one of the numbers, in their order.
+    /// Writes these words, with the numbers in the places of the `#`, in their order.
     pub fn fill(&mut self, words: &str, numbers: &[u64]) {
         let mut filled: usize = 0;
         for c in words.chars() {
@@ -90,7 +90,7 @@ impl Sheet {
         }
     }
 
-    /// Goes on with a place: its bytes, its line and its column.
+    /// Writes a place: its bytes, its line and its column.
     pub fn add_place(&mut self, place: Place) {
         let numbers = [
             place.from as u64,

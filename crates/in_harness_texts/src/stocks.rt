@@ -131,7 +131,7 @@ fn spent(sheet: &mut Sheet, arena: &mut Arena, template: &Template, room: Placed
     Some(back)
 }
 
-/// .. and settled: the room that comes back tells still which cells it has.
+/// .. and settled: the room that comes back still has the numbers of its cells.
 fn settle(sheet: &mut Sheet, arena: &mut Arena, template: &Template, room: Placed)
     requires whole { NoneLeased arena.old }
     requires room { length template.now.member.agents ≤ room.room }
@@ -209,8 +209,8 @@ fn add_of(sheet: &mut Sheet, program: &Checked, templates: &Templates, words: &[
     }
 }
 
-/// What a stock for the template of two symbols holds, and what is placed from it, in an arena of as many cells of each class as the words say
-/// after the two numbers; and whether what is placed is moved in few bytes.
+/// The cells in a stock for the template of two symbols, and the member placed from it, in an arena of as many cells of each class as the words say
+/// after the two numbers; and whether the placed member is moved in few bytes.
 pub fn add_stock(sheet: &mut Sheet, program: &Checked, words: &[String]) {
     match compile(sheet.alloc, program) {
         Ok(templates) => {

@@ -33,7 +33,7 @@ pub fn add_count(sheet: &mut Sheet, text: &[u8]) {
     }
 }
 
-/// What is written of a tree.
+/// Which part of a tree is written.
 #[derive(Clone, Copy)]
 pub enum Shown {
     /// All of it.
@@ -42,7 +42,7 @@ pub enum Shown {
     Sizes,
 }
 
-/// What stands at a place of the text, where that is UTF-8.
+/// The text at a place; empty if it isn't UTF-8.
 fn words_at(text: &[u8], place: Place) -> &str {
     match text.get(place.from..place.to) {
         Some(bytes) => str::from_utf8(bytes).unwrap_or(""),
@@ -95,7 +95,7 @@ fn add_uses(sheet: &mut Sheet, text: &[u8], uses: Result<Items<NameUse>, AllocEr
     }
 }
 
-/// Where the signs of these equations stand.
+/// Adds the places of the `~` of these equations.
 fn add_signs(sheet: &mut Sheet, equations: &[Equation]) {
     for equation in equations {
         sheet.say("sign");
@@ -160,7 +160,7 @@ fn add_sizes(sheet: &mut Sheet, source: &Source) {
     );
 }
 
-/// What is shown of the tree of a text, or why it is refused.
+/// That part of a text's tree, or why the text is refused.
 pub fn add_tree(sheet: &mut Sheet, text: &[u8], shown: Shown) {
     match parse(sheet.alloc, text) {
         Ok(source) => {

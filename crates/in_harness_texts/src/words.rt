@@ -1,6 +1,6 @@
-//! What the program's words are, of which the first is its name.
+//! The program's words. The first is its name.
 
-/// The word at this place; an empty one where there is none.
+/// The word at this index; empty if there is none.
 pub fn word(words: &[String], at: usize) -> &str {
     match words.get(at) {
         Some(word) => word.as_str(),
@@ -8,7 +8,7 @@ pub fn word(words: &[String], at: usize) -> &str {
     }
 }
 
-/// The number at this place; 0 where there is none.
+/// The number at this index; 0 if there is none.
 pub fn number(words: &[String], at: usize) -> u64 {
     word(words, at).parse::<u64>().unwrap_or(0)
 }

@@ -1,5 +1,5 @@
--- What is ahead of an agent: from the partner of its principal port, where that is an auxiliary port, on from its agent. This project's
--- own words for what Lafont 1990 says of vicious circles, in which each agent waits for the next one.
+-- The agents ahead of an agent: from the partner of its principal port, if that is an auxiliary port, on from its agent. This project's own words
+-- for Lafont 1990's vicious circles, in which each agent waits for the next one.
 use Rattle.std.specs.Prelude.{◌≡◌, ℕ, suc, Some}
 use Rattle.in_net.specs.Nets.{Port, Free, Net}
 

@@ -1,4 +1,4 @@
--- Where an interaction takes place, and the path that goes on from a point, between the net outside the pair and the right member inside
+-- Where an interaction takes place, and the path that continues from a point, between the net outside the pair and the right member inside
 -- it. Words of the inner contracts of `interact`.
 use Rattle.std.specs.Prelude.{◌≡◌, ◌<◌, ◌≤◌, ℕ, zero, suc, ◌+◌, ◌-◌, ◌*◌, nat_eq, nat_lt, cond, List, length, slice_get, Option, Some, None, count_by, is_some}
 use Rattle.in_syntax.specs.Grammar.{max_ports}
@@ -47,7 +47,7 @@ end_of one two first (Free k) = None
 abbrev pub port_of : AgentNo → AgentNo → ℕ → ℕ → Point
 port_of one two first e = cond (nat_lt e first) (Port one (e + 1)) (Port two (e - first + 1))
 
--- what a turn goes on to from inside: a new agent's port, where the path ends, or a boundary end that is left outside
+-- the point to which a turn continues from inside: a new agent's port, where the path ends, or a boundary end that is left outside
 abbrev pub OnInner : SiteParts → (Point → Type 0) → Point → Point → Type 0
 OnInner s Rest v (Port l j) = (y : AgentNo) × (slice_get s.names l.0 ≡ Some y) × (Port y j ≡ v)
 OnInner s Rest v (Free f) = (r : Point) × (partner_in s.net (port_of s.one s.two s.first f) ≡ Some r) × Rest r
@@ -66,7 +66,7 @@ Lands s (suc k) at v = OnEnd s (λ r. Lands s k r v) at v (end_of s.one s.two s.
 abbrev pub most_turns : ℕ
 most_turns = 2 * max_ports + 1
 
--- ---- what follows a path answers
+-- ---- the calls that follow a path
 
 -- a point of the old net that stays
 abbrev pub IsOld : SiteParts → Point → Type 0

@@ -1,4 +1,4 @@
--- The laws that what interacting, the list of active pairs and the new pairs answer is one, and of the active pairs after an interaction.
+-- The laws that interacting, the list of active pairs and the new pairs have one result, and on the active pairs after an interaction.
 use Rattle.std.specs.Prelude.{◌≡◌, ◌≢◌, ◌⊎◌, ◌↔◌, ℕ, List, Some, slice_get}
 use Rattle.in_symbols.specs.Tables.{Tables}
 use Rattle.in_net.specs.ActivePairs.{IsActivePair, ArePairsOf}

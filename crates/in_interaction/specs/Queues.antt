@@ -33,7 +33,7 @@ JoinsPair n w q = JoinsAgents n w (agents_at q)
 abbrev pub JoinsNoPair : Parts → ℕ → Type 0
 JoinsNoPair n w = (q : ℕ × ℕ) → JoinsPair n w q → ⊥
 
--- these pairs stand in the order of their wires. (The wires of a net as built stand in the order of their places.)
+-- these pairs are in the order of their wires. (The wires of a net as built are in the order of their places.)
 abbrev pub AreInOrder : Parts → List (ℕ × ℕ) → Type 0
 AreInOrder n queue = (j k v w : ℕ) (p q : ℕ × ℕ) → j < k → slice_get queue j ≡ Some p → slice_get queue k ≡ Some q → JoinsPair n v p → JoinsPair n w q → v < w
 

@@ -35,7 +35,7 @@ impl<'a> Model for Site<'a> {
 }
 
 impl<'a> Site<'a> {
-    /// The boundary end that a port of the pair is; other points are none.
+    /// The boundary end of a port of the pair; `None` for other points.
     pub(crate) fn end_of(&self, point: Point) -> Option<u32>
         ensures { result ≡ end_of self.now.one self.now.two self.now.first point }
     {
@@ -67,7 +67,7 @@ impl<'a> Site<'a> {
         }
     }
 
-    /// Where the path goes on to that came by an outer wire to this point: to the point itself, unless it is a boundary end.
+    /// The end of a path that came by an outer wire to this point: the point itself, unless it is a boundary end.
     fn land(&self, arrived: Point) -> Point
         requires { (v : _) × Lands self.now most_turns arrived v }
         ensures { (v : _) → Lands self.now most_turns arrived v → result ≡ v }
@@ -84,7 +84,7 @@ impl<'a> Site<'a> {
                 },
             }
         }
-        // The path lands within that many turns: it is asked for.
+        // The path lands within that many turns, by a requirement.
         unreachable!()
     }
 

@@ -170,7 +170,7 @@ impl<'a> Site<'a> {
         Ok(ends)
     }
 
-    /// What is new after the interaction.
+    /// The agents, wires and free ends after the interaction.
     fn after(&self, alloc: Global) -> Result<After, AllocError>
         ensures { IfOk result (IsAfter self.now) }
     {
@@ -189,7 +189,7 @@ pub(crate) fn arity(net: &Net, agent: AgentNo) -> u32
 {
     match &net.cells()[agent.0 as usize] {
         Some(cell) => cell.ends.len() as u32 - 1,
-        // The agent is there: it is asked for.
+        // The agent is there, by a requirement.
         None => unreachable!(),
     }
 }

@@ -7,8 +7,8 @@ pub fn step_exists()
     ensures { StepExists }
 {}
 
-/// A crossing circle after an interaction stood in the net before or in the right member, or it falls into pieces outside and inside,
-/// cut at its boundary ends, whose agents are the circle's, each once.
+/// A crossing circle after an interaction was in the net before or in the right member, or its boundary ends cut it into pieces outside and inside,
+/// whose agents are the circle's, each once.
 pub fn circles_fall_apart()
     ensures { CirclesFallApart }
 {}

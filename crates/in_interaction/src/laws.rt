@@ -1,4 +1,4 @@
-//! Laws of what an interaction makes of a net, and of active pairs, for whoever reasons above them. No function here does anything.
+//! Laws on the net after an interaction and on active pairs, for proofs above them. No function here does anything.
 
 ghost use Rattle.in_interaction.specs.OutcomeLaws.{InteractionsAreOne, LeastNumbersAreNames, PairsAreListedOnce, MadePairsAreListedOnce, PairsAreKeptOrMade, PairsAreApart};
 
@@ -17,8 +17,8 @@ pub fn made_pairs_are_listed_once()
     ensures { MadePairsAreListedOnce }
 {}
 
-/// The active pairs after an interaction, whatever the new agents' names are, are those of other agents, the pairs that it makes, and the
-/// right member's own.
+/// The active pairs after an interaction are those of other agents, those that it makes, and the right member's own, however the new agents are
+/// named.
 pub fn pairs_are_kept_or_made()
     ensures { PairsAreKeptOrMade }
 {}
@@ -28,7 +28,7 @@ pub fn pairs_are_apart()
     ensures { PairsAreApart }
 {}
 
-/// What `interact` does is an interaction under the least numbers that the net doesn't have.
+/// `interact` does an interaction under the least numbers that the net doesn't have.
 pub fn least_numbers_are_names()
     ensures { LeastNumbersAreNames }
 {}

@@ -12,7 +12,7 @@ use in_syntax::Place;
 use sqlite_items::Items;
 use std::alloc::{AllocError, Global};
 
-/// Wires that no text has stand nowhere.
+/// The place of wires that no text has.
 const NOWHERE: Place = Place {
     from: 0,
     to: 0,

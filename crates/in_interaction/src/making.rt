@@ -13,7 +13,7 @@ use in_syntax::MAX_PORTS;
 use smallvec::SmallVec;
 use std::alloc::{AllocError, Global};
 
-/// How many wires a path has at most: it comes to each boundary end at most once from each side.
+/// How many wires a path has at most: it reaches each boundary end at most once from each side.
 const MOST_WIRES: u32 = 4 * MAX_PORTS as u32 + 2;
 
 /// The net round the active pair, or the right member.

@@ -1,4 +1,4 @@
--- What a run leaves of a machine: it is one, of the same program, which reaches its net by as many interactions more.
+-- The machine after a run: it is a machine of the same program, which reaches its net by as many interactions more.
 use Rattle.std.proofs.Common.{◌≡◌, ◌+◌, ℕ, zero, suc, refl, subst, ◌∙◌, arith}
 use Rattle.in_check.specs.Plain.{IsReachedBy}
 use Rattle.in_reducer.specs.Machines.{MachineParts, plain_of}

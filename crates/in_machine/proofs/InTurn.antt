@@ -80,7 +80,7 @@ within m (suc k) _ (then_next _ s need before at) = let l = slice_get_within m.q
 
 -- ---- on the way
 
--- the pairs from this one on still stand in the net as they did
+-- the pairs from this one on are still in the net
 pub record StandsOn (m n : MachineParts) (j : ℕ) : Type 0 where
   pub program : n.program ≡ m.program
   pub machine : IsMachine n

@@ -1,4 +1,4 @@
--- What is the same as a machine up to the numbers of its agents is one.
+-- A reducer that is the same as a machine up to the numbers of its agents is a machine.
 use Rattle.std.proofs.Common.{ℕ, map, sym, ap, subst, ◌∙◌}
 use Rattle.in_net.specs.Nets.{net_of}
 use Rattle.in_check.specs.Plain.{IsReachedBy}

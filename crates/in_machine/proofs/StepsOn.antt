@@ -1,4 +1,4 @@
--- An interaction of a machine leaves a machine, whatever numbers the new agents have.
+-- An interaction of a machine leaves a machine, however the new agents are numbered.
 use Rattle.std.proofs.Common.{◌≡◌, ℕ, suc, Some, ◌++◌, map, remove, slice_get}
 use Rattle.in_net.specs.Interactions.{IsRedex, redex_at}
 use Rattle.in_net.specs.Nets.{IsNet, net_of, signature_of}

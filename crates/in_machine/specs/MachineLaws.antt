@@ -20,7 +20,7 @@ use Rattle.in_reducer.specs.Runs.{Runs}
 use Rattle.in_reducer.specs.Same.{AreSame}
 use Rattle.in_machine.specs.Texts.{text_of}
 
--- what a machine shows is as promised
+-- the net that a machine shows is as promised
 abbrev pub MachinesAsPromised : Type 0
 MachinesAsPromised = (m : MachineParts) → IsMachine m → IsAsPromised (system_of m.program) (net_of (parts_of m))
 
@@ -40,7 +40,7 @@ StepsKeepMachines = (m o : MachineParts) (i : ℕ) → IsMachine m → StepsAt m
 abbrev pub MachinesAreReducers : Type 0
 MachinesAreReducers = (m : MachineParts) → IsMachine m → IsReducer m
 
--- what is the same as a machine is one
+-- a reducer that is the same as a machine is one
 abbrev pub SameAreMachines : Type 0
 SameAreMachines = (m n : MachineParts) → IsMachine m → AreSame m n → IsMachine n
 
@@ -64,7 +64,7 @@ NormalEndsAreOne = (m : MachineParts) (k : ℕ) → IsMachine m → IsReachedBy 
 abbrev pub RoomLasts : Type 0
 RoomLasts = (m n : MachineParts) (j k : ℕ) → IsMachine m → HasRoomFor m k → Runs m j n → j < k → HasRoomAt n 0
 
--- after j interactions, first in, first out, the queue is what is left of it, and then new pairs; a further interaction adds its own
+-- after j interactions, first in, first out, the queue is the pairs that are left, and then new ones; a further interaction adds its own
 -- at its end
 abbrev pub QueuesMoveUp : Type 0
 QueuesMoveUp = (m n : MachineParts) (j : ℕ) → Runs m j n → j ≤ length m.queue → (new : List (ℕ × ℕ)) × (n.queue ≡ drop j m.queue ++ new)

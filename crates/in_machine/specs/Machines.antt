@@ -1,4 +1,4 @@
--- What each machine keeps. Lafont 1990 reduces a net by interactions of its active pairs, in any order.
+-- The invariant of a machine. Lafont 1990 reduces a net by interactions of its active pairs, in any order.
 use Rattle.std.specs.Prelude.{◌≤◌, ℕ, List}
 use Rattle.in_check.specs.Checking.{IsAccepted}
 use Rattle.in_check.specs.Plain.{IsPlain}

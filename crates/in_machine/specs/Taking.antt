@@ -1,11 +1,11 @@
--- Interactions of the first pairs, one after another: where they end, and that this is one answer. This project's own choice.
+-- Interactions of the first pairs, one after another: where they end, and that this is one result. This project's own choice.
 use Rattle.std.specs.Prelude.{◌≡◌, ◌⊎◌, ◌<◌, ◌≤◌, ℕ, []}
 use Rattle.in_reducer.specs.Machines.{MachineParts}
 use Rattle.in_reducer.specs.Steps.{HasRoomAt}
 use Rattle.in_reducer.specs.Same.{AreSame, RunsUpToNumbers}
 use Rattle.in_machine.specs.Machines.{IsMachine}
 
--- no pair is left, or what the first one needs isn't free
+-- no pair is left, or the cells that the first one needs aren't free
 abbrev pub TakesNoFirst : MachineParts → Type 0
 TakesNoFirst m = (m.queue ≡ []) ⊎ (HasRoomAt m 0 → ⊥)
 

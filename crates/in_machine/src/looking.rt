@@ -1,4 +1,4 @@
-// What a machine shows.
+// The view of a machine.
 ghost use Rattle.std.specs.Prelude.{◌≡◌, ◌<◌, ◌≤◌, ◌↔◌, IsTrue, length, count_by, is_some, Some, IsSome, slice_get, option_map};
 ghost use Rattle.in_symbols.specs.Names.{name_in};
 ghost use Rattle.in_symbols.specs.Tables.{arity_of};
@@ -68,7 +68,7 @@ impl<'a> Machine<'a> {
         self.reducer.numbers()
     }
 
-    /// What a place of an agent leads to, the principal port being place 0, or what a free end leads to.
+    /// The partner of a place of an agent, of which 0 is the principal port, or of a free end.
     pub fn partner(&self, end: End) -> End
         requires { IsPointOf (parts_of self.now) (point_at end) }
         ensures { partner_in (parts_of self.now) (point_at end) ≡ Some (point_at result) }
@@ -124,7 +124,7 @@ impl<'a> Machine<'a> {
         self.reducer.need_of(&self.templates, number)
     }
 
-    /// Whether what the pair of that number needs is free, so that `step` may do its interaction.
+    /// Whether the cells that the pair of that number needs are free, so that `step` may do its interaction.
     pub fn has_room(&self, number: u32) -> bool
         requires { number < length self.now.queue }
         ensures { IsTrue result ↔ HasRoomAt self.now number }

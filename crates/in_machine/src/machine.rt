@@ -79,9 +79,9 @@ impl<'a> Machine<'a> {
         self.reducer.step(&self.templates, number);
     }
 
-    /// Interactions of the first pair of the queue, one after another, at most `most`, first in, first out. Fewer only where no pair is left, or
-    /// what the first one needs isn't free. Returns how many they were. They are those of a machine that is this one up to the numbers of
-    /// agents: so an agent may go on under another number, and a new one may have the number of one that is gone. It takes no memory.
+    /// Interactions of the first pair of the queue, one after another, at most `most`, first in, first out. Fewer only if no pair is left, or the
+    /// cells that the first one needs aren't free. Returns how many there were. They are those of a machine that is this one up to the numbers of
+    /// agents: so an agent may continue under another number, and a new one may have the number of one that is gone. It takes no memory.
     pub fn take_first(&mut self, most: u64) -> u64
         ensures runs { RunsUpToNumbers self.old result self.new }
         ensures most { result ≤ most }

@@ -1,9 +1,9 @@
-//! Laws over machines and their runs, for whoever reasons above them. No function here does anything.
+//! Laws on machines and their runs, for proofs above them. No function here does anything.
 
 ghost use Rattle.in_machine.specs.MachineLaws.{MachinesAreReducers, MachinesAsPromised, NormalEndsAreOne, QueuesAreQueues, QueuesMoveUp, RoomLasts, RunsReach, SameAreMachines, SameAreReached, StartsAreMachines, StartsAreSame, StepsKeepMachines};
 ghost use Rattle.in_machine.specs.Taking.{FirstsTakenAreOne};
 
-/// What a machine shows is as promised: typed, with one rule for each active pair, without crossing circle or vicious one, with an end
+/// The net that a machine shows is as promised: typed, with one rule for each active pair, without a crossing circle or a vicious one, with an end
 /// to each interaction, leading on from each agent, and written whole.
 pub fn machines_as_promised()
     ensures { MachinesAsPromised }
@@ -19,7 +19,7 @@ pub fn runs_reach()
     ensures { RunsReach }
 {}
 
-/// An interaction of a machine leaves a machine, whatever numbers the new agents have.
+/// An interaction of a machine leaves a machine, however the new agents are numbered.
 pub fn steps_keep_machines()
     ensures { StepsKeepMachines }
 {}
@@ -55,8 +55,8 @@ pub fn normal_ends_are_one()
     ensures { NormalEndsAreOne }
 {}
 
-/// Where there is room for the first pairs of the queue together, each of them has room when its turn comes, first in, first out, whatever
-/// was made before.
+/// If there is room for the first pairs of the queue together, each of them has room at its turn, first in, first out, whichever agents were made
+/// before.
 pub fn room_lasts()
     ensures { RoomLasts }
 {}
@@ -66,7 +66,7 @@ pub fn queues_move_up()
     ensures { QueuesMoveUp }
 {}
 
-/// What `take_first` answers is one: as many interactions each time, and one machine up to the numbers of its agents.
+/// `take_first` has one result: as many interactions each time, and one machine up to the numbers of its agents.
 pub fn firsts_taken_are_one()
     ensures { FirstsTakenAreOne }
 {}

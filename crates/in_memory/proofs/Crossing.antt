@@ -1,4 +1,4 @@
--- Owners of cells may cross threads as what stands in a cell may, and the right to free the block as its allocator may.
+-- Owners of cells may cross threads if the contents of a cell may, and the right to free the block if its allocator may.
 use Rattle.std.specs.Prelude.{ℕ, ◌+◌, List, [], ◌∷◌, Option, Some, None}
 use Rattle.std.specs.Mem.{type_size}
 use base.Fraction.{full_share}

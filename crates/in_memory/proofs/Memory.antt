@@ -1,4 +1,4 @@
--- What the walks over a row of cells share: a base and an owner of cells as machine values, and what stands in one cell. Assumes `Logic`.
+-- The common part of the walks over a row of cells: a base and an owner of cells as machine values, and the contents of one cell. Assumes `Logic`.
 use mathlib.Core.Path.{◌≡◌, refl, subst}
 use Prim.Native.Nat.{ℕ}
 use mathlib.Core.List.{List, [], ◌∷◌, ◌++◌}
@@ -56,7 +56,7 @@ module _ (E : El) where
   abbrev pub HasCells : Owner.Denot → List Place → Owner.Denot → Type 0
   HasCells d places new = (new.at ≡ d.at) × (new.slots ≡ places)
 
-  -- what a `&mut` to an owner is, once what it leads to is this owner
+  -- the meaning of a `&mut` to an owner, once it leads to this owner
   abbrev pub lent : {M : Type 1} {𝓤 : Ura M} (𝓛 : Logic 𝓤) → Lft → Share → ℕ → ℕ → GName → Owner.Denot → List (Item 𝓤)
   lent 𝓛 κ q rb ro γ new = ‵ (fobs γ (Owner.coded.code new)) ∷ ‵ (fbor κ (Borrowed (mem Owner) rb ro γ)) ∷ ‵ (flft κ q) ∷ []
 
@@ -82,7 +82,7 @@ module _ {M : Type 1} {𝓤 : Ura M} {𝓛 : Logic 𝓤} {K : Type 0} {Γ : List
   mark_had t E vs k = fpick t (λ vss. fsplit t $ feq_l t (λ made. fsplit t $ fpick t (λ uss. fsplit t $ feq_l t (λ e. skip t $ skip t $
       k (subst (λ (ws : List Val). vs ≡ vstruct (of_list (ws ++ [])) ∷ []) e made)))))
 
--- a value that stands in a cell is its bytes and what it owns
+-- a value in a cell is its bytes and what it owns
 module _ (Y : RattleType) (L : Laws Y) {M : Type 1} {𝓤 : Ura M} (𝓛 : Logic 𝓤) where
   open 𝓛 use {H}
 

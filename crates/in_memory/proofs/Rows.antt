@@ -101,7 +101,7 @@ module _ (E : El) {M : Type 1} {𝓤 : Ura M} (𝓛 : Logic 𝓤) (b : ℕ) wher
       use1 𝓛 (‵ (froom (elτ E) b o) ⊛ ‵ (froom (ty_array (elτ E) n) b (o + s))) (𝓛.laws.room_uncons (elτ E) n b o) $ split ! $
       use1 𝓛 (‵ (Cell o (Some None))) (𝓛.laws.room-raw (elτ E) b o) $ move ! (1 ∷ []) $ use1 𝓛 (‵ (Row (o + s) (replicate n (Some None)))) (of_room n (o + s)) $ move ! (1 ∷ 0 ∷ []) $ fjoin ! $ done !
 
-  -- a cell here is room for a value, whatever stands in it
+  -- a cell here is room for a value, whatever is in it
   pub cell_room : (c : Option (el_x E)) (o : ℕ) → ent 𝓤 (sem 𝓛 (Cell o (Some c))) (H.room (elτ E) b o)
   cell_room None o = 𝓛.laws.raw-room (elτ E) b o
   cell_room (Some x) o =

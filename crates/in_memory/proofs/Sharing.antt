@@ -1,4 +1,4 @@
--- What a `&` to an owner of cells holds can be made of a borrow, copied and used for less. Assumes `Logic`.
+-- The claim of a `&` to an owner of cells can be made of a borrow, copied, and used for a shorter time. Assumes `Logic`.
 use Prim.Native.Nat.{ℕ, ◌+◌}
 use Rattle.std.specs.Prelude.{List, [], ◌∷◌, Option, Some, None}
 use Rattle.std.specs.Mem.{type_size}

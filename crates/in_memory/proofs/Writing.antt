@@ -1,4 +1,4 @@
--- What stands in cells after one was written.
+-- The contents of cells after one was written.
 use Rattle.std.proofs.Common.{◌≡◌, ℕ, suc, ◌<◌, List, [], ◌∷◌, length, set, get_or, ap, ◌∙◌, subst, ⊎_elim, arith, get_or-set_other}
 use Rattle.std.specs.Prelude.{Option, Some, None}
 use Rattle.std.proofs.lemmas.Bool.{cases_eq}

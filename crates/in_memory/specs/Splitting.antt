@@ -25,11 +25,11 @@ is_no (suc i) (suc k) = is_no i k
 
 -- ---- the laws
 
--- two owners among whom cells were parted have together what the one had, whichever takes in the other
+-- cells that are parted between two owners and joined again are those of the first owner, whichever takes in the other
 abbrev pub PartsAreAll : Type 0 → Type 0
 PartsAreAll X = (p : ℕ → Bool) (cs : List (Option (Option X))) → (together (those_of p cs) (those_of (but p) cs) ≡ cs) × (together (those_of (but p) cs) (those_of p cs) ≡ cs)
 
--- what one of the two writes in a cell of its own is written in the whole
+-- a cell that one of the two writes in its part is written in the whole
 abbrev pub WrittenInPartIsWritten : Type 0 → Type 0
 WrittenInPartIsWritten X =
     (p : ℕ → Bool) (cs : List (Option (Option X))) (i : ℕ) (x : X) → p i ≡ true → i < length cs

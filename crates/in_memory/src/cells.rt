@@ -115,7 +115,7 @@ pub fn deallocate<T, A: Allocator>(
 impl<T> Cells<T> {
     ghost use Rattle.in_memory.specs.Lends.{lends_cell};
 
-    /// Writes a cell. What stood in it is forgotten, and not dropped.
+    /// Writes a cell. Its old content is forgotten, and not dropped.
     #[inline(always)]
     pub fn write(&mut self, base: Base<T>, index: usize, content: T)
         requires { (base.ptr ≡ self.old.at) × IsHere self.old.slots index }
@@ -159,7 +159,7 @@ impl<T> Cells<T> {
         Cells { mark: PhantomData }
     }
 
-    /// The same, where a value tells which cells are chosen: what a proof names is picked from the arguments of a call.
+    /// The same, where a value chooses the cells: what a proof names is picked from the arguments of a call.
     #[inline(always)]
     pub fn part_by<H>(&mut self, by: &H) -> Cells<T>
         ghost chosen: { ℕ → Bool }

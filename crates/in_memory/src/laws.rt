@@ -1,12 +1,12 @@
-// What follows of parting a row among owners.
+// Laws on a row that is parted among owners.
 ghost use Rattle.in_memory.specs.Splitting.{PartsAreAll, WrittenInPartIsWritten};
 
-/// Two owners among whom cells were parted have together what the one had, whichever takes in the other.
+/// Cells that are parted between two owners and joined again are those of the first owner, whichever takes in the other.
 pub fn parts_are_all<T>()
     ensures { PartsAreAll T }
 {}
 
-/// What an owner writes in a cell of its part is written in the whole, once the part is joined again.
+/// A cell that an owner writes in its part is written in the whole, once the part is joined again.
 pub fn written_in_part_is_written<T>()
     ensures { WrittenInPartIsWritten T }
 {}

@@ -1,4 +1,4 @@
--- What is refused, and what holds where nothing is.
+-- The refusals, and the properties of a program without any.
 pub mod Counts
 pub mod FewAgents
 pub mod FirstFault

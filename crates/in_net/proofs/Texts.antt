@@ -1,4 +1,4 @@
--- What is read of a text.
+-- The reading of a text.
 pub mod Absent
 pub mod Agents
 pub mod Bodies

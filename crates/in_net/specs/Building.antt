@@ -23,7 +23,7 @@ no_agent = record { symbol = record { 0 = 0 }; place = record { from = 0; to = 0
 abbrev pub no_spot : Spot
 no_spot = spot.Port 0 0 (record { from = 0; to = 0; line = 0; col = 0 })
 
--- the spot of that number, and what it is joined to
+-- the spot of that number, and its partner
 abbrev pub nth_spot : List Spot → ℕ → Spot
 nth_spot spots i = slice_index_or spots i no_spot
 
@@ -37,7 +37,7 @@ nth_agent agents a = slice_index_or agents a no_agent
 abbrev pub AreTwice : List Spot → List Seen → Type 0
 AreTwice spots seen = (i m : ℕ) → i < length spots → name_of (nth_spot spots i) ≡ Some m → slice_index_or seen m Never ≡ Twice
 
--- the point that a spot is; an occurrence is none
+-- the point of a spot; an occurrence has none
 abbrev pub point_of : Spot → Option Point
 point_of (spot.Port a i p) = Some (Port (record { 0 = a }) i)
 point_of (spot.Free k m) = Some (Free k)

@@ -83,7 +83,7 @@ lonely_place spots free Often = None
 abbrev pub lonely : List Spot → List SourceFree → List Seen → Option Place
 lonely spots free seen = earliest None (map (lonely_place spots free) seen)
 
--- the first name that stands once or for the third time
+-- the first name that occurs once or for the third time
 abbrev pub miscounted : ℕ → List Spot → List SourceFree → Option Place
 miscounted names spots free =
     let c = counts_from 0 spots (nothing_counted names) in

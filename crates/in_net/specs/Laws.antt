@@ -41,9 +41,9 @@ pub record AreOneNet (n m : Parts) : Type 0 where
 abbrev pub TextNetsAreOne : Type 0
 TextNetsAreOne = (t : Tables) (text : SourceNet) (n m : Parts) → IsNetOf t text n → IsNetOf t text m → AreOneNet n m
 
--- ---- one answer
+-- ---- one result
 
--- all that building the net of a text's program may answer agrees: nets are equal, the numbers and places of their wires included
+-- all results that building the net of a text's program may have agree: nets are equal, with the numbers and places of their wires
 abbrev pub NetsAreBuiltOnce : Type 0
 NetsAreBuiltOnce = (s : Source) (t : Tables) → IsOfText s → Tabulates s (Ok t) → IsOne (Builds s t)
 
@@ -55,6 +55,6 @@ RulesAreBuiltOnce = (s : Source) (t : Tables) (i : ℕ) → IsOfText s → Tabul
 abbrev pub WiresJoinOnePair : Type 0
 WiresJoinOnePair = (t : Tables) (n : Parts) (w : ℕ) (p q : AgentNo × AgentNo) → IsActivePair t n p → IsActivePair t n q → JoinsAgents n w p → JoinsAgents n w q → p ≡ q
 
--- .. and of what renewing a net makes of it
+-- .. and of the result of renewing a net
 abbrev pub NetsAreRenewedOnce : Type 0
 NetsAreRenewedOnce = (old n m : Parts) (cells : List (Option Cell)) (ends : List Point) (wires : List Wire) → length ends ≡ length old.free → IsRenewed old cells ends wires n → IsRenewed old cells ends wires m → n ≡ m

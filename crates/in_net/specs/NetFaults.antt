@@ -24,7 +24,7 @@ max_member_agents = 64
 abbrev pub IsTooManyAt : ℕ → Tables → Body → Place → Type 0
 IsTooManyAt most t b p = (w : Written) × (slice_get (agents_of_body t b) most ≡ Some w) × (w.place ≡ p)
 
--- an agent with another number of arguments than its symbol has auxiliary ports stands at the place
+-- an agent with another number of arguments than its symbol has auxiliary ports is at the place
 pub record IsAgentMisfitAt (t : Tables) (b : Body) (p : Place) : Type 0 where
   pub term : Term
   pub there : IsTermOf b term
@@ -33,7 +33,7 @@ pub record IsAgentMisfitAt (t : Tables) (b : Body) (p : Place) : Type 0 where
   pub apart : length (out-Term term).args ≢ arity_of t symbol
   pub place : place_of term ≡ p
 
--- a head with another number of terms than its symbol has auxiliary ports stands at the place
+-- a head with another number of terms than its symbol has auxiliary ports is at the place
 pub record IsHeadMisfitAt (t : Tables) (b : Body) (p : Place) : Type 0 where
   pub left : LeftHead
   pub there : IsAmong left b.heads
@@ -53,7 +53,7 @@ Occurs t b name u = IsTermOf b u × IsVariable t u × (name_of u ≡ name)
 abbrev pub IsFreeName : Body → List ℕ → Type 0
 IsFreeName b name = (f : SourceFree) × IsAmong f b.free × (f.name.text ≡ name)
 
--- the first stands before the second in the text
+-- the first is before the second in the text
 abbrev pub IsBefore : Term → Term → Type 0
 IsBefore u v = (place_of u).from < (place_of v).from
 
@@ -66,7 +66,7 @@ pub data IsMiscountedAt (t : Tables) (b : Body) : Place → Type 0 where
   missing : (f : SourceFree) → IsAmong f b.free → ((u : Term) → Occurs t b f.name.text u → ⊥) → IsMiscountedAt t b f.name.place
   second : (f : SourceFree) (u v : Term) → IsAmong f b.free → Occurs t b f.name.text u → Occurs t b f.name.text v → IsBefore u v → ((x : Term) → Occurs t b f.name.text x → IsBefore x v → place_of x ≡ place_of u) → IsMiscountedAt t b (place_of v)
 
--- a fault of the agents or names of this code stands at the place
+-- a fault of the agents or names of this code is at the place
 pub data IsNetFaultAt (most : ℕ) (t : Tables) (b : Body) : Code → Place → Type 0 where
   too_many : (p : Place) → IsTooManyAt most t b p → IsNetFaultAt most t b E03 p
   misfit : (p : Place) → IsMisfitAt t b p → IsNetFaultAt most t b E07 p
@@ -75,11 +75,11 @@ pub data IsNetFaultAt (most : ℕ) (t : Tables) (b : Body) : Code → Place → 
 abbrev pub HasNoNetFault : ℕ → Tables → Body → Type 0
 HasNoNetFault most t b = HasNone (IsNetFaultAt most t b)
 
--- a fault of agents or names stands there, and none of these stands earlier; of two at one place the lower code counts
+-- a fault of agents or names is there, and none of these stands earlier; of two at one place the lower code counts
 abbrev pub IsFirstNameFault : ℕ → Tables → Body → Code → Place → Type 0
 IsFirstNameFault most t b = IsFirstOf (IsNetFaultAt most t b)
 
--- of the faults of a net or a rule: the first one of agents and names; where there is none of these, the first closed wire
+-- of the faults of a net or a rule: the first one of agents and names; if there is none of these, the first closed wire
 pub data IsFirstNetFault (most : ℕ) (t : Tables) (b : Body) : Code → Place → Type 0 where
   of_names : (c : Code) (p : Place) → IsFirstNameFault most t b c p → IsFirstNetFault most t b c p
   of_wires : (p : Place) → HasNoNetFault most t b → IsClosedWireOf t b p → ((q : Place) → IsClosedWireOf t b q → p.from ≤ q.from) → IsFirstNetFault most t b E09 p

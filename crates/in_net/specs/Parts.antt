@@ -1,4 +1,4 @@
--- What contracts see of a net: all that its accessors read.
+-- The view of a net: all that its accessors read.
 use Rattle.std.specs.Prelude.{◌≡◌, ◌≢◌, ◌⊎◌, ℕ, ◌+◌, ◌^◌, ◌<◌, ◌≤◌, Bool, true, List, length, Option, Some, IsSomeAnd, option_map, option_and_then, slice_get}
 use Rattle.in_syntax.specs.declared.places.Place.{Place}
 use Rattle.in_syntax.specs.Grammar.{max_free, max_ports}
@@ -18,7 +18,7 @@ pub record Parts : Type 0 where
   pub places : List Place
   pub built : Bool
 
--- a net as it is built from a text
+-- a net as built from a text
 abbrev pub as_built : List (Option Cell) → List FreeEnd → List Wire → List Place → Parts
 as_built cells free wires places = record { cells = cells; free = free; wires = wires; places = places; built = true }
 

@@ -23,7 +23,7 @@ use Rattle.in_syntax.specs.Tokens.{text_limit}
 
 -- ---- what contracts see of a rule
 
--- the two symbols in the order of the text, the same with the constructor first, where the heads' names stand in the order of the
+-- the two symbols in the order of the text, the same with the constructor first, where the heads' names are in the order of the
 -- text, and the right member
 pub record RuleParts : Type 0 where
   pub written : SymbolNo × SymbolNo
@@ -113,7 +113,7 @@ BuildsRuleOf t r (Err (Memory e)) = Unit {0}
 abbrev pub BuildsRule : Source → Tables → ℕ → Result RuleParts Fault → Type 0
 BuildsRule source t index answer = (r : SourceRule) × (slice_get source.rules index ≡ Some r) × BuildsRuleOf t r answer
 
--- what a rule of a parsed and tabled program is: its names are known and stand in order, they are no more than its text has bytes,
+-- what a rule of a parsed and tabled program is: its names are known and are in order, they are no more than its text has bytes,
 -- and each symbol has few places
 pub record IsReadable (t : Tables) (r : SourceRule) : Type 0 where
   pub known : IsRuleKnown t.names r

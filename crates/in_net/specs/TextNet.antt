@@ -20,7 +20,7 @@ use Rattle.in_symbols.specs.Tables.{Tables, arity_of, port_of}
 use Rattle.in_net.specs.Parts.{Parts, IsWhole, partner_in, wire_in, wire_place_in}
 use Rattle.in_net.specs.declared.nets.FreeEnd.{FreeEnd}
 
--- the first term stands in the second: it is that term, or stands in an argument of it
+-- the first term is in the second: it is that term, or is in an argument of it
 pub data IsPartOf : Term → Term → Type 0 where
   itself : (u : Term) → IsPartOf u u
   deeper : (u v t : Term) → IsAmong v (out-Term t).args → IsPartOf u v → IsPartOf u t
@@ -65,7 +65,7 @@ IsAgentOfTerm t u s = number_in (name_of u) t.names ≡ Some s
 abbrev pub IsVariable : Tables → Term → Type 0
 IsVariable t u = number_in (name_of u) t.names ≡ None
 
--- what is joined in a text: a port of the agent whose name stands at a place, a free or boundary end by its number, the occurrence
+-- what is joined in a text: a port of the agent whose name is at a place, a free or boundary end by its number, the occurrence
 -- of a variable or free name at a place
 pub data Spot : Type 0 where
   port_at : Place → ℕ → Spot
@@ -80,7 +80,7 @@ spot_by (Some s) place = port_at place 0
 abbrev pub spot_of : Tables → Term → Spot
 spot_of t u = spot_by (number_in (name_of u) t.names) (place_of u)
 
--- the joints that stand at a place: of the two terms of an equation at its ~, of an agent's place and the argument there and of a
+-- the joints that are at a place: of the two terms of an equation at its ~, of an agent's place and the argument there and of a
 -- boundary end and the term there at that term's first token
 pub data PlacedJoint (t : Tables) (b : Body) : Spot → Spot → Place → Type 0 where
   of_equation : (e : Equation) → IsAmong e b.equations → PlacedJoint t b (spot_of t e.left) (spot_of t e.right) e.tilde
@@ -106,7 +106,7 @@ IsOccurrence (port_at p i) = ⊥
 IsOccurrence (free_end k) = ⊥
 IsOccurrence (occurrence p) = Unit {0}
 
--- a chain of joints, of either kind in turn, that goes on only through occurrences: the kind of its first joint, that of its
+-- a chain of joints, of either kind in turn, that continues only through occurrences: the kind of its first joint, that of its
 -- last one, its two ends, and the places of its placed joints
 pub data Chain (t : Tables) (b : Body) : Kind → Kind → Spot → Spot → List Place → Type 0 where
   one_placed : (x y : Spot) (p : Place) → PlacedJoint t b x y p → Chain t b placed placed x y (p ∷ [])
@@ -118,7 +118,7 @@ pub data Chain (t : Tables) (b : Body) : Kind → Kind → Spot → Spot → Lis
 abbrev pub IsLastOf : Place → List Place → Type 0
 IsLastOf p ps = IsAmong p ps × AllByRecursion (λ q. q.from ≤ p.from) ps
 
--- a wire joins two spots that are points, by a chain that can't be longer, and stands at the last of the chain's places
+-- a wire joins two spots that are points, by a chain that can't be longer, and is at the last of the chain's places
 pub record IsWireOf (t : Tables) (b : Body) (x y : Spot) (p : Place) : Type 0 where
   pub one : IsOccurrence x → ⊥
   pub other : IsOccurrence y → ⊥
@@ -128,7 +128,7 @@ pub record IsWireOf (t : Tables) (b : Body) (x y : Spot) (p : Place) : Type 0 wh
   pub chain : Chain t b first last x y places
   pub place : IsLastOf p places
 
--- a closed wire is a chain without an end, and stands at the last of its places
+-- a closed wire is a chain without an end, and is at the last of its places
 pub record IsClosedWireOf (t : Tables) (b : Body) (p : Place) : Type 0 where
   pub through : Spot
   pub occurs : IsOccurrence through
@@ -143,7 +143,7 @@ spot_at m (Free k) = free_end k
 
 -- ---- the agents in the order of the text
 
--- an agent as it is written: its symbol's number, and where its name stands
+-- an agent as written: its symbol's number, and the place of its name
 pub record Written : Type 0 where
   pub symbol : ℕ
   pub place : Place
@@ -156,7 +156,7 @@ written_by (Some s) place = record { symbol = s; place = place } ∷ []
 abbrev pub agents_of : Tables → Term → List Written
 agents_of t = fold-Term (List Written) (λ f. written_by (number_in f.name.text t.names) f.name.place ++ flat_map (λ a. a) f.args)
 
--- the agents of a body; the heads of a rule are none
+-- the agents of a body; the heads of a rule aren't agents
 abbrev pub agents_of_heads : Tables → List LeftHead → List Written
 agents_of_heads t = flat_map (λ h. flat_map (agents_of t) h.head.terms)
 
@@ -207,7 +207,7 @@ abbrev pub EndsInOrder : Parts → Type 0
 EndsInOrder m = (w : ℕ) (x y : Point) → wire_in m w ≡ Some (x, y) → ComesBefore x y
 
 -- the wires are those of the text: two points are partners by a wire of the text, which leads to no other spot, and the listed
--- wires stand at the places of theirs, no two at one, in the order of these places, each with the point first that comes first
+-- wires are at the places of theirs, no two at one, in the order of these places, each with the point first that comes first
 pub record HasWiresOf (t : Tables) (b : Body) (m : Parts) : Type 0 where
   pub partners : (x y : Point) → partner_in m x ≡ Some y → (p : Place) × IsWireOf t b (spot_at m x) (spot_at m y) p
   pub only : (x y : Point) (s : Spot) (p : Place) → partner_in m x ≡ Some y → IsWireOf t b (spot_at m x) s p → s ≡ spot_at m y

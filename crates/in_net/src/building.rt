@@ -17,7 +17,7 @@ use in_syntax::{Code, Fault, Place, Refusal, Source, SourceFree, Text, with_room
 use sqlite_items::Items;
 use std::alloc::{AllocError, Global};
 
-/// The point that a spot is; an occurrence is none.
+/// The point of a spot; an occurrence has none.
 fn point_of(spot: Spot) -> Option<Point>
     requires { IsSmall spot }
     ensures { result ≡ point_of spot }
@@ -161,7 +161,7 @@ fn wires(alloc: Global, spots: &[Spot], links: &[Link]) -> Result<Items<Wire>, A
     Ok(Items::from_vec(wires))
 }
 
-/// Where the agents' names stand.
+/// The places of the agents' names.
 fn places(alloc: Global, agents: &[Agent]) -> Result<Items<Place>, AllocError>
     ensures { IfOk result (λ places. places ≡ map (λ a. a.place) agents.now) }
 {
@@ -172,7 +172,7 @@ fn places(alloc: Global, agents: &[Agent]) -> Result<Items<Place>, AllocError>
     Ok(places)
 }
 
-/// The net of what was read and joined, with these free ends.
+/// The net of a reading with its links and these free ends.
 pub(crate) fn assemble(
     alloc: Global,
     symbols: &Symbols,
@@ -200,7 +200,7 @@ pub(crate) fn closed_at(place: Place) -> Fault
     Fault::Refused(Refusal::at(Code::E09, place))
 }
 
-/// The net of what was read, where nothing in it is refused, with its links.
+/// The net of a reading without faults, with its links.
 fn linked_net(
     alloc: Global,
     source: &Source,
@@ -220,7 +220,7 @@ fn linked_net(
     Ok(assemble(alloc, symbols, reading, links, free)?)
 }
 
-/// The net of what was read, where no agent and no name in it is refused.
+/// The net of a reading whose agents and names have no fault.
 fn joined_net(
     alloc: Global,
     source: &Source,
@@ -239,7 +239,7 @@ fn joined_net(
     }
 }
 
-/// The net of what was read.
+/// The net of a reading.
 fn net_of(
     alloc: Global,
     source: &Source,

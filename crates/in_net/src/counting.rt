@@ -48,14 +48,14 @@ pub(crate) fn unseen(alloc: Global, names: usize) -> Result<Items<Seen>, AllocEr
     Ok(seen)
 }
 
-/// What is counted so far: how often each name stands, and where the first one stands for the third time.
+/// The counts so far: how often each name occurs, and the place of the first third occurrence.
 #[derive(Drop)]
 struct Counting {
     seen: Items<Seen>,
     third: Option<Place>,
 }
 
-/// Where the spot stands as the third one of its name, by what was seen of that before.
+/// The place of the spot, if it is the third one of its name.
 fn third_time(seen: Seen, spot: Spot) -> Option<Place>
     ensures { result ≡ third_time seen spot }
 {
@@ -77,7 +77,7 @@ fn count(counting: &mut Counting, at: usize, spot: Spot)
     }
 }
 
-/// How often each name stands.
+/// Counts how often each name occurs.
 fn counts(alloc: Global, names: usize, spots: &[Spot]) -> Result<Counting, AllocError>
     requires { NamesInside names spots.now }
     ensures { IfOk result (λ counting. counting ≡ counts_from 0 spots.now (nothing_counted names)) }
@@ -92,7 +92,7 @@ fn counts(alloc: Global, names: usize, spots: &[Spot]) -> Result<Counting, Alloc
     Ok(counting)
 }
 
-/// Where the only spot of a name stands, if it is seen once: a variable's occurrence, or the declaration of a free name.
+/// The place of the only spot of a name, if it occurs once: a variable's occurrence, or the declaration of a free name.
 fn lonely_place(seen: Seen, spots: &[Spot], free: &[SourceFree]) -> Option<Place>
     ensures { result ≡ lonely_place spots.now free.now seen }
 {
@@ -120,8 +120,8 @@ fn lonely(seen: &[Seen], spots: &[Spot], free: &[SourceFree]) -> Option<Place>
     found
 }
 
-/// Where the first name stands that doesn't stand twice, as a variable does in the body, and a free name at its declaration and
-/// in the body: at its only spot, or at its third one.
+/// The place of the first name that doesn't occur twice, as a variable does in the body, and a free name at its declaration and in the body: its
+/// only spot, or its third one.
 pub(crate) fn miscounted(
     alloc: Global,
     names: usize,

@@ -19,7 +19,7 @@ pub const MAX_AGENTS: usize = 4_000;
 /// The most agents that a right member may have. This is this project's own choice.
 pub const MAX_MEMBER_AGENTS: usize = 64;
 
-/// Where the first agent stands that is one more than `most`.
+/// The place of the first agent after the first `most`.
 fn too_many(most: usize, agents: &[Agent]) -> Option<Place>
     ensures { result ≡ too_many most agents.now }
 {
@@ -29,8 +29,7 @@ fn too_many(most: usize, agents: &[Agent]) -> Option<Place>
     }
 }
 
-/// Where the term's own name stands, if it is an agent's and has another number of arguments than its symbol has auxiliary
-/// ports.
+/// The place of the term's own name, if it is an agent's and has another number of arguments than its symbol has auxiliary ports.
 fn misfit_here(symbols: &Symbols, term: &Term) -> Option<Place>
     ensures { result ≡ misfit_here symbols.now (number_in (out-Term term.now).name.text symbols.now.names) (length (out-Term term.now).args) (out-Term term.now).name.place }
 {
@@ -40,7 +39,7 @@ fn misfit_here(symbols: &Symbols, term: &Term) -> Option<Place>
     }
 }
 
-/// Where the first agent of the term stands that has another number of arguments than auxiliary ports.
+/// The place of the first agent of the term that has another number of arguments than auxiliary ports.
 fn misfit(symbols: &Symbols, term: &Term) -> Option<Place>
     ensures { result ≡ misfit symbols.now term.now }
 {
@@ -66,7 +65,7 @@ fn misfit_in_equations(symbols: &Symbols, equations: &[Equation]) -> Option<Plac
     found
 }
 
-/// Where the head's own name stands, if it has another number of terms than its symbol has auxiliary ports.
+/// The place of the head's own name, if it has another number of terms than its symbol has auxiliary ports.
 fn misfit_at_head(symbols: &Symbols, head: &Head) -> Option<Place>
     ensures { result ≡ misfit_here symbols.now (number_in head.now.name.text symbols.now.names) (length head.now.terms) head.now.name.place }
 {
@@ -76,8 +75,7 @@ fn misfit_at_head(symbols: &Symbols, head: &Head) -> Option<Place>
     }
 }
 
-/// Where the first name in the head stands, its own or an agent's in a term, that has another number of terms than auxiliary
-/// ports.
+/// The place of the first name in the head, its own or an agent's in a term, that has another number of terms than auxiliary ports.
 fn misfit_in_head(symbols: &Symbols, head: &Head) -> Option<Place>
     ensures { result ≡ misfit_in_head symbols.now head.now }
 {
@@ -88,8 +86,8 @@ fn misfit_in_head(symbols: &Symbols, head: &Head) -> Option<Place>
     found
 }
 
-/// The first fault of the agents and names of what was read, in the order of the text; at one place the lower code comes first.
-/// At most `most` agents are allowed, the first misfit stands at `misfit`, and these are the free names.
+/// The first fault of the agents and names of a reading, in the order of the text; at one place the lower code comes first. At most `most` agents
+/// are allowed, `misfit` is the place of the first misfit, and `free` has the free names.
 fn fault_of(
     alloc: Global,
     most: usize,

@@ -8,8 +8,7 @@ use in_syntax::{Place, with_room};
 use sqlite_items::Items;
 use std::alloc::{AllocError, Global};
 
-/// What a spot is joined to: the number of the other spot, its own where it is joined to none, and the last place on the way
-/// there.
+/// The link of a spot: the number of its partner, its own number if it has none, and the last place on the way there.
 #[derive(Clone, Copy)]
 pub(crate) struct Link {
     pub(crate) to: usize,
@@ -63,8 +62,8 @@ fn later(one: Place, other: Place) -> Place
     if other.from < one.from { one } else { other }
 }
 
-/// Joins what two spots of one name are joined to, so that the wire goes on through them; answers the wire's place where they
-/// are joined to each other, so that it is closed.
+/// Connects the partners of two spots of one name, so that the wire leads on through both. If the two spots are each other's partners, the wire is
+/// closed, and its place is returned.
 fn merge(links: &mut Items<Link>, one: usize, other: usize) -> Option<Place>
     requires one { one < length links.old }
     requires other { other < length links.old }
@@ -94,7 +93,7 @@ fn merge(links: &mut Items<Link>, one: usize, other: usize) -> Option<Place>
     None
 }
 
-/// Meets a spot of a name, of which this was seen before: the second spot is joined to the first.
+/// Adds a spot of a name whose earlier spots are `seen`: the second spot is joined to the first.
 fn meet(links: &mut Items<Link>, seen: Seen, at: usize) -> Option<Place>
     requires at { at < length links.old }
     requires seen { IsSeenInside (length links.old) seen }
@@ -107,7 +106,7 @@ fn meet(links: &mut Items<Link>, seen: Seen, at: usize) -> Option<Place>
     }
 }
 
-/// What is joined so far: what each spot is joined to, how often each name was seen, and the place of the first closed wire.
+/// The joints so far: the partner of each spot, how often each name was seen, and the place of the first closed wire.
 #[derive(Drop)]
 struct Joining {
     links: Items<Link>,
@@ -126,7 +125,7 @@ fn begun(alloc: Global, links: Items<Link>, names: usize) -> Result<Joining, All
     })
 }
 
-/// Goes on to the next spot, and joins it where it is the second one of a name.
+/// Adds the next spot, and joins it if it is the second one of a name.
 fn step(joining: &mut Joining, at: usize, spot: Spot)
     requires at { at < length joining.old.links }
     requires name { IsNameInside (length joining.old.seen) spot }
@@ -153,7 +152,7 @@ fn join_names(joining: &mut Joining, spots: &[Spot])
     }
 }
 
-/// What all spots of a text are joined to, and the place of its first closed wire, if there is one.
+/// The partners of all spots of a text, and the place of its first closed wire, if there is one.
 #[derive(Drop)]
 pub(crate) struct Joined {
     pub(crate) links: Items<Link>,

@@ -1,4 +1,4 @@
-//! Laws over the definitions of a net, for whoever reasons above them. No function here does anything.
+//! Laws on the definitions of a net, for proofs above them. No function here does anything.
 
 ghost use Rattle.in_net.specs.Laws.{NetsAreBuiltOnce, NetsAreRenewedOnce, RulesAreBuiltOnce, PartnersLeadBack, TextNetsAreOne, WholePartsAreNets, WiresJoinOnePair};
 
@@ -17,17 +17,17 @@ pub fn text_nets_are_one()
     ensures { TextNetsAreOne }
 {}
 
-/// What building the net of a text's program answers is one: two nets are equal, the numbers and places of their wires included.
+/// Building the net of a text's program has one result: two nets are equal, with the numbers and places of their wires.
 pub fn nets_are_built_once()
     ensures { NetsAreBuiltOnce }
 {}
 
-/// What building a rule of a text's program answers is one.
+/// Building a rule of a text's program has one result.
 pub fn rules_are_built_once()
     ensures { RulesAreBuiltOnce }
 {}
 
-/// What a net becomes that gets other agents and wires, and its free ends other partners, is one.
+/// A net that gets other agents and wires, and other partners for its free ends, becomes one net.
 pub fn nets_are_renewed_once()
     ensures { NetsAreRenewedOnce }
 {}

@@ -28,7 +28,7 @@ fn symbol_of(symbols: &Symbols, head: &Head) -> SymbolNo
 {
     match symbols.number_of(head.name.text.as_str()) {
         Some(symbol) => symbol,
-        // The name of the head is known: it is asked for.
+        // The name of the head is known, by a requirement.
         None => unreachable!(),
     }
 }
@@ -53,7 +53,7 @@ fn ordered(written: (SymbolNo, SymbolNo), turned: bool) -> (SymbolNo, SymbolNo)
     }
 }
 
-/// What is read of a rule with these symbols as written: the boundary ends of the constructor come first.
+/// The reading of a rule with these symbols as written: the boundary ends of the constructor come first.
 fn read(
     alloc: Global,
     symbols: &Symbols,
@@ -121,7 +121,7 @@ fn boundary(
     Ok(ends)
 }
 
-/// The rule of what was read, where nothing in it is refused, with its links.
+/// The rule of a reading without faults, with its links.
 fn linked_rule(
     alloc: Global,
     symbols: &Symbols,
@@ -153,7 +153,7 @@ fn linked_rule(
     })
 }
 
-/// The rule of what was read, where no agent and no name in it is refused.
+/// The rule of a reading whose agents and names have no fault.
 fn joined_rule(
     alloc: Global,
     symbols: &Symbols,
@@ -172,7 +172,7 @@ fn joined_rule(
     }
 }
 
-/// The rule of what was read.
+/// The rule of a reading.
 fn rule_from(
     alloc: Global,
     symbols: &Symbols,

@@ -21,7 +21,7 @@ pub(crate) enum Spot {
     Occurrence(usize, Place),
 }
 
-/// An agent as it is written: its symbol, where its name stands, and the number of its principal port among the spots.
+/// A written agent: its symbol, the place of its name, and the number of its principal port among the spots.
 #[derive(Clone, Copy)]
 pub(crate) struct Agent {
     pub(crate) symbol: SymbolNo,
@@ -29,9 +29,9 @@ pub(crate) struct Agent {
     pub(crate) first: usize,
 }
 
-/// Two spots that the text joins at a place: the terms of an equation at its `~`, an argument and the port of its agent at the
-/// argument's first token, a head's term and its boundary end at the term's first token. The first of them stands a number of spots
-/// after `one`: the agent's principal port, the head's first boundary end, or the term's spot.
+/// Two spots that the text joins at a place: the terms of an equation at its `~`, an argument and the port of its agent at the argument's first
+/// token, a head's term and its boundary end at the term's first token. The first of them is a number of spots after `one`: the agent's principal
+/// port, the head's first boundary end, or the term's spot.
 #[derive(Clone, Copy)]
 pub(crate) struct Joint {
     pub(crate) one: usize,
@@ -40,7 +40,7 @@ pub(crate) struct Joint {
     pub(crate) place: Place,
 }
 
-/// What is read of a net or a rule so far. Spots and agents are in the order of the text; free or boundary ends are the first
+/// The reading of a net or a rule so far. Spots and agents are in the order of the text; free or boundary ends are the first
 /// spots.
 pub(crate) struct Reading {
     pub(crate) spots: Items<Spot>,
@@ -102,7 +102,7 @@ fn count_terms_of(equations: &[Equation]) -> usize {
     count
 }
 
-/// Adds an agent with its ports, and answers the number of its principal port among the spots.
+/// Adds an agent with its ports, and returns the number of its principal port among the spots.
 fn add_agent(
     reading: &mut Reading,
     symbol: SymbolNo,
@@ -136,7 +136,7 @@ fn number_of(alloc: Global, names: &mut Names, name: &str) -> Result<usize, Allo
     Ok(number)
 }
 
-/// Adds the occurrence of a variable or free name, and answers its number among the spots.
+/// Adds the occurrence of a variable or free name, and returns its number among the spots.
 fn add_occurrence(alloc: Global, reading: &mut Reading, name: &Name) -> Result<usize, AllocError>
     ensures { IfOk result (λ spot. (spot ≡ length reading.old.spots) × (reading.new ≡ with_occurrence reading.old name.now)) }
 {
@@ -146,7 +146,7 @@ fn add_occurrence(alloc: Global, reading: &mut Reading, name: &Name) -> Result<u
     Ok(spot)
 }
 
-/// A term that was read: its spot, or a head's first boundary end; and where its name stands.
+/// A term that was read: its spot, or a head's first boundary end; and the place of its name.
 #[derive(Clone, Copy)]
 struct ReadTerm {
     spot: usize,
@@ -154,7 +154,7 @@ struct ReadTerm {
     is_head: bool,
 }
 
-/// What is read of the names that it is told of, each agent before its arguments.
+/// Reads the names that a walk visits, each agent before its arguments.
 #[derive(Drop)]
 struct NetReader<'a> {
     alloc: Global,
@@ -260,7 +260,7 @@ fn read_ends(alloc: Global, count: usize, terms: usize) -> Result<Reading, Alloc
     Ok(reading)
 }
 
-/// Reads the terms of a head, the first boundary end of which has that number.
+/// Reads the terms of a head whose first boundary end has that number.
 fn read_head(reader: &mut NetReader, head: &Head, first: usize) -> Result<(), AllocError>
     ensures { OnOk result (reader.new ≡ reads_on reader.old (reads_arguments first (map (reader_of (reader.old).symbols.now) head.now.terms) 0 (reader.old).reading)) }
 {

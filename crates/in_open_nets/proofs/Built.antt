@@ -1,4 +1,4 @@
--- What the constructions build.
+-- The open nets that the constructions build.
 pub mod Balance
 pub mod Both
 pub mod Forest

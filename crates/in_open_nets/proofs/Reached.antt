@@ -1,4 +1,4 @@
--- What is reached in a part.
+-- The nodes that are reached in a part.
 pub mod Links
 pub mod OnePiece
 pub mod Reaching

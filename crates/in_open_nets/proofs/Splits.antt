@@ -1,4 +1,4 @@
--- Which node splits a part, and what is stuck.
+-- The nodes that split a part, and stuck parts.
 pub mod EachSplits
 pub mod OkValues
 pub mod OneAnswer

@@ -1,4 +1,4 @@
--- The class graph of a part as it is listed: the numbers of its vertices, and its edges.
+-- The listed class graph of a part: the numbers of its vertices, and its edges.
 use Rattle.std.specs.Prelude.{◌≡◌, ◌⊎◌, ℕ, ◌+◌, ◌*◌, ◌<◌, ◌≤◌, Bool, List, length, slice_get, slice_index_or, Some}
 use Rattle.in_open_nets.specs.declared.class_graphs.HubNumbers.{HubNumbers}
 use Rattle.in_open_nets.specs.declared.class_graphs.ClassGraph.{ClassGraph}

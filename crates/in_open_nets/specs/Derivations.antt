@@ -129,7 +129,7 @@ pub record BuildsPart (o : OpenNet) (parts : List Part) (k : ℕ) (step : Step) 
   pub links : (w : ℕ) → x.links w ≡ (is_among w (own_links step) || links_of from w)
   pub joins : Joins o step from x
 
--- how often n stands in the lists of the steps
+-- how often n is in the lists of the steps
 abbrev pub times : ℕ → List ℕ → ℕ
 times n [] = 0
 times n (m ∷ ms) = one_if n m + times n ms

@@ -23,7 +23,7 @@ abbrev pub SplitsOffCycles : Type 0
 SplitsOffCycles = (o : OpenNet) → IsOpenNet o → (s : ℕ → Bool) (number : Vertex ℕ → ℕ) (hub_edge : ℕ → ℕ → ℕ) (es : List (ℕ × ℕ)) → IsClassGraph (open_graph o) (HasClass o) s number hub_edge es →
     (n : ℕ) → IsIn n s → SplitsAt (open_graph o) n s ↔ HubEdgesAreOffCycles (open_graph o) (HasClass o) hub_edge es n
 
--- what is derivable has no crossing circle
+-- a derivable open net has no crossing circle
 abbrev pub DerivableHasNoCircle : Type 0
 DerivableHasNoCircle = (o : OpenNet) → IsOpenNet o → IsDerivable o → CrossingCircle (open_graph o) → ⊥
 
@@ -37,7 +37,7 @@ HasOneFirstStuck o = (t : ℕ → Bool) × IsFirstStuck o t × ((u : ℕ → Boo
 abbrev pub SplitsOrFirstStuck : Type 0
 SplitsOrFirstStuck = (o : OpenNet) → IsOpenNet o → (NetSplits o × HasNoFirstStuck o) ⊎ ((NetSplits o → ⊥) × HasOneFirstStuck o)
 
--- ---- one answer
+-- ---- one result
 
 -- a set of nodes is its members: with as many tests one set has them
 abbrev pub SetIsItsMembers : Type 0

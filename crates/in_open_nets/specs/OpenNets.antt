@@ -71,7 +71,7 @@ abbrev pub ports_in : Option OpenNode → ℕ
 ports_in None = 0
 ports_in (Some m) = length m.class_of
 
--- it is an open net, its numbers are as small as those of a net, and an agent's classes stand in order
+-- it is an open net, its numbers are as small as those of a net, and an agent's classes are in order
 pub record IsOrderly (o : OpenNet) : Type 0 where
   pub nodes : length o.nodes < 2 ^ 32
   pub wires : length o.wires < 2 ^ 32

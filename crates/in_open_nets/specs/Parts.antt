@@ -84,7 +84,7 @@ pub record SpreadsOver (o : OpenNet) (within : List Bool) (n b : ℕ) (reached :
 abbrev pub AreReachedNodes : List Bool → List ℕ → Type 0
 AreReachedNodes reached found = (n : ℕ) → IsIn n (nodes_in reached) ↔ Among n found
 
--- what a search from a node has reached, and of what it has not looked at the neighbours yet
+-- the nodes that a search from a node has reached, and those whose neighbours it has not visited yet
 pub record IsSearch (o : OpenNet) (within : List Bool) (from : ℕ) (reached : List Bool) (queue : List ℕ) : Type 0 where
   pub size : length reached ≡ length o.nodes
   pub start : IsIn from (nodes_in reached)

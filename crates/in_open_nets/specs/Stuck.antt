@@ -1,5 +1,5 @@
--- The first stuck sub-net. This project's own choice: the one that stops a procedure which takes the first splitting node out, and
--- goes on with each component that remains.
+-- The first stuck sub-net. This project's own choice: the one that stops a procedure which takes the first splitting node out, and continues with
+-- each component that remains.
 use Rattle.std.specs.Prelude.{◌≡◌, ◌⊎◌, ◌↔◌, ℕ, suc, ◌+◌, ◌<◌, ◌≤◌, Bool, cond, nat_eq, List, [], ◌∷◌, length, slice_get, Some, None}
 use Rattle.in_syntax.specs.declared.places.Place.{Place}
 use Rattle.in_open_nets.specs.declared.derivations.Stuck.{Stuck as StuckNet}
@@ -51,7 +51,7 @@ pub data FirstStuck (o : OpenNet) : (ℕ → Bool) → (ℕ → Bool) → Type 0
 abbrev pub IsFirstStuck : OpenNet → (ℕ → Bool) → Type 0
 IsFirstStuck o t = (s : ℕ → Bool) × ((n : ℕ) → IsIn n s ↔ IsNode o n) × FirstStuck o s t
 
--- ---- the answer
+-- ---- the result
 
 -- n is one of them
 abbrev pub Among : ℕ → List ℕ → Type 0

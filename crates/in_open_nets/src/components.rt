@@ -197,9 +197,9 @@ impl DoneNodes {
         self.nodes.absent()
     }
 
-    /// Whether the part, which a node left, is in one piece, where short searches tell. They are tried once: where they tell, the whole
-    /// part is derived at once, and where they don't, they wouldn't later on. Of the whole net, which may be in several pieces, a part lacks
-    /// one node alone, and nothing is tried.
+    /// Whether the part, which a node left, is in one piece, if short searches find that. They are tried once: if they find it, the whole part is
+    /// derived at once, and if not, they wouldn't later on. The whole net may be in several pieces, so a part that lacks one node of it alone isn't
+    /// tried.
     fn is_piece(&mut self, alloc: Global, part: &Part, node: usize) -> Result<bool, AllocError>
         requires node { node < length part.now.wired.now.nodes }
         requires size { length self.old ≡ length part.now.wired.now.nodes }

@@ -28,8 +28,8 @@ impl<'a> Model for Cycles<'a> {
     ghost invariant = { λ r. KeepWhole r.wired.now r.found };
 }
 
-/// Whether the walk that leaves one node after the other by these ports, from this one on, leads back to it by a port of another class
-/// than it began with. The nodes between come to `nodes`.
+/// Whether the walk from this node, which leaves each node by the next of these ports, leads back to it by a port of another class than it began
+/// with. `nodes` gets the nodes in between.
 fn comes_back(
     wired: &Wired,
     from: usize,

@@ -52,7 +52,7 @@ impl Labels {
     }
 }
 
-/// Whether what a node's ports lead to in the part, but for the candidate, has this label.
+/// Whether each neighbour of a node in the part, except for the candidate, has this label.
 fn is_spread(candidate: &Candidate, labels: &Labels, class: usize, at: usize) -> bool
     requires { at < length candidate.now.part.wired.now.nodes }
     ensures { IsTrue result → AreLabelled candidate.now.part.wired.now candidate.now.part.nodes.now candidate.now.node labels.now class at (ports_of candidate.now.part.wired.now at) }

@@ -1,4 +1,4 @@
-//! Laws over the definitions of open nets, for whoever reasons above them. No function here does anything.
+//! Laws on the definitions of open nets, for proofs above them. No function here does anything.
 
 ghost use Rattle.in_open_nets.specs.Laws.{ComponentIsOne, DerivableHasNoCircle, FirstSplittingIsOne, MembersAreListedOnce, RestIsOne, SetIsItsMembers, SplitsByBridges, SplitsOffCycles, SplitsOrFirstStuck, SplitsWhereDerivable, UnionIsOne};
 
@@ -30,17 +30,17 @@ pub fn splits_or_first_stuck()
     ensures { SplitsOrFirstStuck }
 {}
 
-/// A set of nodes is its members, so that what says of each node whether it is a member allows one set.
+/// Two sets over as many nodes that have the same members are equal.
 pub fn set_is_its_members()
     ensures { SetIsItsMembers }
 {}
 
-/// What `first_splitting` answers is one: a node, or that there is none.
+/// `first_splitting` has one result: a node, or that there is none.
 pub fn first_splitting_is_one()
     ensures { FirstSplittingIsOne }
 {}
 
-/// The component that `DoneNodes::add` answers is one.
+/// `DoneNodes::add` has one component as its result.
 pub fn component_is_one()
     ensures { ComponentIsOne }
 {}
@@ -50,7 +50,7 @@ pub fn union_is_one()
     ensures { UnionIsOne }
 {}
 
-/// What `NodeSet::without` leaves is one set.
+/// `NodeSet::without` has one set as its result.
 pub fn rest_is_one()
     ensures { RestIsOne }
 {}

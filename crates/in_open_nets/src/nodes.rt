@@ -162,7 +162,7 @@ impl NodeSet {
         tests
     }
 
-    /// Whether the node is a member; one past the tests is none.
+    /// Whether the node is a member. A node past the tests isn't one.
     pub fn has(&self, node: usize) -> bool
         ensures { result ≡ nodes_in self.now node }
     {
@@ -207,7 +207,7 @@ impl NodeSet {
         requires found { AreReachedNodes tests.now found.items }
         ensures { IfOk result (λ set. set ≡ tests.now) }
     {
-        // Mostly what a node is taken out of is of one component. All of these are gone over only for a good part of them.
+        // Mostly a node is taken out of one component. All nodes are visited only for a good part of them.
         if tests.absent() <= self.absent() {
             self.list.copy(alloc)
         } else if found.len() < self.count() / 16 {

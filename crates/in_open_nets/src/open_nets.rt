@@ -33,7 +33,7 @@ pub struct OpenNode {
     pub class_of: Items<u8>,
 }
 
-/// A net of which it can be asked how it is built up: its nodes in the order of their places, its wires, and its free ends.
+/// A net for the question how it is built up: its nodes in the order of their places, its wires, and its free ends.
 #[derive(Drop)]
 pub struct OpenNet {
     pub(crate) nodes: Items<OpenNode>,
@@ -41,7 +41,7 @@ pub struct OpenNet {
     pub(crate) free: u32,
 }
 
-// Contracts see the open net as it is defined, and each one is an open net.
+// Contracts see the open net by its definition. Each value is an open net.
 impl Model for OpenNet {
     ghost use Rattle.in_open_nets.specs.OpenNets as nets;
 

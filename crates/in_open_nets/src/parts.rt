@@ -1,4 +1,4 @@
-//! Parts of an open net, and the node of a part that is looked at.
+//! Parts of an open net, and a candidate node of a part.
 ghost use Rattle.std.specs.Prelude.{◌≡◌, ◌<◌, length};
 ghost use Rattle.in_open_nets.specs.Constructions.{IsIn};
 ghost use Rattle.in_open_nets.specs.Members.{nodes_in};

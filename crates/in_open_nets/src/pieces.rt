@@ -60,7 +60,7 @@ fn gather(
     Ok(())
 }
 
-/// Whether a node is joined to one of these, where about `enough` nodes near to it tell.
+/// Whether a node is joined to one of these, if a search of about `enough` nodes near to it finds one.
 fn meets(
     alloc: Global,
     part: &Part,
@@ -142,7 +142,7 @@ fn first_neighbour(part: &Part, node: usize) -> Option<u32>
     None
 }
 
-/// Whether the neighbours of a node are joined to this one of them, where short searches tell.
+/// Whether the neighbours of a node are joined to this one of them, if short searches find that.
 fn joins_all(
     alloc: Global,
     part: &Part,
@@ -170,7 +170,7 @@ fn joins_all(
     Ok(true)
 }
 
-/// Whether the neighbours of a node, which is not in the part, are joined in the part, where short searches tell.
+/// Whether the neighbours of a node, which is not in the part, are joined in the part, if short searches find that.
 pub(crate) fn joins_neighbours(
     alloc: Global,
     part: &Part,

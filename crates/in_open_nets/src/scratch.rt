@@ -59,7 +59,7 @@ impl Scratch {
         self.marks.len()
     }
 
-    /// Whether the number is a member; one past the tests is none.
+    /// Whether the number is a member. A number past the tests isn't one.
     pub(crate) fn has(&self, number: usize) -> bool
         ensures { result ≡ nodes_in self.now number }
     {

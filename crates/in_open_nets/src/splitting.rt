@@ -14,7 +14,7 @@ use in_simple_bridges::on_cycles;
 use sqlite_items::Items;
 use std::alloc::{AllocError, Global};
 
-/// Whether all ports of the candidate that lead into the part are of one class: then it splits the part, whatever the rest is like.
+/// Whether all ports of the candidate that lead into the part are of one class: then it splits the part, however the rest is connected.
 fn touches_by_one_class(candidate: &Candidate) -> bool
     ensures splits { IsTrue result → SplitsIt candidate.now.part.wired.now candidate.now.part.nodes.now candidate.now.node }
     ensures net { IsOrderly candidate.now.part.wired.now }
@@ -94,7 +94,7 @@ fn tried(
     }
 }
 
-/// The first node of the part that splits it, by trying one after another, where that tells.
+/// The first node of the part that splits it, by trying one after another, if that decides it.
 fn first_by_trials(
     alloc: Global,
     part: &Part,

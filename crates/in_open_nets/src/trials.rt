@@ -16,7 +16,7 @@ use std::alloc::{AllocError, Global};
 /// The most nodes of a cycle on either side of where a search met.
 const MOST_STEPS: usize = 64;
 
-/// How many ports are looked at for each node of a part, before all of its nodes are decided at once.
+/// How many ports are visited for each node of a part, before all of its nodes are decided at once.
 const PORTS_FOR_A_NODE: usize = 32;
 
 /// A node that a search reached, by a class of the candidate: from which one before it, if not from that node itself, by which
@@ -38,7 +38,7 @@ struct Meeting {
     to: Option<usize>,
 }
 
-/// What a search came to: two classes that meet, or none although it reached all that it could, or the end of its budget.
+/// The result of a search: two classes that meet, none although it reached all that it could, or the end of its budget.
 #[derive(Clone, Copy, Drop)]
 enum Answer {
     Met(Meeting),
@@ -46,8 +46,8 @@ enum Answer {
     Spent,
 }
 
-/// A search from single nodes: what the last one reached, and how many more ports may be looked at. Nothing is claimed of what it finds,
-/// since cycles and labels are checked before they are used.
+/// A search from single nodes: the nodes that the last one reached, and how many more ports it may visit. No clause is on its result, since cycles
+/// and labels are checked before they are used.
 struct Search {
     labels: Labels,
     reached: Items<Reached>,
@@ -65,7 +65,7 @@ impl Drop for Search {
     }
 }
 
-/// The cycles that searches from single nodes found, the last search, and room for a class graph, where searches do not tell.
+/// The cycles that searches from single nodes found, the last search, and room for a class graph, if searches don't decide.
 pub struct Trials<'a> {
     pub cycles: Cycles<'a>,
     pub(crate) graph: ClassGraph,
@@ -107,7 +107,7 @@ impl Search {
         })
     }
 
-    /// Whether that many ports may still be looked at; then they count as looked at.
+    /// Whether that many ports may still be visited; then they count as visited.
     fn spend(&mut self, ports: usize) -> bool {
         if ports > self.budget {
             return false;
@@ -130,7 +130,7 @@ impl Search {
     }
 
     /// Whether the wire at a port of the node `at`, reached by a class, leads out of the part, or to a node that is reached by that class
-    /// already. It is asked first, since mostly it is so.
+    /// already. It is tested first, since it mostly holds.
     fn is_old(&self, candidate: &Candidate, at: usize, port: usize, class: usize) -> bool
         requires at { at < length candidate.now.part.wired.now.nodes }
         requires port { port < ports_of candidate.now.part.wired.now at }
@@ -143,7 +143,7 @@ impl Search {
         }
     }
 
-    /// Comes by the wire at a port of the node `at`, reached by a class. Answers where it meets another class.
+    /// Follows the wire at a port of the node `at`, reached by a class. Returns where it meets another class.
     fn visit(
         &mut self,
         candidate: &Candidate,
@@ -190,7 +190,7 @@ impl Search {
         }))
     }
 
-    /// Reaches what the ports of the candidate lead to, each by its class.
+    /// Reaches the neighbours of the candidate, each by the class of the port that leads to it.
     fn start(&mut self, candidate: &Candidate) -> Result<Option<Meeting>, AllocError> {
         let wired = candidate.part.wired;
         let node = candidate.node;
@@ -297,7 +297,7 @@ impl<'a> Trials<'a> {
         })
     }
 
-    /// As many ports may be looked at as the size of the part allows.
+    /// As many ports may be visited as the size of the part allows.
     pub(crate) fn begin(&mut self, part: &NodeSet)
         ensures { self.new.cycles ≡ self.old.cycles }
     {
@@ -316,7 +316,7 @@ impl<'a> Trials<'a> {
         }
     }
 
-    /// Whether the candidate splits the part, where a search from it tells.
+    /// Whether the candidate splits the part, if a search from it decides that.
     pub(crate) fn find(
         &mut self,
         alloc: Global,

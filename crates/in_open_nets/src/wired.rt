@@ -16,7 +16,7 @@ use std::marker::Model;
 /// The most ports of a node: an agent's principal port and its auxiliary ports.
 const MOST_PORTS: usize = MAX_PORTS + 1;
 
-/// What a slot has: no wire, or where its wire leads to.
+/// The content of a slot: no wire, or the other end of its wire.
 #[derive(Clone, Copy, Drop)]
 pub(crate) enum Target {
     Nowhere,

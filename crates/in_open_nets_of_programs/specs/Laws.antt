@@ -51,7 +51,7 @@ abbrev pub RuleCirclesAreOpen : Type 0
 RuleCirclesAreOpen = (t : Tables) (p : RuleParts) (o : OpenNet) (a b : ℕ) → AreNumbered t → IsRuleWhole t p → IsWhole p.member → IsRuleOver t p → OpensRule t p o →
     CrossingCircle (open_member (signature_of t) (redex_at p a b)) → CrossingCircle (open_graph o)
 
--- ---- one answer
+-- ---- one result
 
 -- a net has one open net
 abbrev pub NetsAreOpenedOnce : Type 0

@@ -1,4 +1,4 @@
--- Maps between graphs: where the ports of one stand in another. This project's own.
+-- Maps between graphs: where the ports of one are in another. This project's own.
 use Rattle.std.specs.Prelude.{◌≡◌, ℕ}
 use Rattle.in_base.specs.Graphs.{Graph}
 

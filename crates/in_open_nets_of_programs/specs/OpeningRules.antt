@@ -30,7 +30,7 @@ pub record IsClassNodeOf (t : Tables) (s : SymbolNo) (place : Place) (c : ℕ) (
   pub classes : m.classes ≡ places_in t s.0 c (arity_of t s.0)
   pub numbers : Each (λ i k. k ≡ i) m.class_of
 
--- how many agents stand before the second head
+-- how many agents are before the second head
 abbrev pub agents_before : RuleParts → ℕ
 agents_before p = count_by (λ q. nat_lt q.from p.head_places.1.from) p.member.places
 

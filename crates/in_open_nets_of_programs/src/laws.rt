@@ -1,4 +1,4 @@
-//! Laws over the definitions of the open nets of nets and rules, for whoever reasons above them. No function here does anything.
+//! Laws on the definitions of the open nets of nets and rules, for proofs above them. No function here does anything.
 
 ghost use Rattle.in_open_nets_of_programs.specs.Laws.{DerivableRulesHaveNoCircle, NetCirclesAreOpen, NetsAreOpenedOnce, OpenNetsAreOpen, OpenRulesAreOpen, RuleCirclesAreOpen, RulesAreOpenedOnce, TablesAreNumbered, TextNetsAreAllThere, TextRulesAreWhole};
 

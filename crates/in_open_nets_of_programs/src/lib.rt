@@ -1,8 +1,8 @@
-//! The open nets of nets and of rules, of which can be asked whether they are semi-simple (Lafont 1990).
+//! The open nets of nets and of rules, for the question whether these are semi-simple (Lafont 1990).
 //!
-//! `opening` makes the open net of a net that was built (`BuiltNet`: the net and the tables of its symbols), `opening_rules` that of a
-//! rule, by a `Layout`, which says where the class nodes and the agents of the rule have their numbers. `OpenNet::new` asks that each
-//! point is in exactly one wire.
+//! `opening` makes the open net of a net that was built (`BuiltNet`: the net and the tables of its symbols), `opening_rules` that of a rule, by a
+//! `Layout`, which says where the class nodes and the agents of the rule have their numbers. `OpenNet::new` requires that each point is in exactly
+//! one wire.
 //!
 //! It needs `in_open_nets` alone of the crates of open nets, so that it is proved beside `in_simple_deriving`.
 #![tactic(auto)]

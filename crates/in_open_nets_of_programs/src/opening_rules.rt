@@ -76,7 +76,7 @@ fn class_node(
     })
 }
 
-/// Whether an agent of the right member stands before the second head, as a number.
+/// 1 if this agent of the right member comes before the second head in the text, else 0.
 fn one_before(rule: &Rule, agent: u32) -> u32
     requires agent { agent < length rule.now.member.cells }
     requires built { IsTrue rule.now.member.built }
@@ -90,7 +90,7 @@ fn one_before(rule: &Rule, agent: u32) -> u32
     }
 }
 
-/// How many agents of the right member stand before the second head.
+/// How many agents of the right member come before the second head in the text.
 fn agents_before(rule: &Rule) -> u32
     requires built { IsTrue rule.now.member.built }
     requires there { AreAllThere rule.now.member }
@@ -119,8 +119,8 @@ fn class_port(symbols: &Symbols, symbol: SymbolNo, first: u32, place: u8) -> Ope
     OpenPoint::Port(node, places_in(symbols, symbol, class, place - 1))
 }
 
-/// Where the nodes of a rule's open net begin: how many class nodes its first head has and its second one, and how many agents
-/// stand before the second head.
+/// Where the nodes of a rule's open net begin: how many class nodes its first head has and its second one, and how many agents come before the
+/// second head.
 #[derive(Drop)]
 struct Layout<'a> {
     symbols: &'a Symbols,

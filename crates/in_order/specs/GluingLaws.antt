@@ -43,21 +43,21 @@ RunsAreGlued = (p : System) (k : ℕ) (parts after : ℕ → Net ℕ) (name : �
     ((i : ℕ) → i < workers → Run p (counts i) (parts i) (after i)) → ((i : ℕ) → workers ≤ i → after i ≡ parts i) →
     (whole_after : Net ℕ) × IsGlued after name cuts whole_after × Reached p (k + total counts workers) whole_after
 
--- ---- cut, run and glued: what code cites
+-- ---- cut, run and glued, for code
 
 -- a run keeps a net sound
 abbrev pub RunsKeepSound : Type 0
 RunsKeepSound = (p : System) (k : ℕ) (n m : Net ℕ) → IsSoundSystem p → IsSound p n → Run p k n m → IsSound p m
 
--- a net that is reached is cut into sound parts, each is reduced by itself, and they are glued along the same cuts: what they are glued
--- to is reached, by all these interactions more. Which names its agents have before, in the parts and after is left open
+-- a reached net is cut into sound parts, each is reduced by itself, and they are glued along the same cuts: the glued net is reached, by all these
+-- interactions more. The names of its agents before, in the parts and after are left open
 abbrev pub CutRunAndGlued : Type 0
 CutRunAndGlued = (p : System) (k : ℕ) (n m : Net ℕ) (parts after : ℕ → Net ℕ) (before_names after_names : ℕ → ℕ → ℕ) (cuts : Cuts) (workers : ℕ) (counts : ℕ → ℕ) →
     IsSoundSystem p → Reached p k n → IsGlued parts before_names cuts n → KeepsApart parts before_names → ((i : ℕ) → IsSound p (parts i)) →
     ((i : ℕ) → i < workers → Run p (counts i) (parts i) (after i)) → ((i : ℕ) → workers ≤ i → after i ≡ parts i) →
     IsGlued after after_names cuts m → KeepsApart after after_names → Reached p (k + total counts workers) m
 
--- a part of a sound net is sound, under whatever names its agents have in the whole
+-- a part of a sound net is sound, however its agents are named in the whole
 abbrev pub PartsAreSoundByNames : Type 0
 PartsAreSoundByNames = (p : System) (parts : ℕ → Net ℕ) (name : ℕ → ℕ → ℕ) (cuts : Cuts) (n : Net ℕ) →
     KeepsApart parts name → IsGlued parts name cuts n → AreCuts parts cuts → AreTypedAtCuts p.symbols parts cuts →

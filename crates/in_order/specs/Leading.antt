@@ -1,4 +1,4 @@
--- Nets that are cut, reduced apart and glued again, over whole runs: what the parts do is a run of the whole. Agents may have other names
+-- Nets that are cut, reduced apart and glued again, over whole runs: runs of the parts are a run of the whole. Agents may have other names
 -- after each step, as where agents are moved from one memory to another. That nets are reduced in parts is this project's own choice.
 use Rattle.std.specs.Prelude.{◌≡◌, ◌+◌, ℕ, zero, suc, List, [], ◌∷◌, ◌++◌, length, Some}
 use Rattle.in_symbols.specs.declared.symbols.PortType.{PortType}
@@ -17,12 +17,12 @@ use Rattle.in_gluing.specs.SideBySide.{StandBeside}
 abbrev pub Leads : System → ℕ → Net ℕ → Net ℕ → Type 0
 Leads p k n m = Reached (from_net p n) k m
 
--- a run goes on where one ended
+-- a run continues where another one ended
 abbrev pub LeadsGoOn : Type 0
 LeadsGoOn = (p : System) (j k : ℕ) (l n m : Net ℕ) → Leads p j l n → Leads p k n m → Leads p (j + k) l m
 
--- two sound parts of a sound net are reduced each by itself: what they are glued to afterwards, along the same cuts, the whole leads to by
--- as many interactions as both together. Which names agents have in the parts and in the whole, before and after, is left open
+-- two sound parts of a sound net are reduced each by itself: the whole leads to the net that they are glued to afterwards, along the same cuts, by
+-- as many interactions as both together. The names of agents in the parts and in the whole, before and after, are left open
 abbrev pub PartsLeadTheWhole : Type 0
 PartsLeadTheWhole = (p : System) (j k : ℕ) (n m one two one_after two_after : Net ℕ) (before after : ℕ → ℕ → ℕ) (cuts : Cuts) → IsSoundSystem p → IsSound p n →
     IsGlued (two_parts one two) before cuts n → KeepsApart (two_parts one two) before → IsSound p one → IsSound p two →
@@ -54,7 +54,7 @@ pub record IsJoinedOnce (m w : Net ℕ) : Type 0 where
 abbrev pub CutOnceIsSound : Type 0
 CutOnceIsSound = (p : System) (w m : Net ℕ) → IsSound p w → IsCutOnce p w m → IsSound p m
 
--- what a net leads to in which a wire is cut, with the two ends joined again, the net itself leads to
+-- a net with a cut wire leads to another one, in which the two ends are joined again: the net itself leads to the joined one
 abbrev pub CutLeadsAreJoined : Type 0
 CutLeadsAreJoined = (p : System) (k : ℕ) (w m n o : Net ℕ) → IsSoundSystem p → IsSound p w → IsCutOnce p w m → Leads p k m n → IsJoinedOnce n o → Leads p k w o
 
@@ -74,18 +74,18 @@ pub data IsJoinedUp : ℕ → Net ℕ → Net ℕ → Type 0 where
 abbrev pub CutDownIsSound : Type 0
 CutDownIsSound = (p : System) (w : ℕ) (n m : Net ℕ) → IsSound p n → IsCutDown p w n m → IsSound p m
 
--- what a net leads to in which wires are cut, with as many pairs of ends joined again, the net itself leads to
+-- a net with cut wires leads to another one, in which as many pairs of ends are joined again: the net itself leads to the joined one
 abbrev pub CutDownLeadsAreJoinedUp : Type 0
 CutDownLeadsAreJoinedUp = (p : System) (w k : ℕ) (n m o q : Net ℕ) → IsSoundSystem p → IsSound p n → IsCutDown p w n m → Leads p k m o → IsJoinedUp w o q → Leads p k n q
 
 -- ---- nets side by side
 
--- what the two lead to by themselves, side by side again with the free ends in the same order, the one net leads to
+-- each of the two leads to another net: the one net leads to these, side by side again with the free ends in the same order
 abbrev pub BesideLeads : Type 0
 BesideLeads = (p : System) (j k : ℕ) (one two one_after two_after n m : Net ℕ) (before after : ℕ → ℕ) (ends : List (ℕ × ℕ)) → IsSoundSystem p → IsSound p n → IsSound p one → IsSound p two →
     StandBeside one two before ends n → Leads p j one one_after → Leads p k two two_after → StandBeside one_after two_after after ends m → Leads p (j + k) n m
 
--- what stands side by side in a sound net is sound
+-- nets side by side in a sound net are sound
 abbrev pub BesidePartsAreSound : Type 0
 BesidePartsAreSound = (p : System) (one two n : Net ℕ) (name : ℕ → ℕ) (ends : List (ℕ × ℕ)) → IsSound p n → IsNet p.symbols one → IsNet p.symbols two →
     StandBeside one two name ends n → IsSound p one × IsSound p two

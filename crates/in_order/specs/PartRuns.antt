@@ -1,4 +1,4 @@
--- Runs of the parts, each by itself, and what the parts of a sound net are.
+-- Runs of the parts, each by itself, and the parts of a sound net.
 use Rattle.std.specs.Prelude.{◌≡◌, ◌+◌, ℕ, zero, suc, Some}
 use Rattle.in_symbols.specs.declared.symbols.PortType.{PortType}
 use Rattle.in_net.specs.Interactions.{Redex}
@@ -14,17 +14,17 @@ pub data Run (p : System) : ℕ → Net ℕ → Net ℕ → Type 0 where
   none : (n : Net ℕ) → Run p zero n n
   one_more : (k : ℕ) (n m : Net ℕ) (x : Redex ℕ ℕ) (name : ℕ → ℕ) (after : Net ℕ) → Run p k n m → IsInteraction p m x name after → Run p (suc k) n after
 
--- what a given number of counts, from the first one on, are together
+-- the sum of a given number of counts, from the first one on
 abbrev pub total : (ℕ → ℕ) → ℕ → ℕ
 total counts zero = 0
 total counts (suc w) = total counts w + counts w
 
--- a wire at a joined free end has one type throughout: what is declared there is the type of the wire's other point
+-- a wire at a joined free end has one type throughout: the declared type there is that of the wire's other point
 abbrev pub AreTypedAtCuts : Signature → (ℕ → Net ℕ) → Cuts → Type 0
 AreTypedAtCuts sig parts cuts = (i : ℕ) (p q : Point ℕ) (s t : PortType) →
     IsJointEndAt cuts i p → (parts i).partner p ≡ Some q → type_in sig (parts i) p ≡ Some s → type_in sig (parts i) q ≡ Some t → t ≡ opposite s
 
--- a run goes on where one ended, and leads from a net that is reached to one
+-- a run continues where another one ended, and leads from a reached net to a reached net
 abbrev pub RunsGoOn : Type 0
 RunsGoOn = (p : System) (j k : ℕ) (l n m : Net ℕ) → Run p j l n → Run p k n m → Run p (k + j) l m
 

@@ -37,7 +37,7 @@ abbrev pub ReduciblePairsHaveTheirRule : Type 0
 ReduciblePairsHaveTheirRule = (text : List ℕ) (p : PlainParts) (a b : AgentNo) → IsAccepted text p.program → IsReducible p → (at : IsPairAt p a b) →
     IsPair p.program.tables at.first.0 at.second.0 × ((i : ℕ) (r : RuleParts) → slice_get p.program.rules i ≡ Some r → IsRuleOfSymbols r at.first.0 at.second.0 → IsRuleAt p a b i r)
 
--- what a step leads to is one
+-- a step leads to one net
 abbrev pub ReducibleStepsAreOne : Type 0
 ReducibleStepsAreOne = (text : List ℕ) (p q r : PlainParts) (a b : AgentNo) →
     IsAccepted text p.program → IsReducible p → IsPairAt p a b → count_by is_some p.net.cells ≤ most_agents →

@@ -22,7 +22,7 @@ pub fn runs_lead_to_the_end()
     ensures { RunsLeadToTheEnd }
 {}
 
-/// What one run reaches, and another one from there on, is reached by one run.
+/// If one run reaches a net, and another run from there reaches a second one, one run reaches the second.
 pub fn runs_are_joined()
     ensures { RunsAreJoined }
 {}
@@ -32,7 +32,7 @@ pub fn programs_have_one_end()
     ensures { ProgramsHaveOneEnd }
 {}
 
-/// A run goes on where another one ended.
+/// A run continues where another one ended.
 pub fn runs_go_on()
     ensures { RunsGoOn }
 {}
@@ -78,7 +78,7 @@ pub fn parts_are_sound()
     ensures { PartsAreSound }
 {}
 
-/// A part of a sound net is sound, under whatever names the agents have in the whole.
+/// A part of a sound net is sound, however its agents are named in the whole.
 pub fn parts_are_sound_by_names()
     ensures { PartsAreSoundByNames }
 {}
@@ -103,7 +103,7 @@ pub fn reducible_pairs_have_their_rule()
     ensures { ReduciblePairsHaveTheirRule }
 {}
 
-/// Of an accepted program, what a reducer's step leads to is one.
+/// In an accepted program, a reducer's step leads to one net.
 pub fn reducible_steps_are_one()
     ensures { ReducibleStepsAreOne }
 {}
@@ -118,7 +118,7 @@ pub fn cuts_keep_sound()
     ensures { CutsKeepSound }
 {}
 
-/// A run goes on where one ended: the counts are added.
+/// A run continues where another one ended: their counts are added.
 pub fn leads_go_on()
     ensures { LeadsGoOn }
 {}
@@ -134,13 +134,13 @@ pub fn cut_once_is_sound()
     ensures { CutOnceIsSound }
 {}
 
-/// What a net leads to in which a wire is cut, with the two ends joined again, the net itself leads to. So wires may be cut one after another
-/// and joined in the opposite order.
+/// A wire of a net is cut, the net with the cut leads to another one, and there the two ends are joined again: then the net itself leads to the
+/// joined one. So wires may be cut one after another and joined in the opposite order.
 pub fn cut_leads_are_joined()
     ensures { CutLeadsAreJoined }
 {}
 
-/// What two nets lead to by themselves, side by side, the two side by side lead to.
+/// If each of two nets leads to another one, the two side by side lead to those side by side.
 pub fn beside_leads()
     ensures { BesideLeads }
 {}
@@ -150,7 +150,8 @@ pub fn cut_down_is_sound()
     ensures { CutDownIsSound }
 {}
 
-/// What a net leads to in which wires are cut one after another, with the ends joined again in the opposite order, the net itself leads to.
+/// Wires of a net are cut one after another, the net with the cuts leads to another one, and there the ends are joined again in the opposite order:
+/// then the net itself leads to the joined one.
 pub fn cut_down_leads_are_joined_up()
     ensures { CutDownLeadsAreJoinedUp }
 {}

@@ -22,7 +22,7 @@ pub fn overwritten_is_one()
     ensures { OverwrittenIsOne }
 {}
 
-/// Where a wire leads back to the pair there is none.
+/// There is no such net if a wire leads back to the pair.
 pub fn overwritten_leads_none_back()
     ensures { OverwrittenLeadsNoneBack }
 {}
@@ -77,7 +77,7 @@ pub fn output_stands_first()
     ensures { OutputStandsFirst }
 {}
 
-/// So the two sides of a wire with a boundary end tell which pair it makes.
+/// So the two sides of a wire with a boundary end determine the pair that it makes.
 pub fn sides_tell_the_pair()
     ensures { SidesTellThePair }
 {}

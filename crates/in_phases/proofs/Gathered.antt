@@ -37,7 +37,7 @@ one_forgotten agents c marks no_other y none at = elim (ℕ_discrete y c.0) [
     unset (b ∷ bs) zero e = cc
     unset (b ∷ bs) (suc n) e = unset bs n e
 
--- .. or there is none at its number
+-- .. or no agent has its number
 pub none_forgotten : (agents : List CellNo) (c : CellNo) (marks : List Bool) → NoOtherIsMarked (agents ++ c ∷ []) marks → length marks ≤ c.0 → NoOtherIsMarked agents marks
 none_forgotten agents c marks no_other past y none at = no_other y (λ k e. elim (more_at agents c (record { 0 = y }) k e) [
   | inl kept ↦ none k kept

@@ -27,7 +27,7 @@ back_point (end.Cell c i) = refl
 back_point (end.Free k) = refl
 
 module _ (m : MachineParts) where
-  -- what an accessor answers is the net's partner
+  -- the result of an accessor is the net's partner
   pub partner_shown : (e f : End) → partner_in (parts_of m) (point_at e) ≡ Some (point_at f) → (net_in m).partner (joining.point_of e) ≡ Some (joining.point_of f)
   partner_shown e f h = ap (λ p. option_map point_of (partner_in (parts_of m) p)) (end_point e) ∙ ap (option_map point_of) h ∙ ap (λ p. Some p) (back_point f)
 

@@ -11,8 +11,8 @@ use crate::branch::Branch;
 use in_base::use_promise;
 use in_reducer::{CellNo, End, MOST_FREE_ENDS, Reducer};
 
-/// Whether the wire at this place of an agent leads out of the branch. That of a pair doesn't count, of which the branch has both agents or
-/// none.
+/// Whether the wire at this place of an agent leads out of the branch. The wire of an active pair doesn't count: the branch has both of its agents
+/// or neither.
 fn leads_out(reducer: &Reducer, branch: &Branch, cell: CellNo, place: u8) -> bool
     requires branch { IsBranch reducer.now branch.now }
     requires there { HasPlace reducer.now cell.0 place }
@@ -72,7 +72,7 @@ pub(crate) fn cut_off(reducer: &mut Reducer, branch: &Branch) -> u32
     cuts
 }
 
-/// Joins the ends of `cuts` cuts again, the last one first: what was before the cuts is reduced to that by as many interactions as were done
+/// Joins the ends of `cuts` cuts again, the last one first: the net before the cuts is reduced to the result by as many interactions as were done
 /// since.
 pub(crate) fn join_up(reducer: &mut Reducer, cuts: u32)
     requires cut { (m : MachineParts) × (cut : MachineParts) × (k : ℕ) × IsReducer m × IsCutTimes m cuts cut × ReducesTo cut k reducer.old }

@@ -48,7 +48,7 @@ fn alone(reducer: &mut Reducer, templates: &Templates, sharing: Sharing) -> Work
     }
 }
 
-/// Reduces a part in a thread of its own, and what is left in parts, at once. Says what both did.
+/// Reduces a part in a thread of its own, and at the same time the rest in parts. Returns the counts of both.
 #[cycle(phases)]
 fn at_once<R: Threads>(
     rt: &R,

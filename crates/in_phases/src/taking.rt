@@ -76,8 +76,8 @@ fn split<'a>(
     })
 }
 
-/// Glues a part on again, and joins the ends of the cuts: what was there before it was taken out is reduced to that by as many interactions as
-/// the part and the rest did together.
+/// Glues a part on again, and joins the ends of the cuts: the net before it was taken out is reduced to the result by as many interactions as the
+/// part and the rest did together.
 pub(crate) fn bring_back(reducer: &mut Reducer, taken: Taken, names: &mut [CellNo])
     requires names { length classes * taken.cells ≤ length names.old }
     requires back { (m : MachineParts) × (k : ℕ) × CanComeBack m k taken reducer.old }
@@ -110,9 +110,9 @@ fn gather(reducer: &Reducer, pairs: u32, share: u32, room: &mut Room) -> Result<
     room.reach_names(part.max(bound as usize))
 }
 
-/// Takes the trees behind the first `pairs` pairs out of a net, as a part with `share` free cells of each class besides those of its agents.
-/// `floor` cells of each class stay free in the rest, besides as many as the part has. Nothing where memory or cells run out for that: then
-/// the net is what it was, but for the numbers of its agents.
+/// Takes the trees behind the first `pairs` pairs out of a net, as a part with `share` free cells of each class besides those of its agents. `floor`
+/// cells of each class stay free in the rest, besides as many as the part has. `None` if memory or cells run out for that: then the net is as
+/// before, up to the numbers of its agents.
 pub(crate) fn take_part<'a>(
     alloc: Global,
     reducer: &mut Reducer<'a>,

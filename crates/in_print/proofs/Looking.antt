@@ -1,4 +1,4 @@
--- What a machine's accessors answer, of the net that it shows.
+-- The results of a machine's accessors, by the net that it shows.
 use Rattle.std.proofs.Common.{◌≡◌, ◌≤◌, ℕ, Option, Some, None, IsSome, IsSomeAnd, option_map, List, refl, sym, ap, ◌∙◌, subst, is_some, true≢false}
 use Rattle.std.proofs.lemmas.Option.{same_Some}
 use Rattle.in_arena.specs.declared.content.End.{End}

@@ -1,4 +1,4 @@
--- What is still to be written, step by step.
+-- The text that is still to be written, step by step.
 use Rattle.std.proofs.Common.{◌≡◌, ℕ, zero, suc, ◌+◌, ◌-◌, ◌<◌, ◌≤◌, List, [], ◌∷◌, ◌++◌, length, Option, Some, None, IsSomeAnd, refl, sym, ap, ◌∙◌, subst, arith, length-append, append_assoc}
 use Rattle.in_net.specs.Nets.{Point, Port, Free, IsPoint, IsNet}
 use Rattle.in_check.specs.NetText.{TextPart, Bytes, Head, Variable, arity_of, listed, bracketed, agent_term, term_at, IsAuxiliary}

@@ -1,4 +1,4 @@
--- What is written part by part is the text of the definitions.
+-- The text written part by part is that of the definitions.
 use Rattle.std.proofs.Common.{◌≡◌, ℕ, suc, nat_eq, List, [], ◌∷◌, ◌++◌, length, Option, Some, None, unwrap_or, refl, sym, ◌∙◌, append_assoc, append-nil}
 use Rattle.in_check.specs.NetText.{TextPart, Bytes, Head, Variable, number_of, symbol_name, variable_name, numbers, bytes_of}
 use Rattle.in_print.specs.Writings.{Setting, TextSoFar, with_bytes, with_part, with_parts}

@@ -1,4 +1,4 @@
--- What a call did to a reader or a writer.
+-- A reader or a writer after a call.
 use Rattle.std.specs.Prelude.{◌≡◌, ℕ, ◌+◌, ◌<◌, List, length, take, Result, Ok, Err}
 use Rattle.std.specs.Io.KnownBytes.{append_known}
 use Rattle.in_syntax.specs.Streams.{Device}

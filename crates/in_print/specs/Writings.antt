@@ -1,5 +1,5 @@
 -- A text while it is written: its bytes so far, and the wires that were met, each by the point at which it was. Words of the inner
--- contracts; what the whole text is stands in `in_check`'s definitions of a net's text.
+-- contracts. The whole text is defined by `in_check`, as a net's text.
 use Rattle.std.specs.Prelude.{ℕ, suc, List, [], ◌∷◌, ◌++◌, length, Some, None, unwrap_or, nat_eq}
 use Rattle.in_net.specs.Nets.{Point, Signature, Net}
 use Rattle.in_check.specs.NetText.{Words, TextPart, Bytes, Head, Variable, number_of, symbol_name, variable_name}

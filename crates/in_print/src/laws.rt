@@ -8,7 +8,7 @@ pub fn texts_hold_all()
     ensures { TextsHoldAll }
 {}
 
-/// The text doesn't tell which numbers agents have: machines that are the same up to them have one text.
+/// The text doesn't depend on the numbers of agents: machines that are the same up to them have one text.
 pub fn texts_are_same()
     ensures { TextsAreSame }
 {}

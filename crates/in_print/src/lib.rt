@@ -1,9 +1,9 @@
-//! The text of a machine's net, as it is printed.
+//! The printed text of a machine's net.
 //!
-//! A machine is seen only through its accessors. `terms` writes the term at an end, by a loop over a stack of the agents that have been
-//! begun; `numbers` keeps the wires that were met in an `IndexSet`; `sheet` is the text so far; `lines` writes the lines, and `writing`
-//! sends the whole text to the writer. That the loop ends, and that its stack is never higher than the net has agents, rests on the
-//! headline: the agents above a point are different ones.
+//! A machine is seen only through its accessors. `terms` writes the term at an end, by a loop over a stack of the agents that have been begun;
+//! `numbers` keeps the wires that were met in an `IndexSet`; `sheet` is the text so far; `lines` writes the lines, and `writing` sends the whole
+//! text to the writer. That the loop ends, and that its stack is never higher than the net has agents, follows from the headline: the agents above a
+//! point are different ones.
 #![tactic(auto)]
 
 pub mod laws;

@@ -29,7 +29,7 @@ fn agent_at(end: End) -> Option<CellNo>
     }
 }
 
-/// Writes what stands first in the term at an end. Answers the end whose term follows, where its agent has one.
+/// Writes the beginning of the term at an end. Returns the end whose term follows, if its agent has one.
 fn begin(
     alloc: Global,
     machine: &Machine,
@@ -56,8 +56,8 @@ fn begin(
     Ok(Some(End::Cell(cell, 1)))
 }
 
-/// Goes on after the term at a place of this agent, whose agents below stand on the stack. Answers the end whose term follows, where
-/// another place does.
+/// Writes on after the term at a place of this agent, while the agents below wait on the stack. Returns the end whose term follows, if another place
+/// has one.
 fn go_on(
     machine: &Machine,
     sheet: &mut Sheet,

@@ -128,7 +128,7 @@ moved_once d d' bytes more moves (before, is, after) =
     append_cancel_left before bytes more
     (same_Some (before ++ bytes) (before ++ more) (sym (ap (λ (z : Option (List ℕ)). append_known z bytes) is) ∙ sym moves.moved ∙ after))
 
--- what a call wrote, where memory did not run out and no device failed, is a reply to what it read
+-- the output of a call, if memory didn't run out and no device failed, is a reply to its input
 reply_of : (a : Action) (r r' : Reader) (w w' : Device) (input lines : List ℕ) (s : Status) → Acts a r r' w w' s → IsAnswered s → Moved r.device r'.device input → Moved w w' lines → IsReply a input lines s
 reply_of a r r' w w' input lines s (told read written gives says moves) answered given taken =
     subst (λ t. IsReply a t lines s) (moved_once r.device r'.device read input gives.moves given)

@@ -39,7 +39,7 @@ steps_alike p q h =
 turned : (p q : Program) → AreOneProgram p q → AreOneProgram q p
 turned p q h = record { tables = sym h.tables; rules = sym h.rules; net = sym h.net; numbers = λ c d. sym (h.numbers c d); rule_certificates = sym h.rule_certificates; net_certificate = sym h.net_certificate }
 
--- a net that doesn't fit is told in one way
+-- a net that doesn't fit is reported in one way
 one_full : (p q : Program) (l : Limits) (c d : CellClass) (need free more less : ℕ) → AreOneProgram p q → DoesNotFit p l.cells c need free → DoesNotFit q l.cells d more less → start_line c need free ≡ start_line d more less
 one_full p q l c d need free more less same (short, is, all) (shorter, are, each) =
     let needs : (e : CellClass) → agents_of q.tables e q.net.cells ≡ agents_of p.tables e p.net.cells = λ e. sym (same_agents p q same e) in

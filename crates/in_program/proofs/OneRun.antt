@@ -1,4 +1,4 @@
--- A program's run comes to one end: two accepted programs of one text differ at most in the table of their rules, of which a run says nothing.
+-- A program's run has one end: two accepted programs of one text differ at most in the table of their rules, which a run doesn't show.
 use Rattle.std.proofs.Common.{◌≡◌, ◌≤◌, ℕ, zero, suc, List, map, ap, ◌∙◌, subst, arith}
 use Rattle.in_arena.specs.declared.content.CellClass.{CellClass}
 use Rattle.in_cover.specs.Table.{Cells}

@@ -17,7 +17,7 @@ tells a r r' w w' text line s answer read says (inl (wrote, is)) =
     let P : Status → Type 0 = λ z. Says a r'.ended text line z in told text line read (subst P (sym is) says) wrote
 tells a r r' w w' text line s answer read says (inr (breaks, is)) = unwritten text line s read says breaks is
 
--- what is told of the text, where it is seen through another
+-- the output on the text, if it is seen through another
 pub tells_reply : (a : Action) (r r' : Reader) (w w' : Device) (text seen : List ℕ) (answer : Status) → seen ≡ text → (Gives r r' text × IsEnoughText r'.ended text) → TellsOne (IsReply a seen) w w' answer → Acts a r r' w w' answer
 tells_reply a r r' w w' text seen answer of_text (read, enough) (lines, s, inl reply, tell) =
     let P : List ℕ → Type 0 = λ z. IsReply a z lines s in
@@ -29,14 +29,14 @@ pub wants_memory : (a : Action) (r r' : Reader) (w w' : Device) (text : List ℕ
     Gives r r' text → Tells w w' memory_line memory_status answer → Acts a r r' w w' answer
 wants_memory a r r' w w' text answer read tell = tells a r r' w w' text memory_line memory_status answer read (inr (refl, refl)) tell
 
--- running out of memory is told in the place of anything
+-- running out of memory is reported in the place of anything
 pub wanted : (So : List ℕ → Status → Type 0) (w w' : Device) (answer : Status) → Tells w w' memory_line memory_status answer → TellsOne So w w' answer
 wanted So w w' answer tell = (memory_line, memory_status, inr (refl, refl), tell)
 
 pub one : (So : List ℕ → Status → Type 0) (w w' : Device) (lines : List ℕ) (s answer : Status) → So lines s → Tells w w' lines s answer → TellsOne So w w' answer
 one So w w' lines s answer so tell = (lines, s, inl so, tell)
 
--- lines that could be had are told, or running out of memory
+-- the lines are written, or running out of memory is reported
 pub lines_told : {E : Type 0} (So : List ℕ → Status → Type 0) (w w' : Device) (lines : Result (Vec ℕ Global) E) (these : List ℕ) (s answer : Status) → So these s → IfOk lines (λ v. v.items ≡ these) →
     IfOk lines (λ v. Tells w w' v.items s answer) → OnErr lines (Tells w w' memory_line memory_status answer) → TellsOne So w w' answer
 lines_told So w w' (Ok v) these s answer so is tell none = (v.items, s, inl (subst (λ l. So l s) (sym is) so), tell)

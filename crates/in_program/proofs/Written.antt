@@ -1,4 +1,4 @@
--- What is written piece by piece is the whole.
+-- The pieces that are written are the whole.
 use Rattle.std.proofs.Common.{◌≡◌, ◌<◌, ◌+◌, Option, option_map, ℕ, List, ◌∷◌, ◌++◌, append_assoc, codes, decimal, length, drop, slice_get, get_or, Some, None, refl, sym, ap, subst, ◌∙◌, arith}
 use Rattle.std.proofs.lemmas.List.{drop_more}
 use Rattle.std.proofs.lemmas.Option.{slice_get_within, get_or_from_slice_get}

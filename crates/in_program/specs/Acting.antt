@@ -1,4 +1,4 @@
--- What the program does: the lines that it writes on the text that it reads, and its status.
+-- The output of the program: the lines that it writes on the text that it reads, and its status.
 use Rattle.std.specs.Prelude.{◌≡◌, ◌⊎◌, ◌++◌, ℕ, Bool, true, false, List, [], Ok, string_bytes}
 use Rattle.in_syntax.specs.Streams.{Device, Reader}
 use Rattle.in_syntax.specs.declared.faults.Refusal.{Refusal}
@@ -34,8 +34,8 @@ fault_status = status 6
 abbrev pub memory_status : Status
 memory_status = status 5
 
--- what is found of an accepted program: what it has; the steps that build it; to which machine its net's run comes, by how many
--- interactions, and how it stops; the same, of which the net isn't shown; or that its net doesn't fit the cells
+-- the finding on an accepted program: its counts; the steps that build it; the machine at the end of its net's run, by how many interactions, and
+-- how it stops; the same without the net; or that its net doesn't fit the cells
 pub data Finding : Type 0 where
   counted : Finding
   derived : Finding
@@ -73,12 +73,12 @@ finding_status (ran m k s) = stop_status s
 finding_status (stopped m k s) = stop_status s
 finding_status (full c need free) = status 4
 
--- what the program says of a text
+-- the output of the program on a text
 pub data Report : Type 0 where
   accepted : Program → Finding → Report
   refused : Refusal → Report
 
--- what it says is so
+-- the output is right
 abbrev pub IsReport : Action → List ℕ → Report → Type 0
 IsReport a text (accepted p f) = IsAccepted text p × IsFinding a p f
 IsReport a text (refused r) = IsRefused text r

@@ -52,7 +52,7 @@ fn stop_status(stop: Stop) -> Status
     }
 }
 
-/// Writes a text, and answers the status, or that of a fault where the writer failed.
+/// Writes a text, and returns the status, or that of a fault if the writer failed.
 pub fn tell<W: TextOut>(writer: &mut W, text: &[u8], status: Status) -> Status
     requires { (W.device writer.old).failures < 2 ^ 64 - 1 }
     ensures { Tells (W.device writer.old) (W.device writer.new) text.now status result }
@@ -97,7 +97,7 @@ fn tell_net<W: TextOut>(
     }
 }
 
-/// Writes what a run came to.
+/// Writes the outcome of a run.
 pub(crate) fn tell_outcome<W: TextOut>(alloc: Global, writer: &mut W, outcome: &Outcome) -> Status
     requires { (W.device writer.old).failures < 2 ^ 64 - 1 }
     ensures { TellsOne (AreThese (text_of outcome.now.machine ++ run_lines outcome.now.interactions outcome.now.stop) (stop_status outcome.now.stop))
@@ -141,7 +141,7 @@ fn tell_run_fault<W: TextOut>(alloc: Global, writer: &mut W, fault: &RunFault) -
     }
 }
 
-/// Writes what a run came to, with its net or without.
+/// Writes the outcome of a run, with its net or without.
 fn tell_end<W: TextOut>(alloc: Global, writer: &mut W, net: bool, outcome: &Outcome) -> Status
     requires { (W.device writer.old).failures < 2 ^ 64 - 1 }
     ensures { TellsOne (AreThese (net_shown net (text_of outcome.now.machine) ++ run_lines outcome.now.interactions outcome.now.stop) (stop_status outcome.now.stop))
@@ -154,7 +154,7 @@ fn tell_end<W: TextOut>(alloc: Global, writer: &mut W, net: bool, outcome: &Outc
     }
 }
 
-/// Runs an accepted program, and writes what its run came to, or that its net doesn't fit.
+/// Runs an accepted program, and writes the outcome, or that its net doesn't fit.
 fn tell_run<T: Threads, W: TextOut, H: Watch>(
     rt: &T,
     alloc: Global,
@@ -212,7 +212,7 @@ pub(crate) fn tell_fault<W: TextOut>(
     }
 }
 
-/// Writes what `check` says of a text in memory, or what `derive` does, and answers the status: as `report` of a text that it reads.
+/// Writes the output of `check` on a text in memory, or that of `derive`, and returns the status: as `report` of a text that it reads.
 pub fn report_text<W: TextOut>(alloc: Global, writer: &mut W, derive: bool, text: &[u8]) -> Status
     requires { (W.device writer.old).failures < 2 ^ 64 - 1 }
     ensures { TellsOne (IsReply (report_action derive) text.now) (W.device writer.old) (W.device writer.new) result }
@@ -227,7 +227,7 @@ pub fn report_text<W: TextOut>(alloc: Global, writer: &mut W, derive: bool, text
     }
 }
 
-/// Writes what `run` says of a text.
+/// Writes the output of `run` on a text.
 fn tell_reply<T: Threads, W: TextOut, H: Watch>(
     rt: &T,
     alloc: Global,
@@ -250,8 +250,8 @@ fn tell_reply<T: Threads, W: TextOut, H: Watch>(
     }
 }
 
-/// Reads a program's text, writes the lines of `check` on it, or those of `derive`, and answers the status. For `check` of an accepted
-/// program they are one line that counts what it has, for `derive` the steps that build its rules and its net; of a refused one they
+/// Reads a program's text, writes the lines of `check` on it, or those of `derive`, and returns the status. For `check` of an accepted
+/// program they are one line with its counts, for `derive` the steps that build its rules and its net; of a refused one they
 /// are the line of the refusal. Where memory runs out they are the line `memory` alone. It makes at most 1,048,577 reads, and at most one
 /// more than it is given bytes. It waits for nobody.
 pub fn report<R: TextIn, W: TextOut>(

@@ -1,8 +1,8 @@
-// What is told of a stream or a file that fails.
+// The message on a stream or a file that fails.
 use std::alloc::{AllocError, Global};
 use std::io::{Error, Write};
 
-/// What failed: a standard stream, or a file of this name.
+/// A device that failed: a standard stream, or a file of this name.
 #[derive(Clone, Copy)]
 pub enum Device<'a> {
     /// Standard input.
@@ -26,7 +26,7 @@ pub fn shown(alloc: Global, file: &str) -> Result<String, AllocError> {
     Ok(name)
 }
 
-/// What can't be done with a device, and why.
+/// The message that an action on a device failed, and why.
 fn failure(alloc: Global, device: Device, done: &str, why: Error) -> Result<String, AllocError> {
     match device {
         Device::Input => format!(in alloc; "error: standard input can't be {done}: {why}\n"),

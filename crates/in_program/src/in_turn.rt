@@ -1,4 +1,4 @@
-// What is said of a text in memory, without threads.
+// The output on a text in memory, without threads.
 ghost use Rattle.std.specs.Prelude.{ℕ, ◌≡◌, ◌-◌, ◌^◌, ◌<◌};
 ghost use Rattle.in_arena.specs.declared.content.CellClass.{CellClass};
 ghost use Rattle.in_program.specs.Acting.{AreFound, AreThese, IsReply, TellsOne, status};
@@ -29,7 +29,7 @@ fn tell_no_start<W: TextOut>(alloc: Global, writer: &mut W, fault: StartFault) -
     }
 }
 
-/// Runs an accepted program in turn, and writes what its run came to, or that its net doesn't fit.
+/// Runs an accepted program with one worker, and writes the outcome, or that its net doesn't fit.
 fn tell_run_in_turn<W: TextOut>(
     alloc: Global,
     writer: &mut W,
@@ -49,7 +49,7 @@ fn tell_run_in_turn<W: TextOut>(
     }
 }
 
-/// Writes what `run` with one worker says of a text in memory, and answers the status: as `act` of a text that it reads. It starts no thread.
+/// Writes the output of `run` with one worker on a text in memory, and returns the status: as `act` of a text that it reads. It starts no thread.
 pub fn run_text<W: TextOut>(alloc: Global, writer: &mut W, limits: Limits, text: &[u8]) -> Status
     requires { (W.device writer.old).failures < 2 ^ 64 - 1 }
     ensures { TellsOne (IsReply (Run limits) text.now) (W.device writer.old) (W.device writer.new) result }

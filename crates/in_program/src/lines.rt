@@ -51,7 +51,7 @@ fn part(text: &[u8], place: Place) -> &[u8]
     &text[place.from.min(to)..to]
 }
 
-/// Adds a colon and what stands at the place, if the place isn't empty.
+/// Adds a colon and the text at the place, if the place isn't empty.
 fn add_text(bytes: &mut Vec<u8>, text: &[u8], place: Place) -> Result<(), AllocError>
     ensures { OnOk result (bytes.new.items ≡ bytes.old.items ++ text_at text.now place) }
 {
@@ -62,7 +62,7 @@ fn add_text(bytes: &mut Vec<u8>, text: &[u8], place: Place) -> Result<(), AllocE
     Ok(())
 }
 
-/// Adds a comma and what stands at the other place, if there is one.
+/// Adds a comma and the text at the other place, if there is one.
 fn add_other(bytes: &mut Vec<u8>, text: &[u8], other: Option<Place>) -> Result<(), AllocError>
     ensures { OnOk result (bytes.new.items ≡ bytes.old.items ++ other_at text.now other) }
 {
@@ -73,7 +73,7 @@ fn add_other(bytes: &mut Vec<u8>, text: &[u8], other: Option<Place>) -> Result<(
     Ok(())
 }
 
-/// Adds what stands at the place, what stands at the other, and the end of the line.
+/// Adds the text at the place, the text at the other place, and the end of the line.
 fn add_places(
     bytes: &mut Vec<u8>,
     text: &[u8],
@@ -88,8 +88,8 @@ fn add_places(
     Ok(())
 }
 
-/// The line of a refused text: the code, the line and the column, what stands at the place, if the place isn't empty, and at the
-/// other place, if there is one.
+/// The line of a refused text: the code, the line and the column, the text at the place, if the place isn't empty, and the text at the other place,
+/// if there is one.
 pub fn refused_line(alloc: Global, text: &[u8], refusal: Refusal) -> Result<Vec<u8>, AllocError>
     ensures { IfOk result (λ line. line.items ≡ refused_line text.now refusal) }
 {

@@ -62,7 +62,7 @@ fn add_node(
     }
 }
 
-/// Adds what a step does, and its node.
+/// Adds the word of a step, and its node.
 fn add_word_and_node(
     bytes: &mut Vec<u8>,
     alloc: Global,
@@ -77,7 +77,7 @@ fn add_word_and_node(
     add_node(bytes, alloc, symbols, shape, node)
 }
 
-/// Adds what a step does, and the two steps that it names.
+/// Adds the word of a step, and the two steps that it names.
 fn add_word_and_two(
     bytes: &mut Vec<u8>,
     alloc: Global,
@@ -91,7 +91,7 @@ fn add_word_and_two(
     add_numbers(bytes, alloc, &[a, b])
 }
 
-/// Adds what a step does, and the nodes and steps that it names.
+/// Adds the word of a step, and the nodes and steps that it names.
 fn add_step(
     bytes: &mut Vec<u8>,
     alloc: Global,

@@ -3,7 +3,7 @@ ghost use Rattle.std.specs.Prelude.{◌≡◌, None};
 use in_syntax::{TextIn, TextOut};
 use std::io::{Error, ErrorKind, Read, Write};
 
-/// A text from a stream of the system, which tells its failures and no bytes.
+/// A text from a stream of the system. Contracts see its failures and no bytes.
 #[derive(Drop)]
 pub struct StreamIn<R> {
     reader: R,
@@ -53,7 +53,7 @@ impl<R: Read> TextIn for StreamIn<R> {
     }
 }
 
-/// A text to a stream of the system, which tells its failures and no bytes.
+/// A text to a stream of the system. Contracts see its failures and no bytes.
 #[derive(Drop)]
 pub struct StreamOut<W> {
     writer: W,

@@ -1,4 +1,4 @@
--- What the cells show, and how many there are.
+-- The net that the cells show, and how many cells there are.
 pub mod AsMany
 pub mod AtRest
 pub mod Counted

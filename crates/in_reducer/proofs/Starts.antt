@@ -1,4 +1,4 @@
--- What a reducer starts with.
+-- The start of a reducer.
 pub mod Accepted
 pub mod Begun
 pub mod StartKept

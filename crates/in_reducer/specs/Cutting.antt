@@ -1,4 +1,4 @@
--- A wire of a reducer's net is cut, and two free ends are joined: what a part of a net is made by, and what it is undone by. That nets are
+-- A wire of a reducer's net is cut, and two free ends are joined: the first makes a part of a net, the second undoes it. That nets are
 -- reduced in parts is this project's own choice.
 use Rattle.std.specs.Prelude.{◌≡◌, ◌≢◌, ℕ, List, [], ◌∷◌, ◌++◌, map, Some}
 use Rattle.in_net.specs.Nets.{Point, Port, Net, net_of}

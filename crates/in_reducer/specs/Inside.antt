@@ -1,4 +1,4 @@
--- What contracts see of a reducer's fields, and what these fields keep.
+-- The view of a reducer, and the invariant of its fields.
 use Rattle.std.specs.Prelude.{◌≡◌, ◌+◌, ◌*◌, ◌≤◌, ◌<◌, ℕ, false, List, [], length, map, Some, slice_get, slice_index_or, vec_capacity}
 use Rattle.std.specs.VecDeque.{deque_capacity}
 use Rattle.in_arena.specs.Arenas.{ArenaView, NoneLeased}
@@ -94,13 +94,13 @@ pub record IsKept (r : Body) : Type 0 where
   pub all : KeepsAll r
   pub none : NoneLeased r.arena
 
--- ---- while a right member stands beside its pair
+-- ---- while a right member is beside its pair
 
 -- the same over this arena
 abbrev pub over : ArenaView → Body → Body
 over a r = record { checked = r.checked; arena = a; free = r.free; ends = r.ends; queue = r.queue; tools = r.tools }
 
--- over that arena it was a reducer, with room for this pair, of whose template the right member stands beside it now
+-- over that arena it was a reducer, with room for this pair, of whose template the right member is beside it now
 pub record StandsBeside (r : Body) (a : ArenaView) (i : ℕ) (p : TemplateParts) : Type 0 where
   pub net : KeepsNet (over a r)
   pub at : IsTemplateAt (reducer_view (over a r)) i p

@@ -1,4 +1,4 @@
--- One interaction over cells: what it is of, and what it leaves.
+-- One interaction over cells: its conditions and its result.
 use Rattle.std.specs.Prelude.{◌≡◌, ◌+◌, ◌≤◌, ℕ, List, length, take, slice_index_or}
 use Rattle.in_arena.specs.Arenas.{ArenaView}
 use Rattle.in_arena.specs.declared.content.CellNo.{CellNo}

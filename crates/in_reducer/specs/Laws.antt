@@ -12,7 +12,7 @@ use Rattle.in_reducer.specs.Reducers.{IsReducer}
 use Rattle.in_reducer.specs.Starts.{IsStart}
 use Rattle.in_reducer.specs.Steps.{StepsAt}
 
--- what a reducer shows is as promised
+-- the net that a reducer shows is as promised
 abbrev pub ReducersAsPromised : Type 0
 ReducersAsPromised = (m : MachineParts) → IsReducer m → IsAsPromised (system_of m.program) (net_of (parts_of m))
 

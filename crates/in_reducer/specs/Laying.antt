@@ -34,7 +34,7 @@ pub record CanLay (m : MemberParts) (f : Fresh) : Type 0 where
   pub queue : f.queue.items ≡ []
   pub room : length m.pairs ≤ deque_capacity f.queue
 
--- the member stands in cells that were free, its pairs are queued, and the first ends lead where its boundary ends do
+-- the member is in cells that were free, its pairs are queued, and the first ends lead where its boundary ends do
 pub record IsLaid (m : MemberParts) (old new : Fresh) (ends : List End) : Type 0 where
   pub names : List CellNo
   pub put : IsPut m names old.arena new.arena

@@ -21,7 +21,7 @@ pub record AreSameIsAnEquivalence : Type 0 where
   pub back : (m n : MachineParts) → IsReducer m → AreSame m n → AreSame n m
   pub through : SameGoesThrough
 
--- what is the same as a reducer is one
+-- a state that is the same as a reducer is one
 abbrev pub SameAreReducers : Type 0
 SameAreReducers = (m n : MachineParts) → IsReducer m → AreSame m n → IsReducer n
 
@@ -50,7 +50,7 @@ StepsUpToNumbersAreSame = (m n o : MachineParts) (i : ℕ) → IsReducer m → S
 abbrev pub RunsUpToNumbersAreSame : Type 0
 RunsUpToNumbersAreSame = (m n o : MachineParts) (k : ℕ) → IsReducer m → RunsUpToNumbers m k n → RunsUpToNumbers m k o → AreSame n o
 
--- an interaction leads to what it leads to under any other numbers too, from its reducer under some
+-- the result of an interaction, under any other numbers, is the result of one from its reducer under some numbers
 abbrev pub StepsCanBeRenamed : Type 0
 StepsCanBeRenamed = (m n o : MachineParts) (i : ℕ) → IsReducer m → StepsAt m i n → AreSame n o → (s : MachineParts) × AreSame m s × StepsAt s i o
 

@@ -35,8 +35,8 @@ abbrev pub names_of_two : List (List ℕ) → List (List ℕ) → ℕ × ℕ →
 names_of_two rest part (zero, e) = slice_get rest e
 names_of_two rest part (suc i, e) = slice_get part e
 
--- the net is the rest and the part side by side, the agents of the part under these names, with the free ends in that order; the wires of
--- either lead between what it has
+-- the net is the rest and the part side by side, the agents of the part under these names, with the free ends in that order; the wires of either
+-- lead between its own points
 pub record IsOfTwo (m rest part : MachineParts) (own cuts : ℕ) : Type 0 where
   pub program_rest : rest.program ≡ m.program
   pub program_part : part.program ≡ m.program

@@ -27,7 +27,7 @@ abbrev pub PartsReduceTheWhole : Type 0
 PartsReduceTheWhole = (m rest part rest_after part_after after : MachineParts) (agents : List CellNo) (own cuts cells j k : ℕ) → IsReducer m → IsReducer rest → IsReducer part →
     IsSplitButQueues m agents own cuts cells rest part → ReducesTo rest j rest_after → ReducesTo part k part_after → IsGluedButQueue rest_after part_after own cuts after → ReducesTo m (j + k) after
 
--- ---- what is determined
+-- ---- determined results
 
 -- the one queue is the other in some order: each pair of the one has a place in the other, with the same pair there, no two have one place,
 -- and no place is left over
@@ -37,7 +37,7 @@ pub record IsReordered (IsSame : ℕ × ℕ → ℕ × ℕ → Type 0) (queue qu
   pub once : (j k : ℕ) → j < length queue → k < length queue → place j ≡ place k → j ≡ k
   pub all : (j : ℕ) → j < length queue_too → (k : ℕ) × (k < length queue) × (place k ≡ j)
 
--- the same two agents, whichever stands first. (Of two constructors, or two destructors, the one with the lower number does; a sound net has
+-- the same two agents, whichever is first. (Of two constructors, or two destructors, the one with the lower number is; a sound net has
 -- no such pair)
 abbrev pub AreSameTwo : ℕ × ℕ → ℕ × ℕ → Type 0
 AreSameTwo q r = (r ≡ q) ⊎ (r ≡ (q.1, q.0))
@@ -66,7 +66,7 @@ SplitsAreAlike = (m rest part rest_too part_too : MachineParts) (agents : List C
 abbrev pub GluingsAreAlike : Type 0
 GluingsAreAlike = (rest part m m_too : MachineParts) (own cuts : ℕ) → IsGluedButQueue rest part own cuts m → IsGluedButQueue rest part own cuts m_too → DifferInNumbers m m_too
 
--- where a wire is cut, and only interactions are done since, the two ends can be joined, and what was before the cut is reduced to that
+-- once a wire is cut, and only interactions are done since, the two ends can be joined, and the net before the cut is reduced to the result
 abbrev pub CutsAreUndone : Type 0
 CutsAreUndone = (m n o : MachineParts) (c i k : ℕ) → IsReducer m → CutsAt m c i n → ReducesTo n k o →
     CanJoin o × (2 ≤ length o.free) × ((after : MachineParts) → JoinsLast o after → ReducesTo m k after)

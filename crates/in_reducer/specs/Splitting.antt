@@ -55,7 +55,7 @@ pub record LosesPart (agents : List CellNo) (own : ℕ → ℕ) (old new : Arena
 
 -- ---- pairs
 
--- the first agent of the pair stands in the arena, or is gone
+-- the first agent of the pair is in the arena, or is gone
 abbrev pub is_there : State → Bool
 is_there Vacant = false
 is_there Leased = false

@@ -29,7 +29,7 @@ leading_to [] es = []
 leading_to (f ∷ fs) [] = []
 leading_to (f ∷ fs) (e ∷ es) = record { name = f.name; kind = f.kind; end = point_at e } ∷ leading_to fs es
 
--- the arena with each leased cell free: what it shows where no lease is out, and what counts as free while some are
+-- the arena with each leased cell free: its view if no cell is on lease, and the count of free cells while some are
 abbrev pub rested : State → State
 rested Vacant = Vacant
 rested Leased = Vacant

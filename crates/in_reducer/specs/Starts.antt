@@ -1,4 +1,4 @@
--- Where a program's net stands in cells.
+-- Where a program's net is in cells.
 use Rattle.std.specs.Prelude.{◌≡◌, ℕ, List, map}
 use Rattle.in_net.specs.Built.{IsOver}
 use Rattle.in_net.specs.Nets.{net_of}

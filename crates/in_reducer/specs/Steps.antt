@@ -1,4 +1,4 @@
--- What an interaction needs, and what it does. Lafont 1990: an interaction replaces an active pair by the right member of its rule, and nets
+-- The conditions and the result of an interaction. Lafont 1990: an interaction replaces an active pair by the right member of its rule, and nets
 -- are taken up to the names of their agents. Which pair comes first, and cells, are this project's own choice; which numbers new agents have
 -- is left open.
 use Rattle.std.specs.Prelude.{◌≡◌, ◌+◌, ℕ, List, ◌++◌, map, Some, slice_get, remove}
@@ -23,7 +23,7 @@ pub record NeedsAt (m : MachineParts) (i : ℕ) (need : Need) : Type 0 where
   pub is_rule : IsRuleAt (plain_of m) (agents_at pair).0 (agents_at pair).1 number rule
   pub is_need : IsNeedOf m.program.tables rule.member.cells need
 
--- what that pair needs is free
+-- the cells that the pair needs are free
 abbrev pub HasRoomAt : MachineParts → ℕ → Type 0
 HasRoomAt m i = (need : Need) × NeedsAt m i need × IsEnough (count_of need) (count_of m.vacant)
 

@@ -18,7 +18,7 @@ pub record AreAhead (m : MachineParts) (a : Ahead) : Type 0 where
   pub next : a.next ≤ together
   pub heads : (k : ℕ) (h : SymbolNo × SymbolNo) → slice_get a.heads (a.next + k) ≡ Some h → HasHeadsAt m k h
 
--- what that pair needs is free, and `floor` cells of each class besides
+-- the cells that the pair needs are free, and `floor` cells of each class besides
 abbrev pub HasRoomBesides : MachineParts → ℕ → ℕ → Type 0
 HasRoomBesides m i floor = (need : Need) × NeedsAt m i need × ((c : CellClass) → floor + count_of need c ≤ count_of m.vacant c)
 

@@ -125,7 +125,7 @@ pub record HasPortsIn (a : ArenaView) (c : CellNo) (first to : ℕ) (old new : L
   pub others : (k : ℕ) → (k < first) ⊎ (to ≤ k) → slice_get new k ≡ slice_get old k
   pub long : length new ≡ length old
 
--- the pair of two principal ports is added, the second one's agent first where the first one is an input. Nothing is, if one of them is none
+-- the pair of two principal ports is added, the second one's agent first where the first one is an input. Nothing is added if one of them isn't one
 abbrev pub AddsInOrder : Bool → End → End → List (ℕ × ℕ) → List (ℕ × ℕ) → Type 0
 AddsInOrder input x y old new =
     (IsNoPair x y × (new ≡ old)) ⊎ ((c : ℕ) × (d : ℕ) × IsPrincipal c x × IsPrincipal d y × (new ≡ old ++ cond input (d, c) (c, d) ∷ []))

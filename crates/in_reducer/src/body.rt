@@ -1,4 +1,4 @@
-// What a reducer works with, also while cells of its arena are lent to the workers of a round.
+// The parts of a reducer, also while cells of its arena are lent to the workers of a round.
 use crate::tools::Tools;
 use in_arena::{Arena, EndWord};
 use in_check::Checked;

@@ -38,7 +38,7 @@ impl Drop for Fresh {
 }
 
 impl Fresh {
-    /// What a reducer of this program works with, once a net stands in the cells, with these free ends, which lead to these ends.
+    /// The tools of a reducer of this program, once a net is in the cells, with these free ends and their other ends.
     pub(crate) fn into_body<'a>(
         self,
         checked: &'a Checked,

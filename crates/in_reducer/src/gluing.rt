@@ -22,7 +22,7 @@ use in_arena::{Arena, CellClass, CellNo, EndWord};
 use in_base::use_promise;
 use in_cells::{copy, moved_end, number_anew};
 
-/// What the free ends of the part and of the rest lead to, with the new numbers of the part's cells, and of the free ends of both.
+/// The other ends of the free ends of the part and of the rest, with the new numbers of the part's cells, and of the free ends of both.
 #[derive(Clone, Copy)]
 struct Halves<'b> {
     names: &'b [CellNo],
@@ -58,8 +58,8 @@ fn list_part_numbers(cuts: Cuts, numbers: &mut Vec<u32>)
     }
 }
 
-/// Adds the live cells of a class, in the order of their numbers, to those of the classes before. Those that were never used aren't looked at.
-/// No memory is taken.
+/// Adds the live cells of a class, in the order of their numbers, to those of the classes before. Cells that were never used aren't read. It takes
+/// no memory.
 fn list_class(arena: &Arena, class: CellClass, cells: &mut Vec<CellNo>)
     requires leased { NoneLeased arena.now × HasAllCells arena.now }
     requires small { arena.now.cells ≤ most_cells }
@@ -115,7 +115,7 @@ fn glue_free(rest: &[OwnEnd], part: &[OwnEnd], free: &mut Vec<OwnEnd>)
     add_free_in_turn(part, &rest[own..], free);
 }
 
-/// What the free ends of both lead to, under the new numbers. No memory is taken.
+/// Writes the other ends of the free ends of both halves, under the new numbers. It takes no memory.
 fn glue_ends(halves: &Halves, ends: &mut Vec<EndWord>)
     requires { IsReserved (length halves.now.part.now + length halves.now.rest.now) ends.old }
     ensures items { (own : ℕ) → length halves.now.rest.now ≡ own + length halves.now.part.now → ends.new.items

@@ -1,16 +1,16 @@
-//! Laws over reducers, for whoever reasons above them. No function here does anything.
+//! Laws on reducers, for proofs above them. No function here does anything.
 
 ghost use Rattle.in_reducer.specs.Cutting.{JointsUndoCuts};
 ghost use Rattle.in_reducer.specs.Laws.{ReducersAsPromised, StepsKeepReducers, StartsAreReducers};
 ghost use Rattle.in_reducer.specs.PartingLaws.{CutsAreUndone, GluingsAreAlike, PartsReduceTheWhole, ReductionsGoOn, SplitsAreAlike, StaysReduce, StepsReduce};
 
-/// What a reducer shows is as promised: typed, with one rule for each active pair, without crossing circle or vicious one, with an end
+/// The net that a reducer shows is as promised: typed, with one rule for each active pair, without a crossing circle or a vicious one, with an end
 /// to each interaction, leading on from each agent, and written whole.
 pub fn reducers_as_promised()
     ensures { ReducersAsPromised }
 {}
 
-/// An interaction of a reducer leaves one, and is one interaction more of a run, whatever numbers the new agents have.
+/// An interaction of a reducer leaves a reducer, and makes a run one interaction longer, however the new agents are numbered.
 pub fn steps_keep_reducers()
     ensures { StepsKeepReducers }
 {}

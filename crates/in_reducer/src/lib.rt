@@ -1,11 +1,11 @@
 //! A net in raw cells that is reduced in place: each interaction begins the right member's agents in free cells and writes its wires, and takes
 //! no memory.
 //!
-//! A `Reducer` has a net in an arena: live cells are the agents, their ends the wires, and a list has what the free ends lead to. What
-//! contracts see of it is one value (`specs/Machines.antt`): the program, the agent of each cell by number, the free ends, the queue, the
-//! free counts. It keeps that its net is *sound* (typed, of the program's symbols, without crossing circle), and not that the program
-//! reaches it, so that a part of a net can be reduced in the same way; soundness is all that an interaction needs. Its free ends are its
-//! own: each is one of its program's, or an end of a wire that was cut, which has a type and no name.
+//! A `Reducer` has a net in an arena: live cells are the agents, their ends the wires, and a list has the other ends of the free ends. Contracts see
+//! it as one value (`specs/Machines.antt`): the program, the agent of each cell by number, the free ends, the queue, the free counts. Its invariant
+//! is that its net is *sound* (typed, of the program's symbols, without crossing circle), not that the program reaches it, so that a part of a net
+//! can be reduced in the same way. An interaction needs no more than soundness. Its free ends are its own: each is one of its program's, or an end
+//! of a wire that was cut, which has a type and no name.
 //!
 //! `starting` places the program's net, `looking` reads it, `stepping` does one interaction: the template of the pair is found by the two
 //! symbols. Where neither symbol is marked no wire leads back to the pair: then the right member's agents are begun in free cells, each wire of

@@ -1,4 +1,4 @@
-// What a reducer shows.
+// The view of a reducer.
 ghost use Rattle.std.specs.Prelude.{◌≡◌, ◌<◌, ◌≤◌, length, count_by, is_some, Some, IsSome, slice_get, option_map};
 ghost use Rattle.in_symbols.specs.Tables.{arity_of};
 ghost use Rattle.in_net.specs.Parts.{IsPointOf, symbol_in, partner_in, free_name_in};
@@ -88,7 +88,7 @@ impl<'a> Reducer<'a> {
         agents
     }
 
-    /// What a place of an agent leads to, the principal port being place 0, or what a free end leads to.
+    /// The partner of a place of an agent, of which 0 is the principal port, or of a free end.
     pub fn partner(&self, end: End) -> End
         requires { IsPointOf (parts_of self.now) (point_at end) }
         ensures { partner_in (parts_of self.now) (point_at end) ≡ Some (point_at result) }
@@ -122,7 +122,7 @@ impl<'a> Reducer<'a> {
         self.body.free.len() as u32
     }
 
-    /// The name of a free end; an end of a cut wire has none, and answers the empty text.
+    /// The name of a free end; an end of a cut wire has none, and its name is the empty text.
     pub fn free_name(&self, number: u32) -> &str
         requires { number < length self.now.free }
         ensures { Some result.now ≡ free_name_in (parts_of self.now) number }

@@ -1,4 +1,4 @@
-//! Laws over reducers that differ in the numbers of their agents alone, for whoever reasons above them. No function here does anything.
+//! Laws on reducers that differ in the numbers of their agents alone, for proofs above them. No function here does anything.
 
 ghost use Rattle.in_reducer.specs.NameLaws.{AreSameIsAnEquivalence, PairsCanStandAside, ReducersCanBeRenamed, RunsCanBeRenamed, RunsKeepSame, RunsUpToNumbersAreSame, RunsUpToNumbersGoOn, RunsUpToNumbersTakeSteps, SameAreReducers, StartsCanBeRenamed, StepsCanBeRenamed, StepsKeepSame, StepsUpToNumbersAreSame};
 
@@ -42,7 +42,7 @@ pub fn runs_up_to_numbers_are_same()
     ensures { RunsUpToNumbersAreSame }
 {}
 
-/// An interaction leads to what it leads to under any other numbers too, from its reducer under some.
+/// The result of an interaction, under any other numbers, is the result of one from its reducer under some numbers.
 pub fn steps_can_be_renamed()
     ensures { StepsCanBeRenamed }
 {}

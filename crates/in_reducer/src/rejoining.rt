@@ -7,9 +7,9 @@ use crate::reducer::Reducer;
 use in_cells::join_last;
 
 impl<'a> Reducer<'a> {
-    /// Joins the last two free ends: what they led to lead to each other from then on, and the two are gone. Where principal ports led to both,
-    /// their agents are a new pair, which comes last. The net after it has to be sound, as it is where the two come from a cut, and only
-    /// interactions were done since: who calls it shows that (`in_order`). It takes no memory.
+    /// Joins the last two free ends: their partners lead to each other from then on, and the two are gone. If both partners are principal ports,
+    /// their agents are a new pair, which comes last. The net after it has to be sound. It is if the two come from a cut, and only interactions were
+    /// done since: the caller shows that (`in_order`). It takes no memory.
     pub fn join_last(&mut self)
         requires two { 2 ≤ length self.old.free }
         requires can { CanJoin self.old }

@@ -16,8 +16,7 @@ pub(crate) struct Pair {
     pub(crate) first_ends: u8,
 }
 
-/// An interaction that is next: the pair, the template of its rule, the cells in which the right member stands beside it, and how many free ends
-/// the net has.
+/// The next interaction: the pair, the template of its rule, the cells of the right member beside it, and how many free ends the net has.
 #[derive(Clone, Copy)]
 pub(crate) struct PlacedPair<'b> {
     pub(crate) pair: Pair,
@@ -42,7 +41,7 @@ impl Pair {
         }
     }
 
-    /// The outer side of a boundary end at whose port this end stands, where the sides are numbered from here on.
+    /// If an end is a port of the pair: the outer side of that boundary end, where the sides are numbered from `from` on. Any other end stays.
     #[inline(always)]
     fn outer(self, from: u32, end: End) -> End
         requires from { from < 2 ^ 31 }
@@ -76,7 +75,7 @@ pub(crate) fn inner(placed: &Placed, from: u32, joint: Joint) -> End
     }
 }
 
-/// Sets the sides of all boundary ends of a pair that still stands, after the net's own free ends: first the outer sides, then the inner ones.
+/// Sets the sides of all boundary ends of a pair that is still live, after the net's own free ends: first the outer sides, then the inner ones.
 pub(crate) fn set_sides(arena: &Arena, next: &PlacedPair, ends: &mut [EndWord])
     requires ports { (e : ℕ) → e < length next.now.template.now.member.joints → HasPort arena.now next.now.pair e }
     requires joints { (e : ℕ) (j : Target) → slice_get next.now.template.now.member.joints e ≡ Some j → HasJoint next.now.placed.now.cells j }

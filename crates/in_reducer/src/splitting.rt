@@ -30,7 +30,7 @@ use in_compile::Templates;
 use std::alloc::{AllocError, Global};
 use std::collections::VecDeque;
 
-/// The numbers that free ends of the whole get in the rest or in the part, and lists for the free ends there and for what they lead to.
+/// The numbers that free ends of the whole get in the rest or in the part, and lists for the free ends there and for their other ends.
 #[derive(Drop)]
 struct EndLists {
     numbers: Vec<u32>,
@@ -51,7 +51,7 @@ struct PartRoom {
     fresh: Fresh,
 }
 
-/// The free ends of the whole, and what they lead to.
+/// The free ends of the whole, and their other ends.
 #[derive(Clone, Copy)]
 struct Whole<'b> {
     cuts: Cuts,
@@ -61,8 +61,8 @@ struct Whole<'b> {
     ghost all_ends: { length ends.now ≡ cuts.own + (cuts.count + cuts.count) },
 }
 
-/// The numbers of the free ends in the rest: those that were there before the cuts keep theirs, and then come the second ends of the cuts.
-/// (What the first ends get doesn't matter.)
+/// The numbers of the free ends in the rest: those that were there before the cuts keep theirs, and the second ends of the cuts follow. (The numbers
+/// of the first ends don't matter.)
 fn rest_numbers(alloc: Global, cuts: Cuts) -> Result<Vec<u32>, AllocError>
     ensures { IfOk result (λ v. AreNumbersOfTwo cuts.own cuts.count 0 (cuts.own + cuts.count) v.items) }
 {

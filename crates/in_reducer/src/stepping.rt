@@ -40,7 +40,7 @@ impl<'a> Body<'a> {
         (self.symbol(CellNo(one)), self.symbol(CellNo(other)))
     }
 
-    /// The interaction of the pair of that number, beside which the right member of its template stands in the cells that the tools tell.
+    /// The interaction of the pair of that number. The right member of its template is beside it, in the cells that the tools name.
     /// The pair leaves the queue, and the new pairs come last: first those over boundary ends, by the lowest-numbered one on the path that
     /// made each, then the right member's own. It takes no memory.
     #[inline(always)]
@@ -105,8 +105,8 @@ impl<'a> Reducer<'a> {
         self.template_by(templates, number, self.body.heads(number))
     }
 
-    /// How many cells of each class the interaction of the pair of that number needs: the agents of its rule's right member. They have to
-    /// be free while the pair still stands. The templates are those of the program.
+    /// How many cells of each class the interaction of the pair of that number needs: the agents of its rule's right member. They have to be free
+    /// before the pair is retired. The templates are those of the program.
     pub fn need_of(&self, templates: &Templates, number: u32) -> Need
         requires templates { AreTemplatesOf self.now.program templates.now }
         requires pair { number < length self.now.queue }
@@ -115,7 +115,7 @@ impl<'a> Reducer<'a> {
         self.template(templates, number).need()
     }
 
-    /// Whether what the pair of that number needs is free, so that `step` may do its interaction. The templates are those of the program.
+    /// Whether the cells that the pair of that number needs are free, so that `step` may do its interaction. The templates are those of the program.
     pub fn has_room(&self, templates: &Templates, number: u32) -> bool
         requires templates { AreTemplatesOf self.now.program templates.now }
         requires pair { number < length self.now.queue }
@@ -124,7 +124,7 @@ impl<'a> Reducer<'a> {
         self.fits(self.template(templates, number), number)
     }
 
-    /// Whether what the template of the pair of that number needs is free.
+    /// Whether the cells that the template of the pair of that number needs are free.
     #[inline(always)]
     fn fits(&self, template: &Template, number: u32) -> bool
         requires { IsTemplateAt self.now number template.now }
@@ -135,7 +135,7 @@ impl<'a> Reducer<'a> {
         short.is_none()
     }
 
-    /// The interaction of the pair of that number, as `step` says, whatever wires lead back to the pair.
+    /// The interaction of the pair of that number, as by `step`. Wires may lead back to the pair.
     fn step_beside(&mut self, template: &Template, number: u32)
         requires at { IsTemplateAt self.old number template.now }
         requires room { HasRoomAt self.old number }
@@ -193,10 +193,10 @@ impl<'a> Reducer<'a> {
         }
     }
 
-    /// The interaction of the pair of that number, by the rule of its symbols: Lafont 1990's, which replaces the pair by the right member.
-    /// The pair leaves the queue, and the new pairs come last: first those over boundary ends, by the lowest-numbered one on the path that
-    /// made each, then the right member's own. The cells of the pair are free, and those of the new agents aren't. What the pair needs has
-    /// to be free while it still stands. The templates are those of the program. It takes no memory.
+    /// The interaction of the pair of that number, by the rule of its symbols: Lafont 1990's, which replaces the pair by the right member. The pair
+    /// leaves the queue, and the new pairs come last: first those over boundary ends, by the lowest-numbered one on the path that made each, then
+    /// the right member's own. The cells of the pair are free, and those of the new agents aren't. The cells that the pair needs have to be free
+    /// before it is retired. The templates are those of the program. It takes no memory.
     pub fn step(&mut self, templates: &Templates, number: u32)
         requires templates { AreTemplatesOf self.old.program templates.now }
         requires pair { number < length self.old.queue }
@@ -207,8 +207,8 @@ impl<'a> Reducer<'a> {
         self.step_by(template, number);
     }
 
-    /// The interaction of the first pair, up to numbers, where neither symbol of the pair is marked: its cells are free before the right member's
-    /// agents are begun, so that these stand there where they can.
+    /// The interaction of the first pair, up to numbers, if neither symbol of the pair is marked. The pair's cells are freed before the agents of
+    /// the right member are placed, which then reuse them where they can.
     #[inline(always)]
     fn step_anew(&mut self, template: &Template)
         requires at { IsTemplateAt self.old 0 template.now }
@@ -254,7 +254,7 @@ impl<'a> Reducer<'a> {
         }
     }
 
-    /// The interaction of the first pair, which has these symbols, up to numbers, where what it needs is free. Returns whether it was done.
+    /// The interaction of the first pair, which has these symbols, up to numbers, if the cells that it needs are free. Returns whether it was done.
     #[inline(always)]
     pub(crate) fn step_known(&mut self, templates: &Templates, heads: (SymbolNo, SymbolNo)) -> bool
         requires { AreTemplatesOf self.old.program templates.now × HasHeadsAt self.old 0 heads }

@@ -64,7 +64,7 @@ impl<'a> Reducer<'a> {
         }
     }
 
-    /// Reads the symbols of the first pairs, of which there are so many.
+    /// Reads the symbols of the first `TOGETHER` pairs. There are at least as many.
     #[inline(always)]
     fn read_heads(&self, heads: &mut [(SymbolNo, SymbolNo); TOGETHER])
         requires { together ≤ length self.now.queue }
@@ -88,7 +88,7 @@ impl<'a> Reducer<'a> {
         }
     }
 
-    /// The interaction of the first pair, up to numbers, where there is one and what it needs is free. Returns whether it was done. The
+    /// The interaction of the first pair, up to numbers, if there is a pair and the cells that it needs are free. Returns whether it was done. The
     /// templates are those of the program. It takes no memory.
     #[inline(always)]
     fn step_next(&mut self, templates: &Templates, ahead: &mut Ahead) -> bool
@@ -107,8 +107,8 @@ impl<'a> Reducer<'a> {
         true
     }
 
-    /// Interactions of the first pair of the queue, one after another, at most `most`, first in, first out. Fewer only where no pair is left, or
-    /// what the first one needs isn't free. Returns how many they were. They are those of a reducer that is this one up to the numbers of
+    /// Interactions of the first pair of the queue, one after another, at most `most`, first in, first out. Fewer only if no pair is left, or the
+    /// cells that the first one needs aren't free. Returns how many there were. They are those of a reducer that is this one up to the numbers of
     /// agents: a new agent may have the number of one that is gone. The templates are those of the program. It takes no memory.
     pub fn take_first(&mut self, templates: &Templates, most: u64) -> u64
         requires { AreTemplatesOf self.old.program templates.now }
@@ -129,7 +129,7 @@ impl<'a> Reducer<'a> {
         count
     }
 
-    /// Whether what the template of the pair of that number needs is free, and `floor` cells of each class besides.
+    /// Whether the cells that the template of the pair of that number needs are free, and `floor` more of each class.
     #[inline(always)]
     fn fits_besides(&self, template: &Template, number: u32, floor: u32) -> bool
         requires { IsTemplateAt self.now number template.now }
@@ -139,8 +139,8 @@ impl<'a> Reducer<'a> {
         Need::free_in(&self.body.arena).has_besides(template.need(), floor)
     }
 
-    /// The interaction of the last pair, as `step` says, where what it needs is free and `floor` cells of each class besides. Returns whether it
-    /// was done. There is a pair.
+    /// The interaction of the last pair, as by `step`, if the cells that it needs are free and `floor` more of each class. Returns whether it was
+    /// done. There is a pair.
     #[inline(always)]
     fn step_last(&mut self, templates: &Templates, floor: u32) -> bool
         requires templates { AreTemplatesOf self.old.program templates.now }
@@ -157,9 +157,9 @@ impl<'a> Reducer<'a> {
         true
     }
 
-    /// Interactions of the last pair of the queue, one after another, at most `most`, the newest pair first: what was made last is still in the
-    /// cache, and a net that is reduced from there stays small. Fewer only where no pair is left, or what the last one needs isn't free with
-    /// `floor` cells of each class besides. Returns how many they were. The templates are those of the program. It takes no memory.
+    /// Interactions of the last pair of the queue, one after another, at most `most`, the newest pair first: the newest agents are still in the
+    /// cache, and a net that is reduced from there stays small. Fewer only if no pair is left, or the cells that the last one needs aren't free with
+    /// `floor` cells of each class besides. Returns how many there were. The templates are those of the program. It takes no memory.
     pub fn take_newest(&mut self, templates: &Templates, floor: u32, most: u64) -> u64
         requires { AreTemplatesOf self.old.program templates.now }
         ensures reduces { ReducesTo self.old result self.new }

@@ -1,4 +1,4 @@
-// What interactions use again and again.
+// Lists that each interaction reuses.
 
 use in_arena::EndWord;
 use in_compile::Placed;

@@ -67,7 +67,8 @@ fn begin_agents(member: &Member, arena: &mut Arena, points: &mut [EndWord])
     begin_rest(member, 0, arena, points);
 }
 
-/// Reads what the auxiliary ports of a live agent lead to, in their order, at the points from `first` to before `to`. It has so many.
+/// Reads the other ends of a live agent's auxiliary ports, in their order, into the points from `first` to before `to`. The agent has that many
+/// auxiliary ports.
 #[inline(always)]
 fn read_agent(arena: &Arena, cell: CellNo, first: u8, to: u8, points: &mut [EndWord])
     requires { HasPortsFor arena.now cell first to (length points.old) }
@@ -90,7 +91,7 @@ fn read_agent(arena: &Arena, cell: CellNo, first: u8, to: u8, points: &mut [EndW
     }
 }
 
-/// Reads what the pair's ports lead to, at the points of their boundary ends.
+/// Reads the other ends of the pair's auxiliary ports into the points of their boundary ends.
 #[inline(always)]
 fn read_ports(arena: &Arena, pair: Pair, many: u8, points: &mut [EndWord])
     requires { CanRead arena.now pair many points.old }
@@ -234,8 +235,8 @@ fn begin_in(member: &Member, pair: Pair, arena: &mut Arena, points: &mut [EndWor
     begin_rest(member, 2, arena, points);
 }
 
-/// Retires a pair to which no wire leads back, begins the right member's agents, which then stand in its cells where they can, and writes the wires,
-/// as `wire_up` does.
+/// Retires a pair to which no wire leads back, places the right member's agents, which reuse its cells where they can, and writes the wires, as
+/// `wire_up` does.
 #[inline(always)]
 pub(crate) fn wire_anew(
     template: &Template,

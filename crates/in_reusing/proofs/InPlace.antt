@@ -54,7 +54,7 @@ module _ (sig : Signature) (n m : Net ℕ) (x : Redex ℕ ℕ) (f name : ℕ →
   side_n (Port k i) u h = h
   side_n (Free e) u h = (alike.ends e u).0 h
 
-  -- a point of the right member that comes to this point is on a wire that has a side here
+  -- a point of the right member that leads to this point is on a wire that has a side here
   is_side : (p u : Point ℕ) → IsPoint sig x.member p → IsSideAt sig m z name p u → IsSide sig m z name u
   is_side p u h at =
       let q = has_value (x.member.partner p) (can.inside.joined p h) in

@@ -37,7 +37,7 @@ pub fn steps_in_place_are_same()
     ensures { StepsInPlaceAreSame }
 {}
 
-/// In a sound net of a sound system no wire leads back to an active pair of which neither symbol is marked.
+/// In a sound net of a sound system no wire leads back to an active pair whose two symbols are both unmarked.
 pub fn unmarked_pairs_of_sound_nets_are_apart()
     ensures { UnmarkedPairsOfSoundNetsAreApart }
 {}

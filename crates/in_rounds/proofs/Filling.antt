@@ -1,4 +1,4 @@
--- A stock that is filled from an arena, of which other cells may be out.
+-- A stock that is filled from an arena while other cells may be on lease.
 use Rattle.std.proofs.Common.{◌≡◌, ◌⊎◌, inl, inr, ◌≤◌, ◌<◌, ℕ, [], ◌∷◌, length, Some, slice_get, refl, ap, ◌∙◌, subst, arith}
 use Rattle.std.proofs.lemmas.List.Elements.{All-cons, All-nil}
 use Rattle.in_base.proofs.Each.{all_at}

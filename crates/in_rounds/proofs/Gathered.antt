@@ -1,4 +1,4 @@
--- What the workers have together once they are back, and what is lent out once it is gathered.
+-- The cells that the workers have together once they are back, and those on lease once the results are gathered.
 use Rattle.std.proofs.Common.{◌≡◌, ◌⊎◌, inl, inr, ◌<◌, ℕ, zero, suc, List, [], ◌∷◌, ◌++◌, length, replicate, All, Some, refl, sym, ap, ◌∙◌, subst, arith}
 use Rattle.std.specs.List.{AllZip}
 use Rattle.std.proofs.lemmas.List.{append-nil}

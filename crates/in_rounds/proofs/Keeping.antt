@@ -1,4 +1,4 @@
--- The bags of what is kept, as one is put, taken or given back.
+-- The bags of the kept results, as one is put, taken or given back.
 use Rattle.std.proofs.Common.{◌≡◌, ◌+◌, ℕ, zero, suc, List, [], ◌∷◌, ◌++◌, Option, Some, Ok, slice_get, set, All, refl, sym, ap, subst, ◌∙◌, arith}
 use Rattle.std.specs.Option.{option_to_list}
 use Rattle.std.proofs.lemmas.List.{append-nil}

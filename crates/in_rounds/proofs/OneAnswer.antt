@@ -1,4 +1,4 @@
--- What is put and what is taken has one answer.
+-- Putting and taking have one result.
 use Rattle.std.proofs.Common.{◌≡◌, inl, inr, ℕ, Some, None, Ok, Err, slice_get, refl, sym, ap, ◌∙◌}
 use Rattle.in_rounds.specs.Dones.{DoneParts}
 use Rattle.in_rounds.specs.Gathers.{GatherParts, IsPutRefused}

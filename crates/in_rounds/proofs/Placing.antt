@@ -1,4 +1,4 @@
--- What is placed from a stock, and what is left in it.
+-- A member placed from a stock, and the rest of the stock.
 use Rattle.std.proofs.Common.{◌≡◌, ◌⊎◌, inl, inr, ◌+◌, ℕ, cond, [], ◌∷◌, Some, slice_get, sym, ap, ◌∙◌, subst, arith}
 use Rattle.std.proofs.lemmas.Option.{option_and_then_some}
 use Rattle.in_base.proofs.Each.{all_at}

@@ -1,4 +1,4 @@
--- While cells of a reducer's arena are on lease: what it shows doesn't depend on which are, and each leased cell is in a bag of those kept.
+-- While cells of a reducer's arena are on lease: its view doesn't depend on which are, and each leased cell is in a bag of those kept.
 use Rattle.std.proofs.Common.{◌≡◌, ◌⊎◌, inl, inr, ◌<◌, ◌≤◌, ℕ, zero, suc, Some, List, [], ◌∷◌, ◌++◌, length, length-append, map, get_or, remove, set, slice_get, All, refl, sym, ap, subst, ◌∙◌, arith}
 use Rattle.std.proofs.lemmas.List.Elements.{All-cons, All-head, All-tail}
 use Rattle.in_arena.specs.Arenas.{ArenaView, NoneLeased, state_at}
@@ -196,7 +196,7 @@ module _ (slots : List Slot) (j : ℕ) (d : DoneParts) (at : slice_get slots j �
   taken_is_bag = kept_has (λ b. IsBagOf b a) slots j d at have.bags.each
 
   module _ (b : ArenaView) (settled : AreSettled d.placed.placed.bag a b) where
-    -- a cell of one that is left is none of those taken
+    -- a cell of one that is left isn't one of those taken
     apart : (n : ℕ) → 0 < holders n (bags_of (set slots j Taken)) → (state_at d.placed.placed.bag n ≡ Leased) ⊎ IsInBag d.placed.placed.bag n → state_at d.placed.placed.bag n ≡ Leased
     apart n some (inl out) = out
     apart n some (inr here) = absurd (

@@ -1,4 +1,4 @@
--- Cells that are out of an arena in several bags: which of them each bag has, and what it is to give some back. This project's own choice.
+-- Cells that are out of an arena in several bags: which of them each bag has, and giving some back. This project's own choice.
 use Rattle.std.specs.Prelude.{◌≡◌, ◌≤◌, ◌<◌, ℕ, Bool, true, false, List, length, count_by, All}
 use Rattle.in_arena.specs.Arenas.{ArenaView, state_at}
 use Rattle.in_arena.specs.Bags.{IsBagOf}

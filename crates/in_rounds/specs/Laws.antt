@@ -1,4 +1,4 @@
--- Laws over what is gathered, and over rounds.
+-- Laws on gathered results and on rounds.
 use Rattle.std.specs.Prelude.{◌≡◌, ◌<◌, ◌≤◌, ◌+◌, ◌-◌, ℕ, List, [], ◌∷◌, Option, Result, Ok, Some}
 use Rattle.in_arena.specs.Arenas.{ArenaView}
 use Rattle.in_machine.specs.Machines.{IsMachine}
@@ -13,7 +13,7 @@ use Rattle.in_rounds.specs.declared.gather.Why.{Why}
 
 -- ---- no cell is lost
 
--- what the one list of bags has and what the other has is what the third has
+-- the cells of the one list of bags and those of the other are those of the third
 abbrev pub Shares : List ArenaView → List ArenaView → List ArenaView → Type 0
 Shares bs cs both = (n : ℕ) → holders n both ≡ holders n bs + holders n cs
 
@@ -23,7 +23,7 @@ PuttingLosesNone = (g h : GatherParts) (d : DoneParts) (u : Unit {0}) → Puts g
 abbrev pub TakingLosesNone : Type 0
 TakingLosesNone = (g h : GatherParts) (job : ℕ) (d : DoneParts) → TakesDone g job (Some d) h → Shares (d.placed.placed.bag ∷ []) (bags_of h.slots) (bags_of g.slots)
 
--- ---- one answer
+-- ---- one result
 
 abbrev pub PutsAreOne : Type 0
 PutsAreOne = (g h i : GatherParts) (d : DoneParts) (r s : Result (Unit {0}) (DoneParts × Why)) → Puts g d r h → Puts g d s i → (r ≡ s) × (h ≡ i)

@@ -1,4 +1,4 @@
-// What the owner of a round does once all hands are back.
+// The owner's work once all hands are back.
 ghost use Rattle.std.specs.Prelude.{◌≡◌, ◌++◌};
 ghost use Rattle.in_rounds.specs.Gathers.{bags_of};
 ghost use Rattle.in_rounds.specs.Holding.{AreBagsOf, Returns};
@@ -9,7 +9,7 @@ use crate::hand::Hand;
 use in_arena::Arena;
 use in_compile::Templates;
 
-/// The stock of a hand is free again, and what was done is gathered; what can't be is given back.
+/// Frees the stock of a hand, and gathers what it placed. Cells of a job that can't be gathered are given back.
 fn bring<'t>(hand: Hand<'t>, templates: &Templates, gather: &mut Gather<'t>, arena: &mut Arena)
     requires bags { AreBagsOf (in_hand hand ++ bags_of gather.old.slots) arena.old }
     requires made { IsHandMadeWith templates.now hand × AreMadeWith templates.now gather.old.slots }

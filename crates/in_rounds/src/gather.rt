@@ -1,4 +1,4 @@
-// Where what was done is kept, by the numbers of the jobs.
+// The results, kept by the numbers of their jobs.
 ghost use Rattle.std.specs.Prelude.{◌≡◌, ◌⊎◌, ◌<◌, true, false, [], IfOk, replicate, length, Some, slice_get};
 ghost use Rattle.in_rounds.specs.declared.gather.Slot.TheVariants.{Fresh, Kept, Taken};
 ghost use Rattle.in_rounds.specs.Dones.{DoneParts};
@@ -19,7 +19,7 @@ pub enum Why {
     Stranger,
 }
 
-/// What became of a job: nothing was put for it yet; what was put is kept; or it was put and taken.
+/// The state of a job: no result was put yet; the result is kept; or it was put and taken.
 #[derive(Drop)]
 pub(crate) enum Slot<'t> {
     Fresh,
@@ -29,7 +29,7 @@ pub(crate) enum Slot<'t> {
 
 /// Keeps the result of each job of a list, by the job's number: which jobs a round has, and in which order, is this project's own choice.
 ///
-/// It is to be spent: the cells of what it keeps are leased until then.
+/// It has to be spent: the cells of its results are leased until then.
 #[derive(Drop)]
 pub struct Gather<'t> {
     jobs: Vec<(SymbolNo, SymbolNo)>,
@@ -95,7 +95,7 @@ fn is_fresh(slots: &[Slot], job: u32) -> bool
     }
 }
 
-/// Gives back what is kept.
+/// Gives back the cells of all slots.
 fn spend_all(mut slots: Vec<Slot>, arena: &mut Arena)
     requires { AreBagsOf (bags_of slots.items) arena.old }
     ensures { Returns (bags_of slots.entry.items) [] arena.old arena.new }
@@ -145,7 +145,7 @@ impl<'t> Gather<'t> {
         if let Slot::Kept(_) = &self.slots[index] {
             match mem::replace(&mut self.slots[index], Slot::Taken) {
                 Slot::Kept(done) => Some(done),
-                // The slot was looked at just now, and it keeps one.
+                // The slot was tested just now, and it keeps one.
                 _ => unreachable!(),
             }
         } else {

@@ -19,8 +19,8 @@ use std::alloc::{AllocError, Global};
 use std::sync::Wait;
 use std::thread::Threads;
 
-/// A worker for each seat places jobs of the plan, in as many rooms as each has, and what they did is gathered, where nothing was yet. Says how many
-/// threads were started.
+/// A worker for each seat places jobs of the plan, as many as it has rooms, and the results are gathered. Nothing was gathered before. Returns how
+/// many threads were started.
 fn place_jobs<'t, R: Threads + Wait, G: Gate + Sync>(
     rt: &R,
     alloc: Global,
@@ -62,7 +62,7 @@ fn place_jobs<'t, R: Threads + Wait, G: Gate + Sync>(
 }
 
 /// Lets `workers` workers, 1 to 64, of which the caller is one, claim the plan's jobs and place their templates in cells of the arena, each
-/// with its share of the free ones; and gathers what they did. Says how many threads were started. Each worker claims while its stock holds
+/// with its share of the free ones; and gathers the results. Returns how many threads were started. Each worker claims while its stock holds
 /// the most that a job can need, and passes the gate after each claim. What isn't used is free again.
 ///
 /// All memory but what starting a thread takes is taken before the first cell is lent: refused only when out of memory, and then the arena

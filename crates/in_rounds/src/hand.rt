@@ -1,9 +1,9 @@
-// What a worker has in hand.
+// The hand of a worker.
 use crate::done::Done;
 use in_claims::Seat;
 use in_compile::{Placed, Stock};
 
-/// A seat, a stock, room for its jobs, and what was done.
+/// A seat, a stock, room for its jobs, and the results.
 #[derive(Drop)]
 pub(crate) struct Hand<'t> {
     pub(crate) seat: Seat,

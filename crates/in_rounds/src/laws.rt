@@ -1,4 +1,4 @@
-//! Laws over what is gathered, and over rounds, for whoever reasons above them. No function here does anything.
+//! Laws on gathered jobs and on rounds, for proofs above them. No function here does anything.
 
 ghost use Rattle.in_rounds.specs.Laws.{PuttingLosesNone, PutsAreOne, RoundsAreSame, RoundsEnd, RoundsRunOn, TakingLosesNone, TakesAreOne};
 

@@ -1,4 +1,4 @@
-// What the workers of a round have before it begins.
+// The hands of the workers before a round begins.
 ghost use Rattle.std.specs.Prelude.{◌≡◌, ◌≤◌, ◌<◌, ◌++◌, ◌+◌, [], replicate, length, All, IfOk, vec_len, vec_capacity};
 ghost use Rattle.in_arena.specs.Arenas.{NoneLeased, free_of};
 ghost use Rattle.in_claims.specs.Seats.{fresh};
@@ -82,8 +82,7 @@ fn hands<'t>(
     Ok(hands)
 }
 
-/// What is taken before the first cell is lent: a hand without cells for each worker, and lists with room for all hands, as they are lent and when
-/// they are back.
+/// The memory taken before the first cell is lent: a hand without cells for each worker, and lists with room for all hands, lent and back.
 #[derive(Drop)]
 pub(crate) struct Crew<'t> {
     pub(crate) hands: Vec<Hand<'t>>,

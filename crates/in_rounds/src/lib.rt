@@ -1,20 +1,20 @@
 //! Rounds of several workers on the queue of a machine: they place the right members of the first pairs at once, and the owner does these
 //! interactions one after another.
 //!
-//! Jobs are the first pairs of the queue, told by their symbols. `lending` gives each worker its `hand`: a seat at a board (`in_claims`), a
-//! stock with its share of the free cells (`sharing`), and room for what it does. `working` is what a worker does, each in a thread of its own
-//! (`threads`): it claims jobs from the board and places their templates. All comes back by value; `bringing` gives back what wasn't used and
-//! puts what was done in a `Gather` (`gathering`).
+//! Jobs are the first pairs of the queue, by their symbols. `lending` gives each worker its `hand`: a seat at a board (`in_claims`), a stock with
+//! its share of the free cells (`sharing`), and room for its results. `working` is the work of a worker, each in a thread of its own (`threads`): it
+//! claims jobs from the board and places their templates. All comes back by value; `bringing` gives back the unused cells and puts the results in a
+//! `Gather` (`gathering`).
 //!
-//! A `Done` is a placed template with its job and the templates that made it, and keeps that it is the template of the job's symbols; a
-//! `Gather` keeps one for each job of a list. Which cells are out, and in which bags they are, is said by one number: how many bags of a list
-//! have a cell (`holders` in `specs/Holding.antt`). What is lent, placed, put, taken and given back only moves cells from one list of bags to
-//! another, so sums say that none is lost.
+//! A `Done` is a placed template with its job and the templates that made it, and keeps that it is the template of the job's symbols; a `Gather`
+//! keeps one for each job of a list. One number says which cells are on lease, and in which bags they are: how many bags of a list have a cell
+//! (`holders` in `specs/Holding.antt`). Lending, placing, putting, taking and giving back only move cells from one list of bags to another, so sums
+//! say that none is lost.
 //!
-//! Then the owner (`rounding`) goes through the jobs in rising number: what was gathered is settled and stitched in (`stitching`), which is the
-//! second half of a step, by what is at the pair's ports now. At the first job for which nothing is there, the rest of the gather goes back, and
-//! the jobs that are left are done by plain steps while what they need is free. So the jobs done are the first ones, whatever the schedule.
-//! `rounds` is the call over machines.
+//! Then the owner (`rounding`) goes through the jobs in rising number: a gathered result is settled and stitched in (`stitching`), which is the
+//! second half of a step, by the present partners of the pair's ports. At the first job for which nothing is there, the rest of the gather goes
+//! back, and the jobs that are left are done by plain steps while what they need is free. So the jobs done are the first ones, whatever the
+//! schedule. `rounds` is the call over machines.
 #![tactic(auto)]
 
 mod bringing;

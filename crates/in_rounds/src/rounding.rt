@@ -67,13 +67,13 @@ fn step_on(reducer: &mut Reducer, templates: &Templates, jobs: u32, done: u32) -
     count
 }
 
-/// A round: interactions of the first pairs of the queue, as many as the budget allows, whose templates several workers place at once, of which
-/// the caller is one; each worker passes the gate after it has claimed a job. They are done one after another, first in, first out, by what
-/// stands at each pair when its turn comes; the last one is that of the last job, or the next pair's need isn't free.
+/// A round: interactions of the first pairs of the queue, as many as the budget allows, whose templates several workers place at once, of which the
+/// caller is one; each worker passes the gate after it has claimed a job. They are done one after another, first in, first out, by each pair's
+/// partners at its turn; the last one is that of the last job, or the cells that the next pair needs aren't free.
 ///
-/// There has to be a pair, and what the first one needs has to be free; the budget is at least 1, the workers are 1 to 64, and the templates are
-/// those of the program. All memory but what starting a thread takes is taken before a cell is lent: refused only when out of memory, and then
-/// the reducer is as it was. A thread that can't be started is no fault. It waits for its threads.
+/// There has to be a pair, and the cells that the first one needs have to be free; the budget is at least 1, the workers are 1 to 64, and the
+/// templates are those of the program. All memory but what starting a thread takes is taken before a cell is lent: refused only when out of memory,
+/// and then the reducer is as before. A thread that can't be started is no fault. It waits for its threads.
 pub(crate) fn reducer_round<R: Threads + Wait, G: Gate + Sync>(
     rt: &R,
     alloc: Global,

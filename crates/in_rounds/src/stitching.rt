@@ -1,4 +1,4 @@
-// The owner's part of a round: what the workers did is stitched in, one interaction at a time.
+// The owner's part of a round: the workers' results are stitched in, one interaction at a time.
 ghost use Rattle.std.specs.Prelude.{◌≡◌, ◌≤◌, ◌<◌, ◌+◌, true, length};
 ghost use Rattle.in_arena.specs.Bags.{IsBagOf};
 ghost use Rattle.in_compile.specs.Templates.{AreTemplatesOf};
@@ -26,7 +26,7 @@ fn is_for_first(body: &Body, done: &Done) -> bool
     constructor == first && destructor == second
 }
 
-/// Gives back the cells of what was done.
+/// Gives back the cells of a job that was placed.
 fn put_back(body: &mut Body, done: Done)
     requires all { KeepsAll body.old }
     requires of { IsBagOf done.placed.placed.bag body.old.arena }
@@ -39,8 +39,8 @@ fn put_back(body: &mut Body, done: Done)
     done.spend(&mut body.arena);
 }
 
-/// Stitches in what was gathered for the jobs in turn, from the first one on, each at the first pair of the queue; and ends at the first
-/// job for which nothing is there. Says for how many something was.
+/// Stitches in the results of the jobs in turn, from the first one on, each at the first pair of the queue, and ends at the first job without a
+/// result. Returns how many jobs had one.
 pub(crate) fn stitch_all<'t>(
     body: &mut Body,
     templates: &Templates,
@@ -73,7 +73,7 @@ pub(crate) fn stitch_all<'t>(
     jobs
 }
 
-/// Gives back the cells of what is left in the gather: no cell is on lease then.
+/// Gives back the cells of the results left in the gather. Then no cell is on lease.
 pub(crate) fn give_back<'t>(body: &mut Body, gather: Gather<'t>)
     requires all { KeepsAll body.old }
     requires lent { HaveAllLeased (bags_of gather.slots) body.old.arena }

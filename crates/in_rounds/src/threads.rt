@@ -7,7 +7,7 @@ use std::sync::Wait;
 use std::thread;
 use std::thread::{Promise, PromisedHandle, Threads};
 
-/// What a worker does with a part: where the part is ready, what comes of it is worked.
+/// The work on a part: if the part is ready, its result is worked.
 pub(crate) trait Work<P> {
     ghost is_ready: { Self → P → Type 0 };
 

@@ -99,7 +99,7 @@ given_back ws s c inside size free is apart ne =
 
 -- ---- two lists become one
 
--- the cell that ends a list is none of it
+-- the cell that ends a list isn't in it
 ends_apart : (ws : Slots) (next last : ℕ) (fs : List ℕ) → IsFreeChain ws next last fs → IsNotAmong last fs
 ends_apart ws next last [] chain = tt
 ends_apart ws next last (f ∷ fs) chain = ((λ e. chain.1 (sym e)), ends_apart ws chain.2 last fs chain.4)

@@ -1,4 +1,4 @@
--- What two owners show among whom words were parted, and what one shows that has the words of both.
+-- The words that two owners show after they were parted, and those that one owner of both shows.
 use Rattle.std.proofs.Common.{◌≡◌, ℕ, length, set, get_or, get_or-set_other, sym, ap, ◌∙◌}
 use Rattle.std.specs.Prelude.{Bool, true, false, not, Some, None, option_map}
 use Rattle.std.proofs.lemmas.Bool.{true≢false}

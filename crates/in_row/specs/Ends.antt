@@ -1,6 +1,6 @@
 -- Where the cells of each size lie in a row of words, and which word is which end. This project's own choice.
 --
--- A cell's first word tells what it is: free, a symbol's agent, or a free end of the net. Its principal port, place 0, is word 3, and place p is
+-- A cell's first word has its state: free, a symbol's agent, or a free end of the net. Its principal port, place 0, is word 3, and place p is
 -- word p + p / 3, so that principal ports alone have numbers that end in two ones. A free end is a small cell with one place, place 1.
 use Rattle.std.specs.Prelude.{◌≡◌, ℕ, zero, suc, ◌+◌, ◌-◌, ◌*◌, ◌/◌, ◌%◌, ◌<◌, ◌≤◌, ◌↔◌, cond, eqb, ltb}
 

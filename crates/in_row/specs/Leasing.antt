@@ -22,7 +22,7 @@ pub record AreFree (size : ℕ) (ws : Slots) (s : FreeCells) (free : List ℕ) :
   pub run : s.end ≡ s.fresh + new * size
   pub all : free ≡ listed ++ run_of size s.fresh new
 
--- the cell is none of these
+-- the cell isn't one of these
 abbrev pub IsNotAmong : ℕ → List ℕ → Type 0
 IsNotAmong c = AllByRecursion (λ f. c ≢ f)
 

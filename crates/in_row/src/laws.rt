@@ -1,9 +1,9 @@
-// What follows of a row's layout, of parting it, and of its free cells.
+// Laws on a row's layout, on parting it, and on its free cells.
 ghost use Rattle.in_row.specs.Ends.{EndsHaveWords, WordsAreApart, PrincipalPortsAreTold};
 ghost use Rattle.in_row.specs.Parts.{PartsShowTheirOwn, GluedShowsBoth, WritesStayWithin};
 ghost use Rattle.in_row.specs.Leasing.{FreeCellsStay};
 
-/// An end is the one that its word tells, and a word of an end is that of the end that it tells.
+/// An end is the one that its word encodes, and a word of an end is that of the end that it encodes.
 pub fn ends_have_words()
     ensures { EndsHaveWords }
 {}
@@ -24,7 +24,7 @@ pub fn parts_show_their_own()
     ensures { PartsShowTheirOwn }
 {}
 
-/// The owner of what two owners had, each of whom has changed its own words alone, shows at each end and cell what the one shows that has it.
+/// Two owners have changed their own words alone, and one owner gets both parts: at each end and cell it shows the same as the owner that had it.
 pub fn glued_shows_both()
     ensures { GluedShowsBoth }
 {}

@@ -1,14 +1,14 @@
 //! One row of 32-bit words for a net in cells, which several owners may each have a part of.
 //!
-//! An end of a wire is the number of a word, in which stands the number of the word of the wire's other end. A cell is some words side by
-//! side: its first word tells what it is, and each of its places has a word. Principal ports alone have numbers that end in two ones, so the
-//! numbers of a wire's ends tell whether it is an active pair.
+//! An end of a wire is the number of a word. This word has the number of the word of the wire's other end. A cell is some words side by side: its
+//! first word has its state, and each of its places has a word. Principal ports alone have numbers that end in two ones, so the numbers of a wire's
+//! ends show whether it is an active pair.
 //!
-//! It stands on `in_memory`, whose `Cells<u32>` are words of a row. From below: `words`, a read and a write of a word, and wires between two words
+//! It uses `in_memory`, whose `Cells<u32>` are words of a row. From below: `words`, a read and a write of a word, and wires between two words
 //! (two stores for each); `free_cells`, the free cells of one class, which are leased, given back and appended in constant time; `row`, a row's
 //! memory, and the owner of some of its words, to be handed to another thread; `laws`.
 //!
-//! What reads and writes words takes `base` by value, beside the `Cells<u32>` that take no bytes: behind a `&mut` it would be loaded again after
+//! Calls that read and write words take `base` by value, beside the `Cells<u32>` that take no bytes: behind a `&mut` it would be loaded again after
 //! each store.
 #![tactic(auto)]
 

@@ -75,8 +75,7 @@ pub fn cut_wire(
     link(base, words, outer, other);
 }
 
-/// Joins the wires of two free ends: what leads to the one and what leads to the other lead to each other from then on. Gives these two, which may
-/// be an active pair's.
+/// Joins the wires of two free ends: their partners lead to each other from then on. Returns these two, which may be an active pair's.
 #[inline(always)]
 pub fn mend_wire(base: Base<u32>, words: &mut Cells<u32>, one: u32, other: u32) -> (u32, u32)
     requires { IsBaseOf base words.old × CanMend words.old.slots one other }

@@ -1,5 +1,5 @@
--- What a run of an accepted program comes to: it is a machine, its net is reached by as many interactions as were counted, and with one
--- worker it is one up to the numbers of its agents.
+-- The end of a run of an accepted program: it is a machine, its net is reached by as many interactions as were counted, and with one worker it is
+-- one up to the numbers of its agents.
 use Rattle.std.proofs.Common.{◌≡◌, ℕ, List, Ok}
 use Rattle.in_check.specs.Checking.{IsAccepted}
 use Rattle.in_check.specs.Plain.{IsReachedBy}

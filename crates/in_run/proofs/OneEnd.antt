@@ -1,4 +1,4 @@
--- A run that stops normally has come to the one end of its program.
+-- A run that stops normally is at the one end of its program.
 use Rattle.std.proofs.Common.{◌≡◌, ℕ, [], subst}
 use Rattle.in_limits.specs.declared.limits.Limits.{Limits}
 use Rattle.in_run.specs.declared.stops.Stop.{Stop}
@@ -23,6 +23,6 @@ pub normal_outcomes_are_one : NormalOutcomesAreOne
 normal_outcomes_are_one input p l o accepted runs normal =
     reached_once p l.cells o.interactions o.machine runs.0.0 (no_pair l.limit o.machine o.interactions o.stop runs.0.2 normal)
 
--- a run that is under way and stops normally has come to the end
+-- a run that is under way and stops normally is at the end
 pub state_ended : (p : Program) (l : Limits) (m : MachineParts) (k : ℕ) → IsStateOfRun p l k m → (limit : ℕ) (s : Stop) → IsStop limit m k s → s ≡ Normal → EndsOnce p k (text_of m)
 state_ended p l m k state limit s stop normal = reached_once p l.cells k m state.reaches (no_pair limit m k s stop normal)

@@ -1,4 +1,4 @@
--- What the next interactions of a run are.
+-- The next interactions of a run.
 use Rattle.std.specs.Prelude.{◌+◌, ℕ, zero, suc}
 use Rattle.in_reducer.specs.Machines.{MachineParts}
 use Rattle.in_reducer.specs.Steps.{StepsAt}

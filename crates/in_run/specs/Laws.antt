@@ -33,7 +33,7 @@ OutcomesAreMachines = (text : List ℕ) (p : Program) (l : Limits) (o : Outcome)
 abbrev pub OutcomesAreReached : Type 0
 OutcomesAreReached = (text : List ℕ) (p : Program) (l : Limits) (o : Outcome) → IsAccepted text p → RunsTo p l (Ok o) → IsReachedBy (plain_of o.machine) o.interactions
 
--- what is done in turn may be done by any number of workers
+-- interactions in turn may be done by any number of workers
 abbrev pub TurnsAreAllowed : Type 0
 TurnsAreAllowed = (text : List ℕ) (p : Program) (l : Limits) (r : Result Outcome RunFault) → IsAccepted text p → RunsInTurn p l r → RunsTo p l r
 

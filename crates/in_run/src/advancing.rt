@@ -27,8 +27,8 @@ fn take_alone(machine: &mut Machine, limits: Limits, most: u64) -> u64
     count + machine.take_first(most)
 }
 
-/// Interactions of several workers' long run, of which `left` are left: a phase where it pays, else those of some pairs by this thread, the newest
-/// ones first while no phase is tried. Returns how many they were.
+/// Interactions of a long run by several workers, at most `left`: a phase if one should pay, else some interactions on this thread, the newest pairs
+/// first while no phase is tried. Returns how many there were.
 fn by_parts<R: Threads>(
     rt: &R,
     alloc: Global,

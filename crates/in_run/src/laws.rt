@@ -1,4 +1,4 @@
-//! Laws over runs and what they come to, for whoever reasons above them. No function here does anything.
+//! Laws on runs and their outcomes, for proofs above them. No function here does anything.
 
 ghost use Rattle.in_run.specs.Laws.{NormalOutcomesAreOne, OutcomesAreMachines, OutcomesAreReached, OutcomesAreSame, ProgramsEndAlike, StopsAreSame, TurnsAreAllowed};
 
@@ -12,7 +12,7 @@ pub fn outcomes_are_same()
     ensures { OutcomesAreSame }
 {}
 
-/// A run's outcome is a machine, whatever its stop: the laws on machines hold of it.
+/// A run's outcome is a machine, at any stop: the laws on machines hold of it.
 pub fn outcomes_are_machines()
     ensures { OutcomesAreMachines }
 {}

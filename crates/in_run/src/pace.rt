@@ -36,18 +36,17 @@ const MOST_FOR_EACH_AGENT: u64 = 16;
 
 const MOST_BESIDES: u64 = 32_768;
 
-/// What a phase costs for each agent of the net, some of which are copied there and back: as much as this many interactions.
+/// The cost of a phase for each agent of the net, some of which are copied there and back, in interactions.
 const COST_OF_AN_AGENT: u64 = 4;
 
 /// .. and besides for each thread.
 const COST_OF_A_THREAD: u64 = 4_000;
 
-/// How long is waited after a phase that hasn't paid, in what it cost; twice as long after each further one.
+/// The wait after a phase that hasn't paid, in multiples of its cost; twice as long after each further one.
 const FIRST_WAIT: u64 = 4;
 
-/// What a run of several workers keeps from one look at its machine to the next: from how many interactions on a phase is looked at, how many
-/// times its cost is waited after the next phase that doesn't pay, and the room for phases; and how many phases there were, and the most threads
-/// of one.
+/// The state of a run of several workers between two looks at its machine: from how many interactions on a phase is considered, how many times its
+/// cost is the wait after the next phase that doesn't pay, and the room for phases; and how many phases there were, and the most threads of one.
 #[derive(Drop)]
 pub(crate) struct Pace {
     phase_from: u64,
@@ -74,8 +73,8 @@ impl Pace {
         interactions < self.phase_from
     }
 
-    /// Notes what a phase brought, of a net with `agents` agents, after which `interactions` interactions are done. It has paid where what
-    /// the other parts did beside the longest one is at least twice what it cost, and a quarter of all.
+    /// Notes the gain of a phase, of a net with `agents` agents, after which `interactions` interactions are done. It has paid if the other parts
+    /// did, beside the longest one, at least twice as much as its cost, and a quarter of all.
     pub(crate) fn note(&mut self, worked: Worked, agents: u32, interactions: u64) {
         self.phases = self.phases.saturating_add(1);
         self.threads = self.threads.max(worked.parts);

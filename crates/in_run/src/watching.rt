@@ -1,4 +1,4 @@
-// Who sees how far a run is.
+// Watchers of a run.
 use in_machine::Need;
 
 /// How far a run is.
@@ -14,7 +14,7 @@ pub struct Progress {
     pub used: Need,
 }
 
-/// Who watches a run. What it does changes nothing of the run.
+/// A watcher of a run. It changes nothing of the run.
 pub trait Watch {
     /// A run begins: its program is checked.
     fn begin(&mut self);
@@ -22,7 +22,7 @@ pub trait Watch {
     /// How many interactions one worker does at most before the watch looks again; 0 is as 1.
     fn turn(&self) -> u64;
 
-    /// The run goes on.
+    /// Gets the progress of a run that continues.
     fn look(&mut self, progress: Progress);
 
     /// The run has stopped.

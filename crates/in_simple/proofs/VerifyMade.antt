@@ -1,4 +1,4 @@
--- What is built in tests and numbers is what a step makes.
+-- A net built by tests and numbers is the one that a step makes.
 use Rattle.std.proofs.Common.{◌≡◌, ◌⊎◌, ◌↔◌, ◌<◌, ◌≤◌, ◌+◌, ◌-◌, ℕ, zero, suc, Bool, true, false, cond, ◌||◌, nat_eq, Some, None, List, [], ◌∷◌, length, slice_get, refl, eq-eqb, ne_eqb, sym, subst, ap, inl, inr, ◌∙◌, arith}
 use Rattle.std.proofs.Math.ListN.{set}
 use Rattle.std.proofs.lemmas.Bool.Decides.{eqb_tells}
@@ -121,7 +121,7 @@ holds_part o net b = record {
 }
 
 module _ (o : OpenNet) where
-  -- what a step says of the ends at each point of a wire, and at the two points of a wire as it is listed
+  -- the ends at each point of a wire by a step, and at the two points of a listed wire
   abbrev pub AtPoints : (ℕ → OpenPoint → OpenPoint → ℕ → Type 0) → Part → Type 0
   AtPoints R x = (w : ℕ) (p q : OpenPoint) → IsWire o w p q → R w p q (x.ends q)
 

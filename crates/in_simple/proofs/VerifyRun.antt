@@ -1,4 +1,4 @@
--- The steps so far, what they build, and which of them are left.
+-- The steps so far, the nets that they build, and which of them are left.
 use Rattle.std.proofs.Common.{◌≡◌, ◌↔◌, ◌<◌, ◌≤◌, ◌+◌, ◌-◌, ℕ, zero, suc, true, false, cond, nat_eq, Option, Some, None, List, [], ◌∷◌, ◌++◌, length, length-append, take, slice_get, refl, sym, subst, ap, inl, inr, ◌∙◌, eq-eqb, arith}
 use Rattle.std.proofs.lemmas.Option.{slice_get_within}
 use Rattle.in_simple.specs.declared.verifying.Built.{Built}

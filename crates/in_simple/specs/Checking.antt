@@ -9,7 +9,7 @@ use Rattle.in_open_nets.specs.Derivations.{Part, named, own_nodes, own_links, is
 use Rattle.in_open_nets.specs.OpenNets.{OpenNet, class_in, IsWire}
 use Rattle.in_open_nets.specs.Members.{IsUnion, nodes_in}
 
--- the answer says which of the two holds
+-- the result says which of the two holds
 abbrev pub SaysWhich : Bool → Type 0 → Type 0 → Type 0
 SaysWhich b P Q = (b ≡ true → P) × (b ≡ false → Q)
 
@@ -106,7 +106,7 @@ IsOpen o n c ends k = (w : ℕ) → w < k → IsOpenAt o n c w (ends_at ends w)
 abbrev pub HasClassBuilt : OpenNet → ℕ → ℕ → Built → Type 0
 HasClassBuilt o n c b = IsOpen o n c b.ends (length o.wires)
 
--- how many ends for a point are left when the node is joined to one and its principal port is opened; none if there is none to join
+-- how many ends for a point are left when the node is joined to one and its principal port is opened; `None` if there is none to join
 abbrev pub OnGraftEnd : ℕ → OpenPoint → OpenPoint → ℕ → Option ℕ → Type 0
 OnGraftEnd n p q count None = count + is_principal n q < is_auxiliary n p
 OnGraftEnd n p q count (Some m) = m + is_auxiliary n p ≡ count + is_principal n q

@@ -1,9 +1,9 @@
-//! Semi-simple nets, as Lafont 1990 has them: the open net of a net or of a rule, the steps that build it, and whether given steps do.
+//! Semi-simple nets, as defined by Lafont 1990: the open net of a net or of a rule, the steps that build it, and whether given steps do.
 //!
-//! Verifying is here: whether a list of steps builds an open net, checked step by step, whoever found them. `verifying` keeps of each step what
-//! it builds: its nodes and its wires (`sets`: `NumberSet`, a test for each number) and, for each point of a wire, how many open ends are meant
-//! for it; a `Root` is the agent of a graft. What stands in crates of its own, so that these are proved side by side, is given out here too:
-//! open nets (`in_open_nets`), how they are made of nets and rules (`in_open_nets_of_programs`), and deriving (`in_simple_deriving`).
+//! Verifying is here: whether a list of steps from anywhere builds an open net, checked step by step. `verifying` keeps the net that each step
+//! builds: its nodes and its wires (`sets`: `NumberSet`, a test for each number) and, for each point of a wire, how many open ends are meant for it;
+//! a `Root` is the agent of a graft. It also exports the parts that have crates of their own, so that these are proved side by side: open nets
+//! (`in_open_nets`), how they are made of nets and rules (`in_open_nets_of_programs`), and deriving (`in_simple_deriving`).
 #![tactic(auto)]
 
 mod sets;

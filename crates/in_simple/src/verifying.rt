@@ -10,7 +10,7 @@ use in_open_nets::{Derivation, OpenNet, OpenPoint, Step};
 use sqlite_items::Items;
 use std::alloc::{AllocError, Global};
 
-/// What a step builds: its nodes, the wires of its Links, and for each wire how many open ends it has for the two points.
+/// The net that a step builds: its nodes, the wires of its Links, and for each wire how many open ends it has for the two points.
 pub(crate) struct Built {
     pub(crate) nodes: NumberSet,
     pub(crate) links: NumberSet,
@@ -79,7 +79,7 @@ fn add_ends(more: &Items<(u32, u32)>, ends: &mut Items<(u32, u32)>) -> Result<()
     Ok(())
 }
 
-/// Puts one beside another; or answers that they share a node or a Link.
+/// Puts one net beside another; or returns that they share a node or a Link.
 fn beside(open: &OpenNet, more: &Built, built: &mut Built) -> Result<bool, AllocError>
     requires more { IsSizedBuilt «open».now more.now }
     requires built { IsSizedBuilt «open».now built.old }
@@ -311,7 +311,7 @@ fn graft_ends(open: &OpenNet, ends: &mut Items<(u32, u32)>, node: u32) -> Result
     Ok(true)
 }
 
-/// What an earlier step built, where no step named it before.
+/// The net of an earlier step, if no step named it before.
 fn taken(parts: &mut Vec<Option<Built>>, step: u32) -> Option<Built>
     ensures { OnTaken step parts.old.items parts.new.items result }
 {
@@ -535,7 +535,7 @@ fn mix_of(
     }
 }
 
-/// What a step builds out of the earlier ones; or that it builds nothing.
+/// The net that a step builds from the earlier ones; `None` if it builds none.
 fn built_by(
     alloc: Global,
     open: &OpenNet,

@@ -313,7 +313,7 @@ module _ (o : OpenNet) (net : IsOpenNet o) (n : ℕ) where
             apart m,
           )
 
-          -- a Link at n's ports is none at a port in the rest
+          -- a Link at n's ports isn't one at a port in the rest
           own_link : (w i l k : ℕ) (q r : OpenPoint) → IsWire o w (Port n i) q → is_port_in (nodes_in p.rest) q ≡ 0 → IsWire o w (Port l k) r → IsIn l (nodes_in p.rest) → ⊥
           own_link w i l k q r wire out wire' here = elim (wire_points o w (Port n i) q (Port l k) r wire wire') [
             | inl e ↦ not_root o net n t p h l here (port_place l n k i e.0).0

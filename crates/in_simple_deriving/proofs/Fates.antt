@@ -1,4 +1,4 @@
--- What becomes of the node at the other end of a wire, and what a port adds there.
+-- The fate of the node at the other end of a wire, and the tasks that a port adds there.
 use Rattle.std.proofs.Common.{◌≡◌, ◌⊎◌, ◌<◌, ◌≤◌, ℕ, Bool, refl, sym, subst, inl, inr, arith}
 use Rattle.in_open_nets.specs.declared.open_nets.OpenPoint.{OpenPoint}
 use Rattle.in_open_nets.specs.declared.open_nets.OpenPoint.TheVariants.{Port, Free}

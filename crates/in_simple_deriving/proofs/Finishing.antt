@@ -1,4 +1,4 @@
--- The first tasks, and the steps that stand where no task is left.
+-- The first tasks, and the steps when no task is left.
 use Rattle.std.proofs.Common.{◌≡◌, ◌↔◌, ◌<◌, ◌+◌, ◌-◌, ℕ, suc, Bool, true, false, cond, ◌||◌, nat_eq, nat_lt, Option, Some, None, List, [], ◌∷◌, ◌++◌, length, map, slice_get, refl, sym, subst, ap, inl, inr, ◌∙◌, eq-eqb, eqb-true, ltb-true, lt-ltb, arith}
 use Rattle.std.proofs.lemmas.Option.{slice_get_within}
 use Rattle.in_open_nets.specs.declared.open_nets.OpenPoint.{OpenPoint}

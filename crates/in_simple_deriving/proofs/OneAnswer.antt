@@ -1,4 +1,4 @@
--- What deriving an open net answers is one.
+-- Deriving an open net has one result.
 use Rattle.std.proofs.Common.{◌≡◌, ℕ, Bool, Ok, Err, sym, ◌∙◌, ap, subst, arith}
 use Rattle.std.proofs.lemmas.Option.{same_Some}
 use Rattle.in_open_nets.specs.declared.derivations.Derivation.{Derivation}

@@ -296,7 +296,7 @@ pub on_both : {A B : Type 0} (r : Result A B) (P Q R : Type 0) → (P → Q → 
 on_both (Ok a) P Q R f p q = f p q
 on_both (Err e) P Q R f p q = tt
 
--- what a joint takes of the last steps, and what it leaves
+-- the last steps that a joint takes, and those that it leaves
 taken_at : (r below names : List ℕ) (count : ℕ) → r ≡ below ++ names → length names ≡ count → (take (length r - count) r ≡ below) × (drop (length r - count) r ≡ names)
 taken_at r below names count e many =
     let size = ap length e ∙ length_app below names in

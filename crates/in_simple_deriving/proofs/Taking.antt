@@ -1,4 +1,4 @@
--- What the tasks of a plan come to, turn by turn.
+-- The results of the tasks of a plan, turn by turn.
 use Rattle.std.proofs.Common.{◌≡◌, ◌⊎◌, inl, inr, ℕ, zero, suc, ◌+◌, ◌-◌, ◌<◌, ◌≤◌, Bool, true, false, cond, nat_eq, nat_lt, Option, Some, None, IsSomeAnd, List, [], ◌∷◌, ◌++◌, length, map, slice_get, get_or, append_assoc, append-nil, refl, sym, ◌∙◌, ap, subst, arith, lt-ltb, le-ltb, eq-eqb, ne_eqb}
 use Rattle.in_open_nets.specs.declared.open_nets.Node.{Node}
 use Rattle.in_open_nets.specs.declared.open_nets.Node.TheVariants.{AgentNode, ClassNode}
@@ -407,7 +407,7 @@ module _ (o : OpenNet) (net : IsOpenNet o) (n : ℕ) where
 
 -- ---- the Links of loose wires
 
--- what is still to come from a wire on comes to these tasks
+-- the rest, from a wire on, gives these tasks
 abbrev pub LinksCome : OpenNet → ℕ → Bool → List Task → List Task → Type 0
 LinksCome o b came ts all = ts ++ map Make (links_from o came b (length o.wires - b)) ≡ all
 

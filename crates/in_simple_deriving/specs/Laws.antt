@@ -14,9 +14,9 @@ use Rattle.in_open_nets.specs.Stuck.{IsUndone, IsStuckAt}
 abbrev pub DerivationWhereDerivable : Type 0
 DerivationWhereDerivable = (o : OpenNet) → IsOpenNet o → ((steps : List Step) × IsDerivation o steps) ↔ IsDerivable o
 
--- ---- one answer
+-- ---- one result
 
--- what deriving may answer
+-- the results that deriving may have
 abbrev pub Derives : OpenNet → Result Derivation Undone → Type 0
 Derives o (Ok d) = IsDerivation o d.steps × AreTaken o d.steps
 Derives o (Err u) = IsUndone o u
@@ -31,7 +31,7 @@ AgreeOnDeriving (Err (Stuck s)) (Err (Stuck r)) = s.nodes ≡ r.nodes
 AgreeOnDeriving (Err (Stuck s)) (Err (Memory e)) = Unit {0}
 AgreeOnDeriving (Err (Memory e)) b = Unit {0}
 
--- all that deriving may answer for an open net agrees
+-- all results that deriving may have for an open net agree
 abbrev pub NetsAreDerivedOnce : Type 0
 NetsAreDerivedOnce = (o : OpenNet) (a b : Result Derivation Undone) → IsOpenNet o → Derives o a → Derives o b → AgreeOnDeriving a b
 

@@ -1,4 +1,4 @@
--- What a plan keeps from turn to turn.
+-- The invariant of a plan from turn to turn.
 use Rattle.std.specs.Prelude.{◌≡◌, ℕ, suc, ◌+◌, ◌-◌, ◌<◌, ◌≤◌, Bool, List, [], length}
 use Rattle.in_simple_deriving.specs.declared.plans.Plan.{Plan}
 use Rattle.in_open_nets.specs.OpenNets.{OpenNet, IsAgent, IsOrderly, class_in}

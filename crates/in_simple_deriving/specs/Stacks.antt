@@ -44,7 +44,7 @@ HaveShapes o [] (y ∷ ys) = ⊥
 HaveShapes o (x ∷ xs) [] = ⊥
 HaveShapes o (x ∷ xs) (y ∷ ys) = HasShape o x y × HaveShapes o xs ys
 
--- how often a node stands in the parts
+-- how often a node is in the parts
 abbrev pub times_node : ℕ → List Part → ℕ
 times_node n [] = 0
 times_node n (y ∷ ys) = cond (y.nodes n) 1 0 + times_node n ys
@@ -63,7 +63,7 @@ pub record IsStack (o : OpenNet) (steps : List Step) (roots : List ℕ) (shapes 
 
 -- ---- steps
 
--- the last of these, and what is left of them; 0 where there is none
+-- the last of these, and the others; 0 if there is none
 abbrev pub IsLastLeft : ℕ → List ℕ → List ℕ → Type 0
 IsLastLeft n old new = (old ≡ new ++ n ∷ []) ⊎ ((old ≡ []) × (new ≡ []))
 

@@ -2,7 +2,7 @@
 -- The first node that splits a sub-net is taken out, and its turns come one after another, as for the first stuck sub-net. At a turn comes
 -- the component that has it, or the Link of the wire at an agent's auxiliary port that leads to no other node and to no earlier port, or
 -- nothing. What comes at an agent's auxiliary port begins its class or is set beside what came for it; what comes at its principal port or
--- at a class node's port is cut; what the node doesn't touch is set beside. A class node stands before its first turn, and an agent before
+-- at a class node's port is cut; what the node doesn't touch is set beside. A class node is before its first turn, and an agent before
 -- the turn of its principal port, with an Empty for each of its classes without ports. At the end come the Links of wires between two free
 -- ends, by number, each beside the rest; and Empty where nothing came.
 use Rattle.std.specs.Prelude.{◌≡◌, ◌↔◌, ℕ, zero, suc, ◌+◌, ◌-◌, ◌<◌, Bool, true, false, cond, nat_eq, nat_lt, List, [], ◌∷◌, ◌++◌, length, take, drop, slice_get, Some, None}
@@ -25,7 +25,7 @@ abbrev pub empties : ℕ → List Joint
 empties zero = []
 empties (suc k) = Empty ∷ empties k
 
--- a class node stands first; an agent comes after its classes
+-- a class node is first; an agent comes after its classes
 abbrev pub first_joint : OpenNet → ℕ → List Joint
 first_joint o n = elim (slice_get o.nodes n) [ None ↦ [] | Some m ↦ elim m.node [ AgentNode y ↦ [] | ClassNode y c ↦ Given n ∷ [] ] ]
 
@@ -46,7 +46,7 @@ pub data Manner : Type 0 where
   beside : Manner
   cut : Manner
 
--- at an agent's auxiliary ports a class begins or goes on; at its principal port and at a class node's ports there are cuts; components
+-- at an agent's auxiliary ports a class begins or continues; at its principal port and at a class node's ports there are cuts; components
 -- that the node doesn't touch are set beside
 abbrev pub manner : OpenNet → ℕ → ℕ → Manner
 manner o n k = elim (slice_get o.nodes n) [
@@ -124,6 +124,6 @@ abbrev pub steps_from : List Joint → List Step → List ℕ → List Step
 steps_from [] steps roots = steps
 steps_from (j ∷ js) steps roots = steps_from js (steps ++ step_of j (drop (length roots - count_of j) roots) ∷ []) (take (length roots - count_of j) roots ++ length steps ∷ [])
 
--- the steps that derive answers
+-- the steps that `derive` returns
 abbrev pub AreTaken : OpenNet → List Step → Type 0
 AreTaken o steps = (js : List Joint) × AreJointsOf o js × (steps ≡ steps_from js [] [])

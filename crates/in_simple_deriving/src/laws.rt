@@ -1,4 +1,4 @@
-//! Laws over the definitions of deriving, for whoever reasons above them. No function here does anything.
+//! Laws on the definitions of deriving, for proofs above them. No function here does anything.
 
 ghost use Rattle.in_simple_deriving.specs.Laws.{DerivationWhereDerivable, NetsAreDerivedOnce, OneStuckPlace};
 
@@ -7,7 +7,7 @@ pub fn derivation_where_derivable()
     ensures { DerivationWhereDerivable }
 {}
 
-/// What deriving an open net answers is one: there are steps, in their order, or one sub-net is stuck; never both.
+/// Deriving an open net has one result: steps, in their order, or one stuck sub-net; never both.
 pub fn nets_are_derived_once()
     ensures { NetsAreDerivedOnce }
 {}

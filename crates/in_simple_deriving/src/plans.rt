@@ -31,14 +31,14 @@ pub(crate) enum Joint {
     Mix,
 }
 
-/// What remains to be done: a part that is to be derived, or a step.
+/// A task: a part to derive, or a step.
 #[derive(Drop)]
 pub(crate) enum Task {
     Derive(NodeList),
     Make(Joint),
 }
 
-/// What becomes of a node, or of what is at the other end of a wire.
+/// The fate of a node, or of the other end of a wire.
 enum Fate {
     /// It is left and not derived yet.
     Waits(u32),
@@ -128,7 +128,7 @@ impl Opened {
     }
 }
 
-/// The tasks of a part of which one node is taken out, the nodes that are left, and those that the tasks derive.
+/// The tasks of a part without one node, the nodes that are left, and those that the tasks derive.
 struct Plan {
     tasks: Items<Task>,
     rest: NodeSet,
@@ -166,7 +166,7 @@ impl Plan {
         (tasks, Room { tests, done })
     }
 
-    /// What becomes of a node.
+    /// The fate of a node.
     fn fate(&self, near: u32) -> Fate
         ensures { HasFate self.now near result }
     {
@@ -179,7 +179,7 @@ impl Plan {
         }
     }
 
-    /// What becomes of the node at a point.
+    /// The fate of the node at a point.
     fn fate_at(&self, point: OpenPoint) -> Fate
         ensures { HasFateAt self.now point result }
     {
@@ -231,8 +231,8 @@ impl Plan {
         }
     }
 
-    /// The component that an agent's auxiliary port touches, unless it is derived; else the port's wire, where it leads out of the
-    /// part or to a later port. Answers whether something came.
+    /// The component that an agent's auxiliary port touches, unless it is derived; else the port's wire, if it leads out of the part or to a later
+    /// port. Returns whether something was added.
     fn port(
         self,
         alloc: Global,
@@ -491,7 +491,7 @@ impl<'a> Classes<'a> {
         }
     }
 
-    /// The agent over its classes, of which the last ones have no port.
+    /// Grafts the agent on its classes, of which the last ones have no port.
     fn graft(self) -> Result<Joined<'a>, AllocError>
         requires { self.next ≡ 1 + (ports_of self.net self.node - 1) }
         ensures { IfOk result (λ joined. joined ≡ self.entry) }

@@ -196,7 +196,7 @@ fn begin(alloc: Global, open: &OpenNet) -> Result<Work, AllocError>
     Ok(work)
 }
 
-/// Takes the first node that splits the part of these nodes out of it; or answers the part, where there is none.
+/// Takes the first node that splits the part of these nodes out of it; or returns the part, if no node splits it.
 fn take(
     alloc: Global,
     wired: &Wired,
@@ -233,7 +233,7 @@ fn take(
     }
 }
 
-/// Goes on until nothing is left, or a part is stuck.
+/// Takes nodes out until none is left, or a part is stuck.
 fn finish(
     alloc: Global,
     wired: &Wired,
@@ -266,7 +266,7 @@ enum Outcome {
     First(Stuck),
 }
 
-/// What the procedure comes to, with the wires by port.
+/// Runs the procedure, with the wires by port.
 fn come_to(
     alloc: Global,
     open: &OpenNet,
@@ -293,7 +293,7 @@ fn come_to(
     }
 }
 
-/// What the procedure comes to.
+/// Runs the procedure on an open net.
 fn attempt(alloc: Global, open: &OpenNet) -> Result<Outcome, AllocError>
     ensures { IfOk result (IsDerivingOutcome «open».now) }
 {

@@ -104,6 +104,6 @@ is_first s types symbols r a b is =
     first_as (IsFaultAt s) (first_fault s (declares_all undeclared s.types) (declares_all undeclared (map (λ d. d.name) s.symbols))) r (found_first s)
     (ap (λ (d : Declared). first_fault s d (declares_all undeclared (map (λ k. k.name) s.symbols))) (sym a) ∙ ap (λ (d : Declared). first_fault s types d) (sym b) ∙ sym is)
 
--- where none is found, there is none
+-- if none is found, there is none
 pub is_faultless : (s : Source) → first_fault s (declares_all undeclared s.types) (declares_all undeclared (map (λ d. d.name) s.symbols)) ≡ None → IsFaultless s
 is_faultless s is = subst (IsFirst (IsFaultAt s)) is (found_first s)

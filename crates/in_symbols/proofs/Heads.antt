@@ -1,4 +1,4 @@
--- What is said of a term by a fold, at one term.
+-- A fold over terms, at one term.
 use Rattle.std.proofs.Common.{◌≡◌, ℕ, Bool, ◌||◌, ◌&&◌, List, map, Option, is_some}
 use Rattle.in_syntax.specs.declared.places.Place.{Place}
 use Rattle.in_syntax.specs.declared.tree.Term.{Term, out-Term}

@@ -1,4 +1,4 @@
--- What a walk finds that looks up names: the earliest place of one that is unknown.
+-- The result of a walk that looks up names: the earliest place of one that is unknown.
 use Rattle.std.proofs.Common.{◌≡◌, ◌+◌, ℕ, List, [], ◌∷◌, map, length, Option, Some, None, refl, sym, ap, ◌∙◌, nat_eq}
 use Rattle.std.proofs.lemmas.Bool.{ne_eqb}
 use Rattle.std.specs.Prelude.{⊤, suc}

@@ -76,7 +76,7 @@ no_number names name e h = false_true (is_some (number_in name names)) e (number
 pub not_there : (names : List (List ℕ)) (name : List ℕ) → has_name name names ≡ false → IsIn names name → ⊥
 not_there names name e h = false_true (has_name name names) e (is_there names name h)
 
--- where the place of an unknown name is none, the name is known
+-- if there is no place of an unknown name, the name is known
 pub known_by : (b : Bool) (p : Place) → let o : Option Place = None in (if b then None else Some p) ≡ o → b ≡ true
 known_by true p e = refl
 known_by false p e = cc

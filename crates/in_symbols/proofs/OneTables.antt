@@ -1,4 +1,4 @@
--- The tables of a program are one answer.
+-- Building the tables of a program has one result.
 use Rattle.std.proofs.Common.{◌≡◌, ◌⊎◌, inl, inr, List, [], ◌∷◌, ◌++◌, map, Ok, Err, refl, sym, ◌∙◌, ap, subst, arith}
 use Rattle.std.specs.List.{flat_map}
 use Rattle.in_syntax.specs.declared.faults.Code.{Code}

@@ -78,7 +78,7 @@ pub data IsUnknownHeadAt (s : Source) (p : Place) : Type 0 where
 
 -- ---- the first fault
 
--- a fault of this code stands at the place
+-- a fault of this code is at the place
 pub data IsFaultAt (s : Source) : Code → Place → Type 0 where
   declared_twice : (p : Place) → IsDeclaredTwiceAt s p → IsFaultAt s E04 p
   unknown_type : (p : Place) → IsUnknownTypeAt s p → IsFaultAt s E05 p

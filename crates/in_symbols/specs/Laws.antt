@@ -12,6 +12,6 @@ MatchingIsSymmetric = (t : Tables) (c d : ℕ) → matching t c d ≡ matching t
 abbrev pub MatchingTypesAreOpposite : Type 0
 MatchingTypesAreOpposite = (t : Tables) (c d : ℕ) → (matching t c d ≡ true) ↔ (((port_at t c 0).kind ≡ (port_at t d 0).kind) × (is_constructor t c ≡ not (is_constructor t d)))
 
--- all that building the tables of a text's program may answer agrees
+-- all results that building the tables of a text's program may have agree
 abbrev pub TablesAreOnce : Type 0
 TablesAreOnce = (s : Source) → IsOfText s → IsOne (Tabulates s)

@@ -1,4 +1,4 @@
--- How the code searches for the first fault: what it has found after each name, port and term.
+-- The code's search for the first fault: its finding after each name, port and term.
 use Rattle.std.specs.Prelude.{ℕ, Bool, true, false, List, [], ◌∷◌, ◌++◌, map, Option, Some, None, is_some, if◌then◌else◌, nat_eq, ⊤}
 use Rattle.in_syntax.specs.declared.faults.Code.TheVariants.{E04, E05, E06}
 use Rattle.in_syntax.specs.declared.faults.Refusal.{Refusal}

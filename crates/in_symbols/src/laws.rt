@@ -1,4 +1,4 @@
-//! Laws over the definitions of tables and of matching symbols, for whoever reasons above them. No function here does anything.
+//! Laws on the definitions of tables and of matching symbols, for proofs above them. No function here does anything.
 
 ghost use Rattle.in_symbols.specs.Laws.{MatchingIsSymmetric, MatchingTypesAreOpposite, TablesAreOnce};
 
@@ -12,7 +12,7 @@ pub fn matching_types_are_opposite()
     ensures { MatchingTypesAreOpposite }
 {}
 
-/// What building the tables of a text's program answers is one.
+/// Building the tables of a text's program has one result.
 pub fn tables_are_once()
     ensures { TablesAreOnce }
 {}

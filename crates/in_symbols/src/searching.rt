@@ -10,7 +10,7 @@ use in_syntax::{
 };
 use std::alloc::{AllocError, Global};
 
-/// Where the port's type stands, if it isn't declared.
+/// The place of the port's type, if it isn't declared.
 fn untyped(types: &Names, port: &SourcePort) -> Option<Place>
     ensures { result ≡ untyped types.now port.now }
 {
@@ -61,7 +61,7 @@ fn untyped_in_free(types: &Names, frees: &[SourceFree]) -> Option<Place>
     found
 }
 
-/// What is searched for a name that has to be a symbol's and isn't, and where the first of these stands that was met so far.
+/// A search for names that have to be a symbol's and aren't, and the place of the first such name so far.
 #[derive(Drop)]
 struct Lookup<'a> {
     symbols: &'a Names,
@@ -135,8 +135,7 @@ fn look_in_rules(lookup: &mut Lookup, rules: &[SourceRule]) -> Result<(), AllocE
     Ok(())
 }
 
-/// Where the first name in the rules or in the net's equations stands that has to be a symbol's and isn't: a head's, or one that has
-/// arguments.
+/// The place of the first name in the rules or in the net's equations that requires a symbol and isn't one: a head's name, or a name with arguments.
 fn first_unknown(symbols: &Names, source: &Source) -> Result<Option<Place>, AllocError>
     ensures { IfOk result (λ found. found ≡ unknown_in symbols.now source.now) }
 {

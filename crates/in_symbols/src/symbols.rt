@@ -26,7 +26,7 @@ pub struct PortType {
 #[derive(Clone, Copy, Debug, PartialEq, Eq)]
 pub struct SymbolNo(pub u32);
 
-/// What is declared of a symbol: the types and classes of its places, the principal port being place 0 and a class by itself.
+/// The declaration of a symbol: the types and classes of its places, the principal port being place 0 and a class by itself.
 #[derive(Drop)]
 pub(crate) struct Shape {
     pub(crate) place: Place,
@@ -66,7 +66,7 @@ impl Model for Symbols {
 }
 
 impl Symbols {
-    /// The tables of a program that `parse` answers for some text.
+    /// The tables of a program that `parse` returns for some text.
     ///
     /// Refused for the first fault of the names in the order of the text: E04 at the name of a type, symbol or free name that
     /// is declared twice in its namespace, at the later one, and at a free name that is a symbol's; E05 at an unknown type of a
@@ -84,7 +84,7 @@ impl Symbols {
         }
     }
 
-    /// The tables of a program in whose names no fault stands.
+    /// The tables of a program whose names have no fault.
     fn of_names(
         alloc: Global,
         source: &Source,

@@ -20,7 +20,7 @@ pub(crate) fn port_type(types: &Names, port: &SourcePort) -> PortType
             kind: kind as u32,
             output: port.output,
         },
-        // The type of the port is declared: it is asked for.
+        // The type of the port is declared, by a requirement.
         None => unreachable!(),
     }
 }
@@ -61,7 +61,7 @@ fn add_places(shape: &mut Shape, types: &Names, symbol: &SourceSymbol) -> Result
     Ok(())
 }
 
-/// What is declared of a symbol.
+/// The declaration of a symbol, as the tables have it.
 fn shape(alloc: Global, types: &Names, symbol: &SourceSymbol) -> Result<Shape, AllocError>
     requires sized { IsSizedSymbol symbol.now }
     requires types { length types.now < 2 ^ 32 }
@@ -78,7 +78,7 @@ fn shape(alloc: Global, types: &Names, symbol: &SourceSymbol) -> Result<Shape, A
     Ok(shape)
 }
 
-/// What is declared of each symbol.
+/// The declaration of each symbol.
 pub(crate) fn shapes(
     alloc: Global,
     source: &Source,

@@ -1,4 +1,4 @@
--- From tokens to a program, and what is expected.
+-- From tokens to a program, and the expected tokens.
 pub mod Closing
 pub mod Complete
 pub mod Continues

@@ -1,4 +1,4 @@
--- What characters do in a program, by their codes. This project's own choice: Lafont 1990 says nothing of characters.
+-- Characters in a program, by their codes. This project's own choice: Lafont 1990 has nothing on characters.
 use Rattle.std.specs.Prelude.{ℕ, Bool, not, ◌||◌, ◌==◌}
 use Rattle.unicode_ident.specs.Ident.{is_xid_start, is_xid_continue}
 
@@ -18,7 +18,7 @@ is_blank c = c == 32 || c == 9 || c == 13 || c == line_feed
 abbrev pub begins_name : ℕ → Bool
 begins_name c = is_xid_start c || c == 95
 
--- a name goes on with such characters: XID_Continue
+-- a name continues with such characters: XID_Continue
 abbrev pub continues_name : ℕ → Bool
 continues_name c = is_xid_continue c
 

@@ -1,4 +1,4 @@
--- What a program can go on with at some place: which tokens, and of which sort a name is there. The sorts, as the signs of the grammar, are this
+-- What a program can continue with at some place: which tokens, and of which sort a name is there. The sorts, as the signs of the grammar, are this
 -- project's own choice.
 use Rattle.std.specs.Prelude.{◌≡◌, ◌↔◌, ◌⊎◌, ℕ, Bool, true, false, List, [], ◌∷◌, ◌++◌, take, IsTrue, Result, Ok, Err}
 use Rattle.in_syntax.specs.declared.expecting.Expected.{Expected}
@@ -18,7 +18,7 @@ use Rattle.in_syntax.specs.Tokens.{IsTokensOf, IsTokenFault}
 
 -- ---- tokens
 
--- what may follow a whole term
+-- the tokens that may follow a whole term
 abbrev pub follows_term : PartOf → Sign → Bool
 follows_term part.Left (Tilde place) = true
 follows_term part.Right (Plain kind.Semicolon) = true
@@ -126,7 +126,7 @@ IsAt _ s = Unit {0}
 
 -- ---- what is expected
 
--- after these signs: just the tokens that are expected go on with some program, wherever they stand, and names are of the sort of this section
+-- after these signs: just the tokens that are expected continue with some program, wherever they stand, and names are of the sort of this section
 pub record IsExpected (text : List ℕ) (front : List Sign) (e : Expected) : Type 0 where
   pub tokens : (t : Token) → IsTrue (takes e (sign_of text t)) ↔ Begins (front ++ sign_of text t ∷ [])
   pub sort : IsAt e (section front)

@@ -1,4 +1,4 @@
--- What is proved of the grammar over the definitions alone.
+-- Laws on the grammar, over the definitions alone.
 use Rattle.std.specs.Prelude.{◌≡◌, ◌↔◌, ℕ, ◌≤◌, List, length, take}
 use Rattle.in_syntax.specs.declared.signs.Sign.{Sign}
 use Rattle.in_syntax.specs.Grammar.{GrammarProgram, spelling, source_of}
@@ -12,7 +12,7 @@ OneOutcome = (s : List Sign) → (o : Outcome) × IsOutcomeOfSigns s o × ((p : 
 abbrev pub OneTree : Type 0
 OneTree = (p q : GrammarProgram) → signs (spelling p) ≡ signs (spelling q) → (source_of p ≡ source_of q) × (spelling p ≡ spelling q)
 
--- how many signs stand before the first fault: all of them where there is none
+-- how many signs come before the first fault: all of them if there is none
 abbrev pub before_fault : List Sign → Outcome → ℕ
 before_fault s (tree source) = length s
 before_fault s (fault code i) = i

@@ -41,7 +41,7 @@ TokensStandInOrder = (text : List ℕ) (ts : List Token) → IsTokensOf text ts 
 abbrev pub OneAnswer : Type 0
 OneAnswer = (text : List ℕ) → (a : Result Source Refusal) × IsAnswer text a × ((b : Result Source Refusal) → IsAnswer text b → b ≡ a)
 
--- all that parsing may answer for a text agrees
+-- all results that parsing may have for a text agree
 abbrev pub TextsAreParsedOnce : Type 0
 TextsAreParsedOnce = (text : List ℕ) → IsOne (Parses text)
 
@@ -49,7 +49,7 @@ TextsAreParsedOnce = (text : List ℕ) → IsOne (Parses text)
 abbrev pub TextsBeginApart : Type 0
 TextsBeginApart = (text : List ℕ) (s : Source) → IsTreeOf text s → BeginApart (source_places s)
 
--- what is expected after signs is one
+-- the expected tokens after signs are one
 abbrev pub OneExpected : Type 0
 OneExpected = (text : List ℕ) (front : List Sign) (d e : Expected) → IsExpected text front d → IsExpected text front e → d ≡ e
 

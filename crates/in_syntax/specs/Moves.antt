@@ -1,4 +1,4 @@
--- What a sign leads to.
+-- The state after a sign.
 use Rattle.std.specs.Prelude.{List}
 use Rattle.in_syntax.specs.declared.faults.Code.{Code}
 use Rattle.in_syntax.specs.declared.tree.Name.{Name}

@@ -1,4 +1,4 @@
--- The order in which the names and the ~ of rules and nets stand in their text.
+-- The order in which the names and the ~ of rules and nets are in their text.
 use Rattle.std.specs.Prelude.{◌≡◌, ◌<◌, List, [], ◌∷◌, ◌++◌, map}
 use Rattle.std.specs.List.{AllByRecursion, flat_map}
 use Rattle.in_syntax.specs.declared.places.Place.{Place}
@@ -13,7 +13,7 @@ use Rattle.in_syntax.specs.declared.tree.SourceRule.{SourceRule}
 use Rattle.in_syntax.specs.declared.tree.SourceSymbol.{SourceSymbol}
 use Rattle.in_base.specs.Lists.{IsAmong}
 
--- each place stands before those after it
+-- each place is before those after it
 abbrev pub Rises : List Place → Type 0
 Rises [] = Unit {0}
 Rises (p ∷ ps) = AllByRecursion (λ q. p.from < q.from) ps × Rises ps
@@ -47,7 +47,7 @@ pub record IsWrittenInOrder (s : Source) : Type 0 where
   pub rules : AllByRecursion IsRuleInOrder s.rules
   pub net : IsInOrder s.net
 
--- ---- all that stands in a program
+-- ---- all that is in a program
 
 -- of these places, two that begin at one byte are one
 abbrev pub BeginApart : List Place → Type 0

@@ -1,4 +1,4 @@
--- What parsing a text answers.
+-- The result of parsing a text.
 use Rattle.std.specs.Prelude.{◌≡◌, ◌⊎◌, ℕ, List, drop, None, Result, Ok, Err}
 use Rattle.in_syntax.specs.declared.faults.Refusal.{Refusal}
 use Rattle.in_syntax.specs.declared.faults.Fault.{Fault}

@@ -1,4 +1,4 @@
--- Which tokens are a program, and which is the first fault of those that are none.
+-- Which tokens are a program, and the first fault of those that aren't.
 use Rattle.std.specs.Prelude.{◌≡◌, ℕ, ◌≤◌, List, [], ◌∷◌, ◌++◌, length, map, take, drop, slice_range, None, true, Result, Ok, Err}
 use Rattle.std.specs.Str.{IsUtf8}
 use Rattle.in_syntax.specs.declared.places.Place.{Place}
@@ -21,12 +21,12 @@ pub record IsTextAt (text : List ℕ) (place : Place) : Type 0 where
   pub within : place.to ≤ length text
   pub utf8 : IsUtf8 (slice_range text place.from place.to)
 
--- a name stands in the text
+-- a name is in the text
 abbrev pub HasText : List ℕ → TokenKind → Place → Type 0
 HasText text kind.Name place = IsTextAt text place
 HasText text _ place = Unit {0}
 
--- each name stands in the text
+-- each name is in the text
 abbrev pub HasTexts : List ℕ → List Token → Type 0
 HasTexts text [] = Unit {0}
 HasTexts text (t ∷ ts) = HasText text t.kind t.place × HasTexts text ts
@@ -78,7 +78,7 @@ abbrev pub BeginsPast : List Sign → Sign → Type 0
 BeginsPast front s = (p : GrammarProgram) × (more : List Marked) × (spelling p ≡ unmarked front ++ marked true s ∷ more)
 
 -- the first fault is this one, between the signs before it and those from it on: some program begins with the former, and passes no
--- limit there; E02 where none goes on with the next sign, or none ends here, E03 where one does, and its sign passes a limit
+-- limit there; E02 if none continues with the next sign, or none ends here, E03 if one does, and its sign passes a limit
 abbrev pub IsFault : Code → List Sign → List Sign → Type 0
 IsFault E02 front [] = BeginsWithin front × ¬ IsProgram front
 IsFault E02 front (s ∷ rest) = BeginsWithin front × ¬ Begins (front ++ s ∷ [])
@@ -101,7 +101,7 @@ abbrev pub place_at : List Token → Place → Place
 place_at [] end = end
 place_at (t ∷ ts) end = t.place
 
--- what is answered of a text's tokens
+-- the result on a text's tokens
 abbrev pub IsParsing : (text : List ℕ) (tokens : List Token) (end : Place) → Result Source Fault → Type 0
 IsParsing text tokens end (Ok source) = IsOutcomeOfSigns (signs_of text tokens) (tree source)
 IsParsing text tokens end (Err (Refused r)) =

@@ -15,7 +15,7 @@ abbrev pub total : List ℕ → ℕ
 total [] = 0
 total (n ∷ ns) = n + total ns
 
--- the names that stand in a term
+-- the names that are in a term
 abbrev pub names_in : Term → ℕ
 names_in = fold-Term ℕ (λ f. total f.args + 1)
 
@@ -25,7 +25,7 @@ names_in_equation e = names_in e.left + names_in e.right
 abbrev pub names_in_equations : List Equation → ℕ
 names_in_equations es = total (map names_in_equation es)
 
--- the names that stand in a head, its symbol's with them
+-- the names that are in a head, its symbol's with them
 abbrev pub names_in_head : Head → ℕ
 names_in_head h = total (map names_in h.terms) + 1
 

@@ -319,7 +319,7 @@ run r (x ∷ s) = elim (move_of (step (counts_of r) r.state x)) as (λ m. Answer
 abbrev pub fault_at : Code → Place → Fault
 fault_at c place = Refused (refusal_of c place)
 
--- the reader after a move, if it is none that refuses
+-- the reader after a move, unless it refuses
 abbrev pub moved : Reader → Move → Option Reader
 moved r (move.Goes p) = Some (at_state r p)
 moved r (move.Types names) = Some (with_types r names)

@@ -8,13 +8,13 @@ pub record Device : Type 0 where
   pub failures : ℕ
 
 -- a reader: what it gave and how often it failed, how many reads there were, as a number of 64 bits that stays at its greatest value, and
--- whether the last one gave none of some bytes that were asked for, and so found the end of the text
+-- whether the last one gave no byte though some were requested, and so found the end of the text
 pub record Reader : Type 0 where
   pub device : Device
   pub reads : ℕ
   pub ended : Bool
 
--- the front of the bytes that the answer names was moved, or nothing where the call failed
+-- as many first bytes as the result says were moved, or none if the call failed
 abbrev pub MovesFront : Option (List ℕ) → Option (List ℕ) → Result ℕ (Unit {0}) → List ℕ → Type 0
 MovesFront old new (Ok n) bytes = new ≡ append_known old (take n bytes)
 MovesFront old new (Err e) bytes = new ≡ old
@@ -25,12 +25,12 @@ finds_end (Ok zero) (b ∷ bytes) = true
 finds_end (Ok n) bytes = false
 finds_end (Err e) bytes = false
 
--- a read fails where it answers an error
+-- a read fails if it returns an error
 abbrev pub fails_read : Result ℕ (Unit {0}) → ℕ
 fails_read (Ok n) = 0
 fails_read (Err e) = 1
 
--- a write fails where it answers an error, or takes none of some bytes
+-- a write fails if it returns an error, or takes none of some bytes
 abbrev pub fails_write : Result ℕ (Unit {0}) → List ℕ → ℕ
 fails_write (Ok zero) (b ∷ bytes) = 1
 fails_write (Ok n) bytes = 0

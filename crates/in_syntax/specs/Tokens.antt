@@ -31,7 +31,7 @@ abbrev pub beside : List ℕ → List (List ℕ × TokenKind) → Option TokenKi
 beside w [] = None
 beside w (e ∷ es) = if bytes_eq w e.0 then Some e.1 else beside w es
 
--- a word is a character that begins a name, and any number of those with which one goes on
+-- a word is a character that begins a name, and any number of those that continue one
 abbrev pub is_word : List ℕ → Bool
 is_word [] = false
 is_word (c ∷ cs) = begins_name c && list_all continues_name cs
@@ -44,7 +44,7 @@ word_kind w = unwrap_or (beside w reserved_words) kind.Name
 abbrev pub kind_of : List ℕ → Option TokenKind
 kind_of w = if is_word w then Some (word_kind w) else beside w signs
 
--- the characters are a token, and with more of those that follow they are none
+-- the characters are a token, and with more of those that follow they aren't one
 pub record IsLongest (w rest : List ℕ) (k : TokenKind) : Type 0 where
   pub token : kind_of w ≡ Some k
   pub longest : (c : ℕ) (more after : List ℕ) → rest ≡ c ∷ (more ++ after) → kind_of (w ++ (c ∷ more)) ≡ None

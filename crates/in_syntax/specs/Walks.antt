@@ -7,7 +7,7 @@ use Rattle.in_syntax.specs.declared.tree.Term.TheOpen.{Term-F}
 use Rattle.in_syntax.specs.declared.tree.Term.TheFolds.{fold-Term}
 use Rattle.in_syntax.specs.declared.tree.Equation.{Equation}
 
--- what a visitor S becomes by each part that it visits, and what it knows of each term
+-- the visitor S after each part that it visits, and its result on each term
 pub record Visits (S K : Type 0) : Type 0 where
   pub name : S → Name → ℕ → S × K
   pub argument : S → K → ℕ → K → S

@@ -7,7 +7,7 @@ ghost use Rattle.in_syntax.specs.Cursors.{BeginsWith};
 use crate::places::Place;
 use unicode_ident::{is_xid_continue, is_xid_start};
 
-/// A spot between two characters: how many bytes stand before it, its line and its column, both counted from 1.
+/// A spot between two characters: how many bytes come before it, its line and its column, both counted from 1.
 #[derive(Clone, Copy, Debug, PartialEq, Eq)]
 pub struct Spot {
     pub at: usize,
@@ -82,7 +82,7 @@ pub fn begins_name(c: char) -> bool
     is_xid_start(c) || c == '_'
 }
 
-/// Whether a name may go on with the character.
+/// Whether a name may continue with the character.
 pub fn continues_name(c: char) -> bool
     ensures { result ≡ continues_name c }
 {

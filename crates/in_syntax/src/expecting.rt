@@ -1,10 +1,10 @@
-//! What a program can go on with where the grammar refuses it: for people who look for what is wrong.
+//! The tokens with which a program can continue where the grammar refuses it, for the diagnosis.
 ghost use Rattle.std.specs.Prelude.{◌≡◌};
 ghost use Rattle.in_syntax.specs.Steps as steps;
 
 use crate::states::{HeadOf, Nest, State, TermOf};
 
-/// What a term is a part of.
+/// The part of a program that a term belongs to.
 #[derive(Clone, Copy, Debug, PartialEq, Eq)]
 pub enum PartOf {
     /// The left side of an equation.
@@ -17,7 +17,7 @@ pub enum PartOf {
     Agent,
 }
 
-/// What a program can go on with at some place.
+/// The tokens with which a program can continue at some place.
 #[derive(Clone, Copy, Debug, PartialEq, Eq)]
 pub enum Expected {
     /// An item or the net.
@@ -64,15 +64,15 @@ pub enum Expected {
     Equation,
     /// A term.
     Term,
-    /// What goes on after a name alone: `(`, or what follows a whole term.
+    /// After a name alone: `(`, or a token that follows a whole term.
     AfterName(PartOf),
-    /// What goes on after a whole term.
+    /// A token that follows a whole term.
     AfterTerm(PartOf),
     /// Nothing: the program is whole.
     Nothing,
 }
 
-/// What a term of this nest is a part of.
+/// The part of the program that a term of this nest belongs to.
 fn part_of(nest: &Nest) -> PartOf
     ensures { result ≡ steps.part_of nest.now }
 {
@@ -86,7 +86,7 @@ fn part_of(nest: &Nest) -> PartOf
     }
 }
 
-/// What a program can go on with in this state.
+/// The tokens with which a program can continue in this state.
 pub fn expected_in(state: &State) -> Expected
     ensures { result ≡ steps.expected_in state.now }
 {

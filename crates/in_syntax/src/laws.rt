@@ -52,7 +52,7 @@ pub fn one_answer()
     ensures { OneAnswer }
 {}
 
-/// What parsing a text answers is one: two trees are equal, two refusals are equal, and there is never one of each.
+/// Parsing a text has one result: two trees are equal, two refusals are equal, and there is never one of each.
 pub fn texts_are_parsed_once()
     ensures { TextsAreParsedOnce }
 {}

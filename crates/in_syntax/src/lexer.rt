@@ -19,7 +19,7 @@ pub const MAX_TEXT_BYTES: usize = 1_048_576;
 /// The longest name, in characters. This project's own choice.
 pub const MAX_NAME_CHARACTERS: usize = 64;
 
-/// What stands at a spot.
+/// The token, blank or fault at a spot.
 pub enum Move<'a> {
     /// Nothing: the text ends here.
     End,
@@ -47,7 +47,7 @@ fn comment(spot: Spot, text: &str) -> Move<'_>
     Move::Past(None, end, rest)
 }
 
-/// How many characters with which a name goes on the text begins with, where they end, and the text from there on.
+/// How many characters at the beginning of the text continue a name, the spot after them, and the rest of the text.
 fn run(spot: Spot, text: &str) -> (usize, Spot, &str)
     requires { IsWithin spot text.now }
     ensures { (w : List ℕ) × IsRun continues_name spot text.now w (result.0, result.1, result.2.now) }
@@ -115,7 +115,7 @@ fn mark_kind(c: char) -> Option<TokenKind>
     }
 }
 
-/// A sign, or the fault that there is none.
+/// A sign at the beginning of the text, or the fault that there is none.
 fn sign(spot: Spot, text: &str) -> Move<'_>
     requires within { IsWithin spot text.now }
     requires first { FirstIs BeginsSigns (chars text.now) }
@@ -142,7 +142,7 @@ fn sign(spot: Spot, text: &str) -> Move<'_>
     Move::Wrong(Code::E01, spot)
 }
 
-/// What the text begins with, at the spot where it stands.
+/// The token, blank or fault at the beginning of the text, which begins at this spot.
 fn next(spot: Spot, text: &str) -> Move<'_>
     requires { IsWithin spot text.now }
     ensures { IsMove spot text.now result }
@@ -214,7 +214,7 @@ fn front(text: &[u8]) -> &str
     }
 }
 
-/// The tokens of a program's text as `tokens` answers them, and the place after its last character.
+/// The tokens of a program's text, as `tokens` returns them, and the place after its last character.
 pub fn tokens_to_end(alloc: Global, text: &[u8]) -> Result<(Vec<Token>, Place), Fault>
     ensures tokens { IfOk result (λ r. IsTokensOf text.now r.0.items) }
     ensures end { IfOk result (λ r. r.1 ≡ end_place text.now) }
@@ -238,11 +238,11 @@ pub fn tokens_to_end(alloc: Global, text: &[u8]) -> Result<(Vec<Token>, Place), 
 ///
 /// A text is of at most `MAX_TEXT_BYTES` bytes of UTF-8. Space, tab, carriage return and line feed part tokens, and
 /// so does a comment: from a `#` to the end of its line. A token is the longest one that begins at its place. A name
-/// begins with a character of Unicode's XID_Start or `_`, and goes on with those of XID_Continue; nothing is
+/// begins with a character of Unicode's XID_Start or `_`, and continues with those of XID_Continue; nothing is
 /// normalized. All of this is this project's own choice.
 ///
 /// Refused, each with an empty place:
-/// - `E03` at the first character: the text is too long. This is looked at before all else.
+/// - `E03` at the first character: the text is too long. This is checked first.
 /// - `E01` at the first character, outside comments, with which no token begins, or at the first byte, also in a
 ///   comment, at which no well-formed character begins.
 /// - `E03` at the first character of a word of more than `MAX_NAME_CHARACTERS` characters.

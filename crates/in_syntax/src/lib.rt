@@ -1,16 +1,16 @@
 //! The text of a program: its tokens, its tree, and the first fault in either.
 //!
-//! `characters` and `lexer` go over the text one character at a time. `parser` takes one token at a time into `reader`, a machine whose
-//! `states` say where in a program the next token is, with a `stack` for the terms that are open: no call is deeper for a deeper text.
-//! `specs/Steps.antt` has the machine's steps as definitions; the proofs show that it reads exactly what the grammar spells.
-//! `words` are the kinds of tokens, and `signs` tokens as the grammar sees them; `machine` says which state comes after one, and has the
-//! limits (`counts` is what was declared so far); `expecting` tells people what could stand in the place of one.
+//! `characters` and `lexer` go over the text one character at a time. `parser` takes one token at a time into `reader`, a machine whose `states` say
+//! where in a program the next token is, with a `stack` for the terms that are open: no call is deeper for a deeper text. `specs/Steps.antt` has the
+//! machine's steps as definitions; the proofs show that it reads exactly what the grammar spells. `words` are the kinds of tokens, and `signs`
+//! tokens as the grammar sees them; `machine` says which state comes after one, and has the limits (`counts` has the numbers of declarations so
+//! far); `expecting` says which tokens could be in the place of one.
 //!
-//! `text`, `places` and `tree` are what is read: bytes, places in a text, the tree. `faults` are refusals, and where they stand. `streams` and
+//! `text`, `places` and `tree` are the results: bytes, places in a text, the tree. `faults` are refusals and their places. `streams` and
 //! `memory` are readers and writers.
 //!
-//! `walks` goes down terms, one call deeper for each term within a term, and tells a `Visitor` of each name, each argument and each
-//! equation; `uses` is one that lists where the names of a rule or of the net stand. `in_symbols` and `in_net` have others.
+//! `walks` goes down terms, one call deeper for each term within a term, and calls a `Visitor` at each name, each argument and each equation; `uses`
+//! is one that lists the places of the names of a rule or of the net. `in_symbols` and `in_net` have others.
 #![tactic(auto)]
 
 mod characters;

@@ -41,10 +41,10 @@ pub const MAX_PORTS: usize = 16;
 /// The greatest depth of a term.
 pub const MAX_DEPTH: usize = 200;
 
-/// What a token leads to.
+/// The event after a token.
 #[derive(Drop)]
 pub enum Event {
-    /// The next token stands in the state that was written.
+    /// The next token is read in the state that was written.
     Goes,
     /// A `type` item is whole.
     Types(TypeNames),
@@ -56,7 +56,7 @@ pub enum Event {
     Refuses(Code),
 }
 
-/// Writes the state in which the next token stands.
+/// Writes the state in which the next token is read.
 pub fn write(state: &mut State, next: State)
     ensures { state.new ≡ next }
 {
@@ -66,7 +66,7 @@ pub fn write(state: &mut State, next: State)
     }
 }
 
-// The next token stands in this state.
+// Reads the next token in this state.
 fn goes(state: &mut State, next: State) -> Event
     ensures { led result state.new ≡ move.Goes next }
 {
@@ -74,7 +74,8 @@ fn goes(state: &mut State, next: State) -> Event
     Event::Goes
 }
 
-/// What this sign leads to from this state, and writes the state that it leads to, where that much is declared before the item. Its only error is running out of memory.
+/// The event after this sign in this state, with these numbers of declarations before the item. It also writes the next state. Its only error is
+/// running out of memory.
 pub fn step(
     state: &mut State,
     alloc: Global,

@@ -4,7 +4,7 @@ ghost use Rattle.in_syntax.specs.Streams.{MovesFront, fails_write};
 use crate::streams::{TextIn, TextOut};
 use std::alloc::{AllocError, Global};
 
-/// A reader that gives a text from memory, as many bytes at a time as it is asked for. No read of it fails.
+/// A reader that gives a text from memory, as many bytes at a time as requested. Its reads don't fail.
 #[derive(Drop)]
 pub struct MemoryIn<'a> {
     text: &'a [u8],
@@ -44,8 +44,8 @@ impl TextIn for MemoryIn<'_> {
     }
 }
 
-/// A writer that keeps what it takes. Its room is taken once, when it is made, so that no write allocates: a write takes as much
-/// as there is room for, and fails where it has some bytes and there is no room at all.
+/// A writer that keeps what it takes. Its room is taken once, when it is made, so that no write allocates: a write takes as much as there is room
+/// for, and fails if it has some bytes and there is no room at all.
 #[derive(Drop)]
 pub struct MemoryOut {
     room: Vec<u8>,

@@ -34,10 +34,9 @@ pub fn parse(alloc: Global, text: &[u8]) -> Result<Source, Fault>
     parse_expecting(alloc, text, &mut expected)
 }
 
-/// The tree of a program's text, or the fault for which `parse` refuses it. Where the grammar refuses it, at a token or at its end,
-/// `expected` has what a program can go on with there: just the tokens that some program goes on with, and of which sort a name is. It has
-/// `Nothing` where the text is a program, and is as it was where `tokens` refuses the text; after running out of memory it may be anything. The
-/// sorts are this project's own choice.
+/// The tree of a program's text, or the fault for which `parse` refuses it. If the grammar refuses it, at a token or at its end, `expected` has
+/// exactly the tokens with which some program continues there, and of which sort a name is. It has `Nothing` if the text is a program, and isn't
+/// changed if `tokens` refuses the text; after running out of memory it may be anything. The sorts are this project's own choice.
 pub fn parse_expecting(alloc: Global, text: &[u8], expected: &mut Expected) -> Result<Source, Fault>
     ensures tree { Parses text.now result }
     ensures of_text { IfOk result IsOfText }

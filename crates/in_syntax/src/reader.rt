@@ -13,7 +13,7 @@ use crate::tree::{Source, SourceNet, SourceRules, SourceSymbols, TypeNames};
 use crate::words::Token;
 use std::alloc::Global;
 
-/// What was read of a program, between two tokens.
+/// The parts of a program that were read, between two tokens.
 pub struct Reader {
     pub types: TypeNames,
     pub symbols: SourceSymbols,

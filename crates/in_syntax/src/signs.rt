@@ -37,7 +37,7 @@ fn name_at(alloc: Global, text: &[u8], place: Place) -> Result<Name, AllocError>
             text: Text::from_str(alloc, text)?,
             place,
         }),
-        // The place of a name cuts no character: it is asked for.
+        // The place of a name cuts no character, by a requirement.
         Err(_) => unreachable!(),
     }
 }

@@ -5,9 +5,9 @@ use crate::tree::{
 };
 use sqlite_items::Boxed;
 
-// What is large and seldom changes is boxed, since a state is moved at each token.
+// Large parts that seldom change are boxed, since a state is moved at each token.
 
-/// What a port's type is written for.
+/// The declaration that a port's type is part of.
 #[derive(Drop)]
 pub enum PortOf {
     /// The principal port of the symbol of this name.
@@ -27,7 +27,7 @@ pub enum HeadOf {
     Second(Boxed<Head>),
 }
 
-/// What equations are written for, with those so far.
+/// The item that equations belong to, with those so far.
 #[derive(Drop)]
 pub enum Body {
     /// The net.
@@ -36,7 +36,7 @@ pub enum Body {
     Rule(Boxed<SourceRule>, Place),
 }
 
-/// What a term is written for.
+/// The item that a term belongs to.
 #[derive(Drop)]
 pub enum TermOf {
     /// The left side of an equation, after those so far.
@@ -47,14 +47,14 @@ pub enum TermOf {
     Inside(HeadOf, Head),
 }
 
-/// Where a term stands: what it is a part of, and the terms that are open around it.
+/// The position of a term: the part of the program around it, and the terms that are open around it.
 #[derive(Drop)]
 pub struct Nest {
     pub of: Boxed<TermOf>,
     pub around: Stack,
 }
 
-/// Where in a program its next token stands, with what was read of the item or net around it.
+/// The position of the next token in a program, with the parts of the item or net around it that were read.
 #[derive(Drop)]
 pub enum State {
     /// An item or the net begins.

@@ -3,8 +3,8 @@ ghost use Rattle.in_syntax.specs.Streams.{Device, MovesFront, Reader, finds_end,
 
 /// Where a text comes from.
 pub trait TextIn {
-    /// What it gave so far, or nothing where it doesn't tell; how many reads failed, how many there were, and whether the last one found the
-    /// end of the text.
+    /// The bytes that it gave so far, or none if it doesn't show them; how many reads failed, how many there were, and whether the last one found
+    /// the end of the text.
     ghost reader: { Self → Reader };
 
     /// Reads up to as many bytes as are lent, and says how many. 0 bytes for a slice that isn't empty is the end.
@@ -19,7 +19,7 @@ pub trait TextIn {
 
 /// Where a text goes.
 pub trait TextOut {
-    /// What it took so far, or nothing where it doesn't tell; and how many writes failed.
+    /// The bytes that it took so far, or none if it doesn't show them; and how many writes failed.
     ghost device: { Self → Device };
 
     /// Writes a front of the bytes, and says how long it is. 0 of some bytes is a failure.

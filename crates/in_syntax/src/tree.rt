@@ -22,7 +22,7 @@ pub type Equations = Items<Equation>;
 
 pub type Terms = Items<Term>;
 
-/// A program as it is written, each list in the order of the text.
+/// A program as written, each list in the order of the text.
 pub struct Source {
     pub types: TypeNames,
     pub symbols: SourceSymbols,
@@ -42,7 +42,7 @@ impl Drop for Source {
     }
 }
 
-/// A name as it is written, and where.
+/// A name as written, and its place.
 #[derive(Debug, Drop)]
 pub struct Name {
     pub text: Text,
@@ -84,7 +84,7 @@ impl SourceSymbol {
     }
 }
 
-/// A rule as it is written: its two heads, and the equations after its word `with`, if it has that word.
+/// A rule as written: its two heads, and the equations after its word `with`, if it has that word.
 pub struct SourceRule {
     pub first: Head,
     pub second: Head,
@@ -227,7 +227,7 @@ pub struct SourceFree {
     pub port: SourcePort,
 }
 
-/// The initial net as it is written.
+/// The initial net as written.
 pub struct SourceNet {
     pub free: SourceFrees,
     pub equations: Equations,

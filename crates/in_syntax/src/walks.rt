@@ -7,10 +7,10 @@ use std::alloc::{AllocError, Global};
 
 /// A visitor of the names of terms, each before its arguments.
 pub trait Visitor {
-    /// What it knows of a term that was walked.
+    /// Its result on a term that was walked.
     type Known: Copy;
 
-    /// What it is after each call, and what it knows then.
+    /// Its state after each call, and its result then.
     ghost visits: { Visits Self Self.Known };
 
     /// A term's name, which has `arguments` arguments; none of these was walked yet.

@@ -1,4 +1,4 @@
-// What a caller knows of a board from the public contracts alone.
+// The knowledge of a caller about a board, from the public contracts alone.
 ghost use Rattle.std.specs.Prelude.{◌≡◌, ◌<◌, ℕ, Some, IfOk};
 
 use crate::claimers::two_seats;

@@ -49,14 +49,14 @@ pub struct Claimer<'a> {
     ghost not_done: { seat.done ≡ false },
 }
 
-// What a thread gives back: its seat, and the numbers that it claimed, or nothing where memory ran out.
+// The result of a thread: its seat, and the numbers that it claimed, or `None` if memory ran out.
 #[derive(Drop)]
 pub struct Returned {
     pub seat: Seat,
     pub numbers: Option<Vec<u32>>,
 }
 
-// Both seats of a board are taken back, and answer `claims` claims.
+// Both seats of a board are taken back, and `claims` claims are returned.
 pub fn both_made(
     rt: &impl Abort,
     alloc: Global,

@@ -1,4 +1,4 @@
-// Arenas with agents, and copies of all of them. What a copy requires is tested here as it runs.
+// Arenas with agents, and copies of all of them. The requirements of a copy are tested here at run time.
 ghost use Rattle.std.specs.Prelude.{◌≡◌, ℕ, length, IfOk, Some};
 ghost use Rattle.in_arena.specs.Arenas.{NoneLeased, state_at};
 ghost use Rattle.in_arena.specs.States.{IsLive, end_at};

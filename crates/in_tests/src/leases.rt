@@ -10,7 +10,7 @@ use std::process::Abort;
 use std::thread;
 use std::thread::Threads;
 
-// An arena of which no cell is on lease.
+// An arena without leased cells.
 pub fn fresh(alloc: Global, cells: u32) -> Result<Arena, AllocError>
     requires { cells ≤ 1048576 }
     ensures { IfOk result (λ a. NoneLeased a) }
@@ -130,7 +130,7 @@ pub fn expect_cell(rt: &impl Abort, arena: &Arena, cell: CellNo, symbol: u32, en
     expect(rt, arena.symbol(cell), symbol);
 }
 
-// A live cell of which one end was written again before it was settled.
+// A live cell with an end that was written again before it was settled.
 pub fn make_with(
     rt: &impl Abort,
     arena: &mut Arena,

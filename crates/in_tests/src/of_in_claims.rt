@@ -87,8 +87,8 @@ fn note(rt: &impl Abort, numbers: &[u32], times: &mut [u8]) {
     }
 }
 
-// How many claims the seats of a board answer that claim in a thread each until nothing is left, and the lists of their numbers. Nothing where
-// memory ran out.
+// The number of claims of a board whose seats claim in a thread each until nothing is left, and the lists of their numbers. `None` if memory ran
+// out.
 fn claimed_by_all(
     rt: &(impl Threads + Sync),
     alloc: Global,

@@ -29,7 +29,7 @@ pub record AreOpposite (t : Tables) (n : Parts) (x y : AgentNo) : Type 0 where
 abbrev pub TypedPairsMatch : Type 0
 TypedPairsMatch = (t : Tables) (n : Parts) (x y : AgentNo) → IsWhole n → IsTyped t n → AreActivePair n x y → AreOpposite t n x y
 
--- what typing a net may answer is one, and what typing a rule may
+-- typing a net has one result, and typing a rule has one
 abbrev pub NetsAreTypedOnce : Type 0
 NetsAreTypedOnce = (t : Tables) (n : Parts) (a b : Result (Unit {0}) Refusal) → Types t n a → Types t n b → a ≡ b
 

@@ -47,7 +47,7 @@ Types t n (Err r) = IsMistyped t n r
 -- ---- rules
 
 -- one of the rule's two symbols is a constructor, the other a destructor of its type. Lafont 1990: the left member is a pair that can
--- stand in a typed net
+-- are in a typed net
 abbrev pub HeadsMatch : Tables → RuleParts → Type 0
 HeadsMatch t r = matching t r.heads.0.0 r.heads.1.0 ≡ true
 

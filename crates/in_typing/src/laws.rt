@@ -1,4 +1,4 @@
-//! Laws over the definitions of types, for whoever reasons above them. No function here does anything.
+//! Laws on the definitions of types, for proofs above them. No function here does anything.
 
 ghost use Rattle.in_typing.specs.Laws.{NetsAreTypedOnce, RulesAreTypedOnce, StepsStayTyped, TypedAlongPaths, TypedPairsMatch, TypedPartsAreTypedNets};
 
@@ -7,12 +7,12 @@ pub fn typed_pairs_match()
     ensures { TypedPairsMatch }
 {}
 
-/// What typing a net answers is one: it is typed, or it has one first wire that doesn't fit.
+/// Typing a net has one result: it is typed, or it has one first wire that doesn't fit.
 pub fn nets_are_typed_once()
     ensures { NetsAreTypedOnce }
 {}
 
-/// What typing a rule answers is one.
+/// Typing a rule has one result.
 pub fn rules_are_typed_once()
     ensures { RulesAreTypedOnce }
 {}

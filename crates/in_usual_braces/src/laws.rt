@@ -1,4 +1,4 @@
-//! Laws over the definitions of usual braces, for whoever reasons above them. No function here does anything.
+//! Laws on the definitions of usual braces, for proofs above them. No function here does anything.
 
 ghost use Rattle.in_usual_braces.specs.Laws.{CrossingDirectedCirclesDecide, DirectedCirclesCross, NoBracesMend, StuckPartsHaveCircles, UsualBracesDecide};
 
@@ -26,14 +26,14 @@ pub fn usual_braces_decide()
     directed_circles_cross();
 }
 
-/// A circle that goes through the principal port of each of its agents excludes a derivation: whatever braces their other ports are in,
-/// the principal port is a class by itself.
+/// A circle that goes through the principal port of each of its agents excludes a derivation, whatever the braces around the other ports: the
+/// principal port is a class by itself.
 pub fn no_braces_mend()
     ensures { NoBracesMend }
 {}
 
-/// What a refusal can show: where all outputs of each node of the first stuck sub-net are of one class, there is a directed circle in it
-/// that crosses. So where there is none, some node of it has outputs of several classes.
+/// If all outputs of each node of the first stuck sub-net are of one class, the sub-net has a directed circle that crosses, which the refusal can
+/// show. So without such a circle some node of it has outputs of several classes.
 pub fn stuck_parts_have_circles()
     ensures { StuckPartsHaveCircles }
 {}

@@ -1,4 +1,4 @@
--- An open net whose signs follow the symbols, be it that of a net or of a rule: what the laws of open nets say of it.
+-- An open net of a net or of a rule, whose signs follow the symbols, under the laws of open nets.
 use Rattle.std.proofs.Common.{◌≡◌, ◌≢◌, ◌↔◌, ℕ, Some, slice_get, sym, inl, inr}
 use Rattle.in_symbols.specs.Tables.{Tables}
 use Rattle.in_open_nets.specs.declared.open_nets.OpenPoint.TheVariants.{Port}

@@ -1,4 +1,4 @@
-//! Laws of usual braces in programs, for whoever reasons above them. No function here does anything.
+//! Laws on usual braces in programs, for proofs above them. No function here does anything.
 
 ghost use Rattle.in_usual_braces_of_programs.specs.Laws.{CirclesAreOfAgents, NetsDecide, NetsInUsualBraces, NetsInWideBraces, RightMembersDecide, RulesInUsualBraces, RulesInWideBraces};
 

@@ -1,4 +1,4 @@
--- What the checker says of rules and nets in usual braces.
+-- The checker's result on rules and nets in usual braces.
 use Rattle.std.proofs.Common.{◌≡◌, ◌↔◌, ℕ, List, slice_get, Some, sym, ap, ◌∙◌, arith}
 use Rattle.std.specs.Prelude.{Ok, ◌++◌}
 use Rattle.std.proofs.lemmas.Option.{slice_get_within}

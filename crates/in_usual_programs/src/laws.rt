@@ -1,4 +1,4 @@
-//! Laws of usual braces in whole programs, for whoever reasons above them. No function here does anything.
+//! Laws on usual braces in whole programs, for proofs above them. No function here does anything.
 
 ghost use Rattle.in_usual_programs.specs.Laws.{AcceptedHaveNoCircle, RefusedHaveCircles, TextsDecide};
 

@@ -11,7 +11,7 @@ use std::alloc::{AllocError, Global};
 /// The version of both programs. No other place has the number.
 pub const VERSION: &str = "0.1.0";
 
-/// What the program of this name prints for `--version`: a line with the version and the sum.
+/// The line that the program of this name prints for `--version`, with the version and the sum.
 pub fn version_line(alloc: Global, program: &str) -> Result<String, AllocError> {
     format!(in alloc; "{program} {VERSION} ({SOURCES})\n")
 }

@@ -3,7 +3,7 @@ ghost use Rattle.std.specs.Prelude.{◌≡◌};
 use in_syntax::TextIn;
 use std::alloc::Global;
 
-/// A text from another reader, of which a copy is kept.
+/// A text from another reader, with a copy of it.
 #[derive(Drop)]
 pub struct KeepingIn<R> {
     reader: R,
@@ -12,7 +12,7 @@ pub struct KeepingIn<R> {
 }
 
 impl<R> KeepingIn<R> {
-    /// The reader, of which nothing is kept yet.
+    /// The reader, with an empty copy.
     pub fn new(alloc: Global, reader: R) -> KeepingIn<R>
         ensures { result.reader ≡ reader }
     {

@@ -1,9 +1,9 @@
 //! The program `inet`: checks a program of interaction nets (Lafont 1990) that comes on standard input or in a file, and writes one line on
-//! what it found; the steps that build its rules and its net; or what its net comes to when it is run.
+//! what it found; the steps that build its rules and its net; or the net at the end of its run.
 //!
-//! It has the words read and calls `in_program::act_watched` over the standard streams, or a file. A reader that keeps a copy of what it passes on
-//! (`keeping`) gives it the text again after a refusal, for the diagnosis (`words`). A watch (`watching`) shows at a terminal how far a long
-//! run is, and counts for figures. The streams keep why a read or a write failed, and `serve` tells it.
+//! It reads the words and calls `in_program::act_watched` over the standard streams, or a file. A reader that keeps a copy of its bytes (`keeping`)
+//! gives the text again after a refusal, for the diagnosis (`words`). A watch (`watching`) shows at a terminal how far a long run is, and counts for
+//! figures. The streams keep why a read or a write failed, and `serve` writes it.
 #![tactic(auto)]
 
 ghost use Rattle.std.specs.Prelude.{◌≡◌, ◌⊎◌, ◌-◌, ◌<◌, ◌^◌, None};
@@ -38,7 +38,7 @@ use std::{env, fs, io};
 /// The status of a read that failed.
 const UNREAD: Status = Status(6);
 
-/// What is told who starts the program at a terminal without a file.
+/// The message if the program starts at a terminal without a file.
 const AT_TERMINAL: &[u8] =
     b"inet: reads the program from the terminal; end it with Ctrl-D on a line of its own\n";
 
@@ -49,7 +49,7 @@ struct Console {
     reads: bool,
     /// Standard error.
     tells: bool,
-    /// Whether what is told there is in colours.
+    /// Whether messages there are in colours.
     colours: bool,
 }
 
@@ -77,8 +77,8 @@ fn words_read(alloc: Global, words: io::Result<Args>) -> Result<Vec<String>, Usa
     }
 }
 
-/// Does what the words ask for with the text of this reader, and tells what is wrong with a text that is refused, why it can't be read, what helps
-/// where a run has stopped early, and the figures that are wanted.
+/// Answers the request on the text of this reader, and writes why a text is refused or can't be read, what helps after a run that stopped early, and
+/// the wanted figures.
 fn answer_text<T: Threads + Clock, R: Read + Drop, W: TextOut, E: Write>(
     rt: &T,
     alloc: Global,
@@ -111,7 +111,7 @@ fn answer_text<T: Threads + Clock, R: Read + Drop, W: TextOut, E: Write>(
     status
 }
 
-/// Tells that memory ran out.
+/// Writes that memory ran out.
 fn tell_memory<W: TextOut>(output: &mut W) -> Status
     requires { (W.device output.old).failures < 2 ^ 64 - 1 }
     ensures { Tells (W.device output.old) (W.device output.new) memory_line memory_status result }
@@ -151,7 +151,7 @@ fn answer<T: Threads + Clock + Files, R: Read + Drop, W: TextOut, E: Write>(
     }
 }
 
-/// Tells the version of the program.
+/// Writes the version of the program.
 fn tell_version<W: TextOut>(alloc: Global, output: &mut W) -> Status
     requires { (W.device output.old).failures < 2 ^ 64 - 1 }
 {
@@ -161,7 +161,7 @@ fn tell_version<W: TextOut>(alloc: Global, output: &mut W) -> Status
     }
 }
 
-/// Tells why the words ask for nothing, or the version.
+/// Writes the help, the version, or why the words are wrong.
 fn tell_nothing_asked<W: TextOut, E: Write>(
     alloc: Global,
     usage: &Usage,
@@ -176,7 +176,7 @@ fn tell_nothing_asked<W: TextOut, E: Write>(
     }
 }
 
-/// Does what these words ask for, or tells why they ask for nothing.
+/// Answers the request of these words, or writes why they make none.
 fn answer_words<T: Threads + Clock + Files, R: Read + Drop, W: TextOut, E: Write>(
     rt: &T,
     alloc: Global,
@@ -194,7 +194,7 @@ fn answer_words<T: Threads + Clock + Files, R: Read + Drop, W: TextOut, E: Write
     }
 }
 
-/// Does what the program's words ask for, or tells why they can't be had.
+/// Answers the program's words, or writes why they can't be read.
 fn answer_program<T: Threads + Clock + Files, R: Read + Drop, W: TextOut, E: Write>(
     rt: &T,
     alloc: Global,
@@ -220,7 +220,7 @@ fn answer_program<T: Threads + Clock + Files, R: Read + Drop, W: TextOut, E: Wri
     }
 }
 
-/// The same, and tells why its output can't be written, where it isn't that its reader went away.
+/// The same, and writes why its output can't be written, unless its reader closed the stream.
 fn serve<T: Threads + Clock + Files, R: Read + Drop, W: Write + Drop, E: Write>(
     rt: &T,
     alloc: Global,

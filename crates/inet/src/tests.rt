@@ -1,4 +1,4 @@
-//! What is told of words that can't be had, of streams that fail, at a terminal, and of a text that is too long.
+//! Messages on words that can't be read, on streams that fail, at a terminal, and on a text that is too long.
 use crate::{Console, serve, unreadable};
 use in_command_line::Usage;
 use in_program::Status;
@@ -46,7 +46,7 @@ fn words(alloc: Global, command: &str) -> Result<Args, AllocError> {
     Ok(words.into_iter())
 }
 
-/// Whether a command on these streams ends with status 6, and tells this on standard error.
+/// Whether a command on these streams ends with status 6, and writes this on standard error.
 fn fails_with<T: Threads + Clock + Files, R: Read + Drop, W: Write + Drop>(
     rt: &T,
     alloc: Global,
@@ -89,7 +89,7 @@ fn a_failed_stream_is_told_with_its_error(rt: HostRuntime) -> Result<(), Fail> {
     Ok(())
 }
 
-/// Whether a text of that many bytes is refused, and what is told begins with these words.
+/// Whether a text of that many bytes is refused, by a message that begins with these words.
 fn is_too_long(
     rt: &(impl Threads + Clock + Files),
     alloc: Global,
@@ -124,7 +124,7 @@ fn a_reader_that_went_away_is_not_told(rt: HostRuntime) -> Result<(), Fail> {
     Ok(())
 }
 
-/// What is told of a text at a terminal.
+/// The message on a text that comes from a terminal.
 fn told_at_terminal(
     rt: &(impl Threads + Clock + Files),
     alloc: Global,
@@ -152,7 +152,7 @@ fn a_terminal_is_told_and_has_colours(rt: HostRuntime) -> Result<(), Fail> {
     Ok(())
 }
 
-/// Whether words that fail with this error are told so.
+/// Whether words that fail with this error give this message.
 fn is_told(alloc: Global, error: Error, told: &str) -> bool {
     match unreadable(alloc, error) {
         Usage::Wrong(text) => text.as_str() == told,

@@ -29,7 +29,7 @@ pub struct Watching<'a, T, E> {
     shown: Option<Instant>,
     stopped: Option<Instant>,
     is_shown: bool,
-    /// What was seen, with the most cells in use that were.
+    /// The progress seen, with the most cells that were in use.
     seen: Option<Progress>,
 }
 
@@ -96,7 +96,7 @@ impl<'a, T: Clock, E: Write> Watching<'a, T, E> {
         }
     }
 
-    /// Tells how long something took.
+    /// Writes how long something took.
     fn tell_time(&mut self, what: &str, time: Duration) {
         let seconds = time.as_secs();
         let thousandths = time.subsec_millis();
@@ -105,7 +105,7 @@ impl<'a, T: Clock, E: Write> Watching<'a, T, E> {
         }
     }
 
-    /// Tells how many interactions there were in a second.
+    /// Writes how many interactions there were in a second.
     fn tell_rate(&mut self, interactions: u64, time: Duration) {
         let micros = time.as_micros();
         if micros == 0 {
@@ -117,7 +117,7 @@ impl<'a, T: Clock, E: Write> Watching<'a, T, E> {
         }
     }
 
-    /// Tells of a run how many cells, threads and phases it had.
+    /// Writes how many cells, threads and phases a run had.
     fn tell_seen(&mut self, seen: Progress) {
         let Progress {
             used,
@@ -133,7 +133,7 @@ impl<'a, T: Clock, E: Write> Watching<'a, T, E> {
         }
     }
 
-    /// Tells the figures, where they are wanted and there was a run.
+    /// Writes the figures, if they are wanted and there was a run.
     pub fn tell(&mut self) {
         if !self.counts {
             return;

@@ -82,7 +82,7 @@ fn add_coloured(
     words.push_str(line.get(end..).unwrap_or(""))
 }
 
-/// The words in colours: what kind of line it is, and the marks below excerpts.
+/// The coloured words: the kind of a line, and the marks below excerpts.
 pub fn in_colours(alloc: Global, words: &str) -> Result<String, AllocError> {
     let mut told = String::new(alloc);
     let mut mark = Colour::Red;
@@ -101,7 +101,7 @@ pub fn in_colours(alloc: Global, words: &str) -> Result<String, AllocError> {
     Ok(told)
 }
 
-/// What is wrong with a text that is refused, in words for people, after a line with its file.
+/// The diagnosis of a refused text, for people, after a line with its file.
 fn told(
     alloc: Global,
     file: Option<&str>,
@@ -122,7 +122,7 @@ fn told(
     }
 }
 
-/// Tells what is wrong with a text that is refused. Where memory runs out, or it can't be told, nothing is added.
+/// Writes the diagnosis of a refused text. If memory runs out, or it can't be written, nothing is added.
 pub fn tell_diagnosis<E: Write>(
     alloc: Global,
     file: Option<&str>,
@@ -143,7 +143,7 @@ fn limits_in(action: &Action) -> Option<Limits> {
     }
 }
 
-/// What helps where a run has stopped with this status.
+/// Help after a run that stopped with this status.
 fn help(alloc: Global, status: Status, limits: Limits) -> Result<Option<String>, AllocError> {
     match status {
         Status(3) if limits.limit() == MOST_INTERACTIONS => Ok(Some(format!(in alloc;
@@ -162,7 +162,7 @@ fn help(alloc: Global, status: Status, limits: Limits) -> Result<Option<String>,
     }
 }
 
-/// Tells what helps where a run has stopped at its limit, or for lack of cells. Where memory runs out, or it can't be told, nothing is added.
+/// Writes help after a run that stopped at its limit, or for lack of cells. If memory runs out, or it can't be written, nothing is added.
 pub fn tell_help<E: Write>(alloc: Global, status: Status, action: &Action, errors: &mut E) {
     if let Some(limits) = limits_in(action) {
         if let Ok(Some(words)) = help(alloc, status, limits) {

@@ -1,7 +1,7 @@
 //! The program `inet_export`: writes the program of interaction nets (Lafont 1990) that comes on standard input, or in a file, as data, one JSON
-//! object on one line, for programs that go on with it. Where it is refused, it prints the line that `inet check` prints.
+//! object on one line, for other programs. If it is refused, it prints the line of `inet check`.
 //!
-//! Where the text is refused, it lets `in_program::report` write what `inet check` writes.
+//! For a refused text `in_program::report` writes that line.
 #![tactic(auto)]
 
 ghost use Rattle.std.specs.Prelude.{◌≡◌, ◌⊎◌, ◌-◌, ◌<◌, ◌^◌, false};
@@ -44,7 +44,7 @@ Options:
   -V, --version  Print version
 ";
 
-/// What the program is asked to do.
+/// The request of the program's words.
 #[derive(Drop)]
 enum Request {
     /// Writes the line of the program in this file, or on standard input.
@@ -63,7 +63,7 @@ enum Usage {
     Memory,
 }
 
-/// What one word asks for.
+/// The request of one word.
 fn asked_by(word: String) -> Result<Request, Usage> {
     match word.as_str() {
         "-h" | "--help" => Ok(Request::Help),
@@ -74,7 +74,7 @@ fn asked_by(word: String) -> Result<Request, Usage> {
     }
 }
 
-/// What these words ask for, of which the first is the program's name.
+/// The request of these words. The first is the program's name.
 fn asked(words: io::Result<Args>) -> Result<Request, Usage> {
     let mut words = match words {
         Ok(words) => words,
@@ -116,7 +116,7 @@ fn tell_program<W: TextOut>(alloc: Global, writer: &mut W, text: &[u8]) -> Statu
     }
 }
 
-/// Reads a text and writes the line of its program; tells why it can't be read from this device.
+/// Reads a text and writes the line of its program, or why it can't be read from this device.
 fn answer<R: Read, W: TextOut, E: Write>(
     alloc: Global,
     device: Device,
@@ -160,7 +160,7 @@ fn answer_file<T: Files, W: TextOut, E: Write>(
     }
 }
 
-/// Tells the version of the program.
+/// Writes the version of the program.
 fn tell_version<W: TextOut>(alloc: Global, output: &mut W) -> Status
     requires { (W.device output.old).failures < 2 ^ 64 - 1 }
 {
@@ -170,8 +170,7 @@ fn tell_version<W: TextOut>(alloc: Global, output: &mut W) -> Status
     }
 }
 
-/// Does what the program's words ask for, or tells how it is called; and tells why its output can't be written, where it isn't that its reader
-/// went away.
+/// Answers the program's words, or writes its usage; and writes why its output can't be written, unless its reader closed the stream.
 fn serve<T: Files, R: Read, W: Write + Drop, E: Write>(
     rt: &T,
     alloc: Global,

@@ -1,4 +1,4 @@
--- Where an agent or a variable stands in the text: at the end of its climb, once.
+-- The place of an agent or a variable in the text: at the end of its climb, once.
 use Rattle.std.proofs.Common.{◌≡◌, ◌≢◌, ◌⊎◌, ◌≤◌, ◌<◌, ◌+◌, ℕ, zero, suc, Option, Some, None, IsSome, IsSomeAnd, List, [], ◌∷◌, ◌++◌, length, refl, sym, subst, ap, inl, inr, ◌∙◌, arith}
 use Rattle.std.specs.List.{AllByRecursion}
 use native.Mathlib.Decide.{ℕ_discrete}
@@ -195,7 +195,7 @@ module _ {A : Type 0} (sig : Signature) (n : Net A) (net : IsNet sig n) where
     pub nowhere_below : (s : Point A → List (TextPart A)) (y : A) → ((i : ℕ) → StandsTimes 0 T (s (Port y (suc i)))) → StandsTimes 0 T (bracketed (arity_of sig (n.symbol y)) (listed s y 1 (arity_of sig (n.symbol y))))
     nowhere_below s y h = nowhere_bracketed (arity_of sig (n.symbol y)) (listed s y 1 (arity_of sig (n.symbol y))) (nowhere_listed s y h 0 (arity_of sig (n.symbol y)))
 
-    -- it stands in no term of a point to which it doesn't climb
+    -- it is in no term of a point to which it doesn't climb
     pub nowhere : (d : ℕ) (q : Point A) → ((l : ℕ) → Climb n p l q → ⊥) → StandsTimes 0 T (term sig n d q)
     nowhere zero q h = nowhere_at (λ y. []) q (n.partner q) refl (λ y e. tt) (λ e. h 0 (sym e))
     nowhere (suc d) q h = nowhere_at (agent_term sig n (term sig n d)) q (n.partner q) refl
@@ -223,7 +223,7 @@ module _ {A : Type 0} (sig : Signature) (n : Net A) (net : IsNet sig n) where
     once_bracketed (suc k) qs l h = inr (bytes (40 ∷ []), once_left T qs (Bytes (41 ∷ []) ∷ []) h (bytes (41 ∷ []), tt))
 
     module _ (b : ℕ) (shown : (d : ℕ) → b ≤ d → StandsTimes 1 T (term sig n d p)) where
-      -- it stands once in the term of each point to which it climbs, if that is deep enough
+      -- it occurs once in the term of each point to which it climbs, if that is deep enough
       pub once : (l : ℕ) (q : Point A) (d : ℕ) → Climb n p l q → l + b ≤ d → StandsTimes 1 T (term sig n d q)
       once zero q d c h = subst (λ q. StandsTimes 1 T (term sig n d q)) c (shown d (omega arith))
       once (suc l) q zero c h = absurd (omega arith)

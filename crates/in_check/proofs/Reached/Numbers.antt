@@ -156,7 +156,7 @@ module _ {A : Type 0} (s : A → A → Bool) (test : IsTest s) where
           again met h,
         )
 
-    -- .. and once, where its variable at the other point stands once
+    -- .. and once, where its variable at the other point occurs once
     number_once : (ps : List (TextPart A)) → AllByRecursion (IsOfNet n) ps → (met : List (Point A)) (k : ℕ) (a b : Point A) → AreApart met → n.partner a ≡ Some b → At met k a → StandsTimes 0 (Variable a b) ps → StandsTimes 1 (Variable b a) ps → StandsTimes 1 k (numbers s met ps)
     number_once [] of met k a b apart e h x y = absurd y
     number_once (Bytes bs ∷ ps) of met k a b apart e h x (inl y) = cc
@@ -355,7 +355,7 @@ module _ {A : Type 0} (s : A → A → Bool) (test : IsTest s) where
               ],
             )
 
-    -- variables of one number stand at one wire
+    -- variables of one number are at one wire
     pub one_wire : (sig : Signature) → IsNet sig n → (ps : List (TextPart A)) → AllByRecursion (IsOfNet n) ps → (k : ℕ) (u v : Point A) → IsAmong (k, u) (numbered (numbers s [] ps) ps) → IsAmong (k, v) (numbered (numbers s [] ps) ps) → (u ≡ v) ⊎ (n.partner u ≡ Some v)
     one_wire sig net ps of k u v h g = go a.2 b.2
       where

@@ -1,4 +1,4 @@
--- Nothing but the net's agents and its wires without principal ports stands in the text.
+-- The text holds only the net's agents and its wires without principal ports.
 use Rattle.std.proofs.Common.{◌≡◌, ℕ, zero, suc, Option, Some, None, IsSome, List, [], ◌∷◌, ◌++◌, length, refl}
 use Rattle.std.specs.List.{AllByRecursion}
 use Rattle.in_net.specs.Nets.{Point, Port, Free, Signature, Net, IsNet}

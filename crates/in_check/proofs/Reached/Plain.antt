@@ -1,4 +1,4 @@
--- What the slow reducer keeps: it starts at a net that is reached, a step leads to one, and its active pairs have their rule.
+-- The invariant of the slow reducer: it starts at a reached net, a step leads to a reached net, and its active pairs have their rule.
 use Rattle.std.proofs.Common.{◌≡◌, ℕ, zero, suc, List, map, Some, refl, sym, subst, ap, ◌∙◌}
 use native.Mathlib.Decide.{ℕ_discrete}
 use Rattle.in_net.specs.declared.nets.AgentNo.{AgentNo}

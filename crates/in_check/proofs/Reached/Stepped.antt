@@ -1,4 +1,4 @@
--- What one step of the slow reducer owes and gives: its pair matches, its rule fits, and the net after is reached by one interaction more.
+-- The goals of one step of the slow reducer: its pair matches, its rule fits, and the net after it is reached by one interaction more.
 use Rattle.std.proofs.Common.{◌≡◌, ℕ, List, Some, Result, Ok, Err, slice_get, refl, sym, ◌∙◌, subst}
 use Rattle.std.specs.Prelude.{OnOk, OnErr}
 use Rattle.std.proofs.lemmas.Option.{same_Some}

@@ -66,7 +66,7 @@ one_holds Large Wide n false h g = refl
 one_holds Wide Small n false h g = refl
 one_holds Wide Large n false h g = refl
 
--- two lists with the same answers have the same count
+-- two lists with the same results have the same count
 same_count : {X Y : Type 0} (f : X → Bool) (g : Y → Bool) (xs : List X) (ys : List Y) → ((k : ℕ) → option_map f (slice_get xs k) ≡ option_map g (slice_get ys k)) → count_by f xs ≡ count_by g ys
 same_count f g [] [] h = refl
 same_count f g [] (y ∷ ys) h = let e : None ≡ Some (g y) = h 0 in cc

@@ -172,6 +172,6 @@ placed m old start first s ns b room t w = record {
   };
 }
 
--- a number that is read stands in the list
+-- a number that is read is in the list
 pub read_at : (ns : List CellNo) (k : ℕ) → k < length ns → slice_get ns k ≡ Some (slice_index_or ns k (record { 0 = 0 }))
 read_at ns k l = slice_get-get_or ns k (record { 0 = 0 }) l

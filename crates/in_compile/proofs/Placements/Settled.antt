@@ -1,4 +1,4 @@
--- What is settled, where the rest of its stock goes back.
+-- Settled cells, once the rest of their stock is given back.
 use Rattle.std.proofs.Common.{◌≡◌, ◌⊎◌, inl, inr, ℕ, ◌<◌, length, Some, slice_get, sym, ap, subst, ◌∙◌, arith}
 use Rattle.in_base.proofs.Each.{all_at}
 use Rattle.in_arena.specs.Arenas.{ArenaView, state_at}

@@ -1,4 +1,4 @@
--- A placed member that is settled stands in the arena.
+-- A placed member that is settled is in the arena.
 use Rattle.std.proofs.Common.{◌≡◌, ℕ, Option, Some, None, slice_get, refl, sym, ap, ◌∙◌}
 use Rattle.std.specs.Prelude.{option_map, option_and_then, slice_index_or}
 use Rattle.std.proofs.lemmas.Option.{same_Some, slice_get-map, slice_get_within, slice_get-get_or}

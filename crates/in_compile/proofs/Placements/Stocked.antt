@@ -24,7 +24,7 @@ of_itself Small n = refl
 of_itself Large n = refl
 of_itself Wide n = refl
 
--- another class, of which there are none
+-- another class, without cells
 abbrev Other : CellClass → CellClass → Type 0
 Other c d = (d ≡ c → ⊥) × ((n : ℕ) → of_class c n d ≡ 0)
 
@@ -152,7 +152,7 @@ added_too f g k a b a' b' a'' b'' sum h j = record {
 
 -- ---- the lists of a bag's cells
 
--- nothing stands in empty lists, as nothing is in an empty bag
+-- nothing is in empty lists, as nothing is in an empty bag
 pub none_listed : (b : ArenaView) (l : CellClass → List CellNo) → HasAllCells b → ((n : ℕ) → IsInBag b n → ⊥) → ((c : CellClass) → free_of b c ≡ 0) → ((c : CellClass) → l c ≡ []) → IsListing b l
 none_listed b l all none free empty = record {
   all = all;

@@ -56,7 +56,7 @@ module _ {A : Type 0} (sig : Signature) (classed : AreClasses sig) (n : Net A) (
   agent_of None i h = absurd h
   agent_of (Some s) i h = (s, refl)
 
-  -- after k agents the walk has ended, or it goes on
+  -- after k agents the walk has ended, or it continues
   abbrev Goes : ℕ → A → Type 0
   Goes k x = (MeetsPair n x ⊎ ((k : ℕ) × WaitsAt n k x)) ⊎ ((ps : List (Passage A)) × (to : A × ℕ) × (length ps ≡ k) × Walk (graph_of sig n) E L (x, 0) ps to × AllByRecursion (λ p. IsAmong p.node net.agents) ps)
 

@@ -25,7 +25,7 @@ sides {A} {B} sig n x = record {
 }
 
 module _ {A B : Type 0} (sig : Signature) (n : Net A) (x : Redex A B) (net : IsNet sig n) (inside : IsNet sig x.member) (redex : IsRedex sig n x) where
-  -- one point of the net before stands at a place, and at one place alone
+  -- one point of the net before is at a place, and at one place alone
   before_one : (p : Place A B) (u v : Point A) → IsBefore sig x p u → IsBefore sig x p v → u ≡ v
   before_one (Old y i) u v h k = h.2 ∙ sym k.2
   before_one (New y i) u v h k = absurd h

@@ -42,7 +42,7 @@ module _ (wire : Side → ℕ → ℕ → Type 0) (wired : AreEndWires wire) whe
   never : (s : Side) (e : ℕ) (es : List ℕ) → EndPath wire s e es s e → ⊥
   never s e es w = never_back (length es) s e es (omega arith) w
 
-  -- so paths from one end never come to one end on both sides
+  -- so paths from one end never reach one end on both sides
   one_side : (s : Side) (e : ℕ) (es : List ℕ) (t : Side) (f : ℕ) (fs : List ℕ) → EndPath wire s e es t f → EndPath wire s e fs (other t) f → ⊥
   one_side s e [] t f [] w v = other_side t (sym v.0 ∙ w.0)
   one_side s e [] t f (g ∷ gs) w v =
@@ -83,7 +83,7 @@ module _ {A B : Type 0} (sig : Signature) (classed : AreClasses sig) (n : Net A)
       apart Inner e w = inside.apart (Free e) w
 
   module _ (side : Side) (first : ℕ) where
-    -- a path from the first end comes to this one on this side
+    -- a path from the first end reaches this one on this side
     abbrev Comes : Side → ℕ → Type 0
     Comes s e = (es : List ℕ) × EndPath (EndWire sig n x) side first es s e
 

@@ -46,7 +46,7 @@ find_inside (p ∷ ps) = go (side p) (find_inside ps)
 
 -- the two nets of an interaction, and where their wires stand on its places
 pub record Sides (A B C : Type 0) : Type 1 where
-  -- the net before, with its active pair, and the port that stands at each boundary end
+  -- the net before, with its active pair, and the port that is at each boundary end
   pub class : A → ℕ → ℕ
   pub Joins : A × ℕ → A × ℕ → Type 0
   pub one : A

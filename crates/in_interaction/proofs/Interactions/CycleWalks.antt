@@ -1,4 +1,4 @@
--- What is left of a cycle of pieces inside is a closed walk of the open right member.
+-- The pieces inside that remain of a cycle are a closed walk of the open right member.
 use Rattle.std.proofs.Common.{◌≡◌, ◌≢◌, ◌⊎◌, ℕ, Bool, List, [], ◌∷◌, ◌++◌, map, refl, sym, subst, ap, inl, inr, ◌∙◌, append-nil, append_assoc}
 use Rattle.std.specs.List.{AllByRecursion}
 use Rattle.std.proofs.lemmas.List.{map-append}

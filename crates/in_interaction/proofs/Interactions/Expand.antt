@@ -77,7 +77,7 @@ module _ {A B : Type 0} (wire : Side → Place A B → Place A B → Type 0) (wi
             (subst (λ t. Tour wire (AtPlace (at_place E)) (AtPlace (at_place L)) t rest.0 (spot v)) (sym (leaves_stop p.node p.enter p.leave)) rest.1),
       )
 
-  -- a closed walk of the net after, with what it passes on the way
+  -- a closed walk of the net after, with the ends that it passes
   pub closed_tour : Circuit (after wire class) E L → ClosedTour wire (AtPlace (at_place E)) (AtPlace (at_place L))
   closed_tour c =
       let t = walk_tour (left c.first) (entered c.first) c.rest c.leaves c.enters c.closed in

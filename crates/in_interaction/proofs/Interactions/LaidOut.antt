@@ -41,7 +41,7 @@ module _ {A B C : Type 0} (sig : Signature) (classed : AreClasses sig) (n : Net 
   first_wire s p [] q w = (q, w)
   first_wire s p (e ∷ es) q w = (Boundary e, w.0)
 
-  -- the agent whose port stands at a place that is joined to another one
+  -- the agent whose port is at a place that is joined to another one
   named : (p q : Place A B) (c : C) (i : ℕ) → IsAfter name p (Port c i) → IsJoined (wires sig n x) p q → (m : A ⊎ B) × ((s : ℕ) × HasSymbol n x m s) × (name m ≡ c) × (p ≡ place (m, i))
   named (Old y k) q c i h j =
       let w = first_wire Outer (Old y k) j.2.0 q j.2.1 in

@@ -129,7 +129,7 @@ module _ {A B : Type 0} (sig : Signature) (n : Net A) (x : Redex A B) (name : B 
   only_from s u v d e h w k =
       one_wire sig n x name net inside redex naming s (pt e) u v (wire_back sig n x name net inside s u (pt e) (subst (λ d. wire_of sig n x name s u (pt d)) h w)) (wire_back sig n x name net inside s v (pt e) k)
 
-  -- what follows the newest is none of the trail
+  -- the one that follows the newest isn't in the trail
   fresh : (c : ℕ) (s : Side) (d : ℕ) (p : Passage (ℕ × Side)) (ps : List (Passage (ℕ × Side))) → c < sig.arity x.first + sig.arity x.second → AllByRecursion InRange (p ∷ ps) → Trail (p ∷ ps) → wire_of sig n x name s (pt c) (pt d) → AllByRecursion (λ q. (c, s) ≢ q.node) ps → AllByRecursion (λ q. (d, other s) ≢ q.node) (p ∷ ps)
   fresh c s d p [] hc range trail w apart = (
     (λ e.
@@ -189,7 +189,7 @@ module _ {A B : Type 0} (sig : Signature) (n : Net A) (x : Redex A B) (name : B 
   all_among [] h = tt
   all_among (p ∷ ps) h = (among_states (sig.arity x.first + sig.arity x.second) p.node.0 p.node.1 h.0, all_among ps h.1)
 
-  -- a path that has come to a boundary end from a point that stays ends
+  -- a path that has reached a boundary end from a point that stays ends
   pub ends : (s : Side) (d : ℕ) → d < sig.arity x.first + sig.arity x.second → (u : Point A) → (IsOfPair x u → ⊥) → wire_of sig n x name s u (pt d) → Ended (2 * (sig.arity x.first + sig.arity x.second)) (other s) d
   ends s d h u np w =
       elim (walk (2 * (sig.arity x.first + sig.arity x.second)) (other s) d [] (h, tt) (u, np, subst (λ t. wire_of sig n x name t u (pt d)) (sym (other_twice s)) w) (tt, tt)) [

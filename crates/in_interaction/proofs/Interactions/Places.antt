@@ -35,7 +35,7 @@ module _ {A B : Type 0} where
   abbrev pub IsJoined : (Side → Place A B → Place A B → Type 0) → Place A B → Place A B → Type 0
   IsJoined wire p q = Stays p × Stays q × ((es : List ℕ) × Path wire (side_of p) p es q)
 
--- the point of the net before that stands at a place
+-- the point of the net before that is at a place
 abbrev pub IsBefore : {A B : Type 0} → Signature → Redex A B → Place A B → Point A → Type 0
 IsBefore sig x (Old y i) p = (y ≢ x.one) × (y ≢ x.two) × (p ≡ Port y i)
 IsBefore sig x (New y i) p = ⊥
@@ -58,7 +58,7 @@ wires {A} {B} sig n x Inner p q = (u v : Point B) × IsInside p u × IsInside q 
 abbrev pub HasSymbol : {A B : Type 0} → Net A → Redex A B → A ⊎ B → ℕ → Type 0
 HasSymbol n x m s = elim m [ inl y ↦ (y ≢ x.one) × (y ≢ x.two) × (n.symbol y ≡ Some s) | inr y ↦ x.member.symbol y ≡ Some s ]
 
--- the point after that stands at a place, where the agents have these names
+-- the point after that is at a place, where the agents have these names
 abbrev pub IsAfter : {A B C : Type 0} → (A ⊎ B → C) → Place A B → Point C → Type 0
 IsAfter name (Old y i) p = p ≡ Port (name (inl y)) i
 IsAfter name (New y i) p = p ≡ Port (name (inr y)) i

@@ -14,7 +14,7 @@ module _ {A B : Type 0} (sig : Signature) (x : Redex A B) where
   abbrev Node : Type 0
   Node = B ⊎ (Bool × ℕ)
 
-  -- a port that is none of these passages' is no port that they enter or leave by
+  -- a port that no passage has is one by which none enters or leaves
   other_entered : (u v : Node × ℕ) (ps : List (Passage Node)) → AllByRecursion (λ w. u ≢ w) (ports_of ps) → IsEntered ps v → u ≢ v
   other_entered u v [] h e same = absurd e
   other_entered u v (p ∷ ps) h (inl e) same = h.0 (same ∙ sym e)

@@ -1,4 +1,4 @@
--- Cycles that are laid out wire by wire, over both sides of an interaction: what is passed on the way.
+-- Cycles laid out wire by wire over both sides of an interaction, and the nodes that they pass.
 use Rattle.std.specs.Prelude.{◌≡◌, ◌≢◌, ◌⊎◌, ℕ, List, [], ◌∷◌}
 use mathlib.Core.Logic.{inl, inr}
 use Rattle.std.specs.List.{AllByRecursion}

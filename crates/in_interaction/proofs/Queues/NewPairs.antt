@@ -1,4 +1,4 @@
--- What is made, by numbers: the pairs over boundary ends, and then the right member's own under their new names.
+-- The new pairs by numbers: those over boundary ends, and then the right member's own under their new names.
 use Rattle.std.proofs.Common.{◌≡◌, ℕ, List, [], ◌∷◌, ◌++◌, map, refl, ap, ◌∙◌}
 use Rattle.std.proofs.lemmas.List.{map-append}
 use Rattle.in_symbols.specs.Tables.{Tables}

@@ -55,7 +55,7 @@ pub symbol_after_known : (t : Tables) (n : Parts) (r : RuleParts) (a b y : Agent
 symbol_after_known t n r a b y s can (inl h) = symbol_known t n y.0 s can.net h.2
 symbol_after_known t n r a b y s can (inr h) = symbol_known t r.member h.0 s can.rule.member h.2
 
--- an agent after the interaction is none of the pair
+-- an agent after the interaction isn't one of the pair
 pub stays_as : (t : Tables) (n : Parts) (r : RuleParts) (a b : AgentNo) (name : ℕ → ℕ) → IsNet (signature_of t) (net_of n) → IsNet (signature_of t) (net_of r.member) → IsRedex (signature_of t) (net_of n) (redex_at r a.0 b.0) → IsNaming (net_of n) (redex_at r a.0 b.0) name →
     (y : AgentNo) (s : SymbolNo) → HasSymbolAfter n r a b name y s → IsOfPair (redex_at r a.0 b.0) (Port y.0 0) → ⊥
 stays_as t n r a b name net inside redex naming y s (inl h) = λ o. elim o [ inl e ↦ h.0 (agent_same y a e) | inr e ↦ h.1 (agent_same y b e) ]

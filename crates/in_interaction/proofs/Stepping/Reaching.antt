@@ -1,4 +1,4 @@
--- Where the wires of a boundary end lead, and the path that goes on from there.
+-- The ends of the wires of a boundary end, and the path that continues there.
 use Rattle.std.proofs.Common.{◌≡◌, ◌≢◌, ◌⊎◌, inl, inr, ◌+◌, ◌<◌, ◌≤◌, ℕ, zero, suc, Option, Some, None, List, [], ◌∷◌, length, slice_get, refl, sym, ap, subst, ◌∙◌, arith}
 use native.Mathlib.Decide.{ℕ_discrete}
 use Rattle.std.proofs.lemmas.List.{length-map}
@@ -113,7 +113,7 @@ module _ (s : SiteParts) (site : IsSite s) where
     one_wire_at : (side : Side) (u v w : Point ℕ) → SiteWire t s side u v → SiteWire t s side u w → v ≡ w
     one_wire_at = known here one_wire
 
-    -- a path from a boundary end whose wire leads to another goes on from there
+    -- a path from a boundary end whose wire leads to another continues from there
     pub goes_on : (side : Side) (e f : ℕ) (es : List (Point ℕ)) (v : Point ℕ) → SiteWire t s side (end_point t s e) (end_point t s f) → Leaves t s side e es v →
         (fs : List (Point ℕ)) × (es ≡ end_point t s f ∷ fs) × Leaves t s (other side) f fs v
     goes_on side e f [] v w h = absurd (h.1 (subst (IsOfPair (redex_of s)) (one_wire_at side (end_point t s e) (end_point t s f) v w h.0) (is_pair_end f)))
@@ -163,7 +163,7 @@ module _ (s : SiteParts) (site : IsSite s) where
           let most = g.2 in
           (r.0, r.2, omega (arith, many, most), (λ p i. g.3 p (subst (IsAmong p) (sym r.1) (inr i))))
 
-  -- it has come to a point that stays
+  -- it has reached a point that stays
   pub has_landed : (side by : Side) (e at count : ℕ) (p : coded.Point) → IsOnWay s side e by at count → LeadsTo s by at (Staying p) → LandsAt s side e p
   has_landed side by e at count p on to = λ t can. on.behind t can [] (point_of p) (to t can) (λ d i. absurd i)
 

@@ -1,4 +1,4 @@
--- A turn of a path: what it goes on to.
+-- A turn of a path: the point to which it continues.
 use Rattle.std.proofs.Common.{◌≡◌, ◌<◌, ◌≤◌, ◌+◌, ◌-◌, ℕ, suc, Some, None, List, length, slice_get, get_or, subst, ap, ◌∙◌, arith}
 use Rattle.std.proofs.lemmas.Option.{get_or_from_slice_get}
 use Rattle.in_base.proofs.Places.{some_same}

@@ -30,7 +30,7 @@ not_both_orders x y a b (inr h) (inr k) = let l = h.1 in let m = k.1 in omega (a
 pub below_or : (m x : ℕ) → m < x + 1 → (m < x) ⊎ (m ≡ x)
 below_or m x h = grind arith
 
--- two agents stand in one order
+-- two agents are in one order
 pub no_both : (t : Tables) (a b : AgentNo) (c d : SymbolNo) → StandsFirst t c d a b → StandsFirst t d c b a → ⊥
 no_both t a b c d h k = not_both_orders (is_constructor t c.0) (is_constructor t d.0) a.0 b.0 h k
 

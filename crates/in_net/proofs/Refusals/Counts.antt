@@ -1,4 +1,4 @@
--- Where each name stands twice, no three spots have one name.
+-- If each name occurs twice, no three spots have one name.
 use Rattle.std.proofs.Common.{◌≡◌, ◌≢◌, ◌⊎◌, inl, inr, ℕ, zero, suc, ◌+◌, ◌<◌, ◌≤◌, List, [], ◌∷◌, length, Option, Some, None, refl, sym, ◌∙◌, ap, arith}
 use Rattle.std.proofs.lemmas.List.{get_or-set_other}
 use Rattle.std.proofs.lemmas.Bool.{cases_eq, cases_lt}
@@ -11,7 +11,7 @@ use Rattle.in_net.proofs.Wiring.Joins.{length-counted, length-none_seen}
 use Rattle.in_net.proofs.Wiring.Ways.{nth_seen}
 use Rattle.in_net.proofs.Wiring.Joined.{is_named_or_not, named_again, third_time, nth_none}
 
--- a name that is seen once, and stands twice more
+-- a name that is seen once, and occurs twice more
 second_named : (seen : List Seen) (at m a : ℕ) (o : Option ℕ) → m < length seen → nth_seen seen m ≡ Once a → o ≡ Some m → nth_seen (count_name seen at o) m ≡ Twice
 second_named seen at m a o lt is e = named_again seen at m o lt e ∙ ap (λ s. seen_again s at) is
 

@@ -1,4 +1,4 @@
--- The first fault of a net's agents and names, and what holds where there is none.
+-- The first fault of a net's agents and names, and the properties of a net without any.
 use Rattle.std.proofs.Common.{◌≡◌, ◌⊎◌, inl, inr, ℕ, length, Option, Some, None, true, refl, sym, ◌∙◌, ap, subst, arith}
 use Rattle.in_syntax.specs.declared.faults.Code.{Code}
 use Rattle.in_syntax.specs.declared.faults.Code.TheVariants.{E03, E07, E08}
@@ -48,7 +48,7 @@ first_of most t b agents arities names a c d =
     first_same (Coded most t b) (IsNetFaultAt most t b) _ (as_fault most t b) (of_fault most t b)
     (first_of_three E03 E07 E08 (IsTooManyAt most t b) (IsMisfitAt t b) (IsMiscountedAt t b) (omega arith) (omega arith) agents arities names a c d)
 
--- what is known of a body before it is read: its heads are symbols', its names stand in order, its free names are different
+-- what is known of a body before it is read: its heads are symbols', its names are in order, its free names are different
 pub record IsReady (t : Tables) (b : Body) : Type 0 where
   pub known : IsBodyKnown t b
   pub rises : Rises (body_places b)
@@ -69,7 +69,7 @@ pub is_first : (most : ℕ) (t : Tables) (b : Body) (reading : Reading) (r : Ref
 is_first most t b reading r ready read is =
     first_as (IsNetFaultAt most t b) (first_fault most t b (reading_of t b)) r (found_first most t b ready) (ap (first_fault most t b) (sym read) ∙ sym is)
 
--- where none is found, there is none
+-- if none is found, there is none
 pub no_fault : (most : ℕ) (t : Tables) (b : Body) (reading : Reading) → IsReady t b → reading ≡ reading_of t b → None ≡ first_fault most t b reading → HasNoNetFault most t b
 no_fault most t b reading ready read is = subst (IsFirst (IsNetFaultAt most t b)) (ap (first_fault most t b) (sym read) ∙ sym is) (found_first most t b ready)
 
@@ -80,7 +80,7 @@ none_misfit most t b reading is =
     let two = refusal_none (refused E03 (searching.too_many most reading.agents)) (refused E07 (misfit_in_body t b)) all.0 in
     body_fits t b (refused_none E07 (misfit_in_body t b) two.1)
 
--- and each name stands twice
+-- and each name occurs twice
 pub none_miscounted : (most : ℕ) (t : Tables) (b : Body) → IsReady t b → None ≡ first_fault most t b (reading_of t b) →
     AreTwice (reading_of t b).spots (counted_from 0 (reading_of t b).spots (none_seen (length (reading_of t b).names)))
 none_miscounted most t b ready is =

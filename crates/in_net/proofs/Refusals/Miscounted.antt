@@ -1,4 +1,4 @@
--- What is miscounted among the spots is what is miscounted in the text.
+-- The miscounted names among the spots are those of the text.
 use Rattle.std.proofs.Common.{◌≡◌, ◌≢◌, ◌⊎◌, inl, inr, ℕ, zero, suc, ◌<◌, ◌≤◌, List, [], ◌∷◌, length, Some, None, option_map, slice_get, refl, sym, ◌∙◌, ap, subst, arith}
 use Rattle.std.proofs.lemmas.Option.{slice_get-get_or, slice_get_within, same_Some}
 use Rattle.std.proofs.lemmas.Bool.{cases_eq, cases_lt}
@@ -344,11 +344,11 @@ module _ (t : Tables) (body : Body) (r : Reading) (names : AreNamesRead t body r
   of_text _ (IsMiscountedAt.missing f among none) = inr (of_missing f among none)
   of_text _ (IsMiscountedAt.second f u v among a b first only) = inl (of_second f u v among a b first only)
 
-  -- the first name of the text that stands once or too often
+  -- the first name of the text that occurs once or too often
   pub names_least : IsLeast (IsMiscountedAt t body) (miscounted (length r.names) r.spots body.free)
   names_least = least_same Miscounts (IsMiscountedAt t body) (miscounted (length r.names) r.spots body.free) to_text of_text (miscounted_least r.spots (length r.names) body.free inside)
 
-  -- ---- where none is miscounted, each name stands twice
+  -- ---- where none is miscounted, each name occurs twice
 
   lonely_none : miscounted (length r.names) r.spots body.free ≡ None → (q : Place) → Miscounts q → ⊥
   lonely_none none q h = (subst (IsLeast Miscounts) none (miscounted_least r.spots (length r.names) body.free inside)) q h

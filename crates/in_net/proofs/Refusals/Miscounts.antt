@@ -1,4 +1,4 @@
--- The first spot of a name that stands once or for the third time.
+-- The first spot of a name that occurs once, or its third spot.
 use Rattle.std.proofs.Common.{◌≡◌, ◌≢◌, ◌⊎◌, inl, inr, ℕ, zero, suc, ◌+◌, ◌<◌, ◌≤◌, List, [], ◌∷◌, length, Option, Some, None, slice_get, refl, sym, ◌∙◌, ap, subst, arith, set}
 use Rattle.std.proofs.lemmas.List.{length-set, get_or-set_same, get_or-set_other}
 use Rattle.std.proofs.lemmas.Bool.{cases_eq, cases_lt}
@@ -188,7 +188,7 @@ module _ (spots : List Spot) (names : ℕ) (inside : (i m : ℕ) → i < length 
 
 -- ---- a name's only spot
 
--- the spot of that number is the only one of its name, and stands at the place
+-- the spot of that number is the only one of its name, and is at the place
 pub record IsOnlyAt (spots : List Spot) (free : List SourceFree) (q : Place) : Type 0 where
   pub name : ℕ
   pub one : ℕ
@@ -252,7 +252,7 @@ module _ (spots : List Spot) (names : ℕ) (free : List SourceFree) (inside : (i
       let m_in = inside h.one h.name h.inside h.has in
       at_any spots free all.seen q h.name (omega (arith, m_in, done.count)) (h.one, seen_once spots (length spots) h.name h.one (nth_seen all.seen h.name) (done.seen h.name m_in) h.inside h.has h.only, h.stands)
 
-  -- the first spot of a name that stands once or for the third time
+  -- the first spot of a name that occurs once or for the third time
   pub miscounted_least : IsLeast (λ q. IsThirdAt spots (length spots) q ⊎ IsOnlyAt spots free q) (miscounted names spots free)
   miscounted_least =
       least_earlier (IsThirdAt spots (length spots)) (IsOnlyAt spots free) all.third (lonely spots free all.seen) done.third

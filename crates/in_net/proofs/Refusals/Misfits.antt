@@ -45,7 +45,7 @@ agents_least most t b =
 
 -- ---- numbers of arguments
 
--- the term has another number of arguments, and stands there
+-- the term has another number of arguments, and is there
 pub record IsMisfit (t : Tables) (q : Place) (u : Term) : Type 0 where
   pub symbol : ℕ
   pub agent : IsAgentOfTerm t u symbol

@@ -1,4 +1,4 @@
--- What is seen of a name before a spot, and one spot more.
+-- The spots of a name before a spot, and one spot more.
 use Rattle.std.proofs.Common.{◌≡◌, ◌⊎◌, inl, inr, ℕ, ◌+◌, ◌<◌, ◌≤◌, List, Some, subst, arith}
 use Rattle.std.proofs.lemmas.Bool.{cases_lt}
 use Rattle.in_net.specs.declared.reading.Spot.{Spot}

@@ -1,4 +1,4 @@
--- What is read stays read: joints and variables of a text that stand among the spots.
+-- What is read stays read: joints and variables of a text that are among the spots.
 use Rattle.std.proofs.Common.{◌≡◌, ◌≢◌, ℕ, ◌+◌, ◌<◌, List, [], ◌++◌, length, length-append, refl, sym, ◌∙◌, ap, subst, arith}
 use Rattle.in_syntax.specs.declared.places.Place.{Place}
 use Rattle.in_syntax.specs.declared.tree.Term.{Term}
@@ -25,7 +25,7 @@ pub record IsSettled (r : Reading) (x y : text.Spot) (p : Place) : Type 0 where
   pub other : named (nth_spot r.spots (nth_link (links_of r) spot).to) ≡ y
   pub place : (nth_link (links_of r) spot).place ≡ p
 
--- a variable's occurrence stands at a spot, with the number of its name
+-- a variable's occurrence is at a spot, with the number of its name
 pub record IsHeldAt (r : Reading) (v : Term) : Type 0 where
   pub spot : ℕ
   pub number : ℕ

@@ -1,4 +1,4 @@
--- What was read of a list at an index, and which indices are in range.
+-- The reading of a list at an index, and which indices are in range.
 use Rattle.std.proofs.Common.{◌≡◌, ◌<◌, ℕ, true, false, Option, Some, None, is_some, List, length, slice_get, get_or, refl, ◌∙◌}
 use Rattle.std.specs.Prelude.{option_and_then}
 use Rattle.std.proofs.lemmas.Option.{slice_get_read, slice_get_within, get_or_from_slice_get}

@@ -1,4 +1,4 @@
--- The spots of names are those of the text's variables and free names, whatever the numbers of arguments.
+-- The spots of names are those of the text's variables and free names, for any numbers of arguments.
 use Rattle.std.proofs.Common.{◌≡◌, ◌⊎◌, inl, inr, ℕ, zero, suc, ◌+◌, ◌<◌, List, [], ◌∷◌, ◌++◌, length, length-append, map, Option, Some, None, refl, sym, ◌∙◌, ap, subst, arith, append_assoc, append-nil}
 use Rattle.std.specs.List.{AllByRecursion}
 use Rattle.in_syntax.specs.declared.places.Place.{Place}
@@ -63,7 +63,7 @@ adds_both t b p q r h k = record {
   named_as = λ x. k.named_as (h.named_as x);
 }
 
--- a variable that stands at a spot stays there
+-- a variable that is at a spot stays there
 pub held_on : (t : Tables) (b : Body) (p q : Reading) (v : Term) → Adds t b p q → IsHeldAt p v → IsHeldAt q v
 held_on t b p q v h s = record {
   spot = s.spot;
@@ -262,7 +262,7 @@ adds_ends t b r (suc n) = record {
   named_as = λ h. all_append _ r.spots (boundary_spots (length r.spots) (suc n)) h (ends_named t b r.names (length r.spots) (suc n));
 }
 
--- the names that are read of a body: each variable stands at a spot, and the free ends are the first spots
+-- the names that are read of a body: each variable is at a spot, and the free ends are the first spots
 pub record AreNamesRead (t : Tables) (b : Body) (r : Reading) : Type 0 where
   pub named_as : AllByRecursion (IsNamed t b r.names) r.spots
   pub held : (u : Term) → IsTermOf b u → IsVariable t u → IsHeldAt r u

@@ -47,7 +47,7 @@ pub record IsNetRead (t : Tables) (b : Body) (free count : ℕ) (r : Reading) : 
 
 -- ---- equations
 
--- the joint of an equation and those in its terms stand among the spots
+-- the joint of an equation and those in its terms are among the spots
 pub record IsEquationHeld (t : Tables) (e : Equation) (r : Reading) : Type 0 where
   pub joint : IsSettled r (spot_of t e.left) (spot_of t e.right) e.tilde
   pub left : IsHeldIn t e.left r

@@ -1,4 +1,4 @@
--- The spots of names stand in the order of the text.
+-- The spots of names are in the order of the text.
 use Rattle.std.proofs.Common.{◌≡◌, ◌≢◌, ◌⊎◌, inl, inr, ℕ, zero, suc, ◌+◌, ◌<◌, ◌≤◌, List, [], ◌∷◌, ◌++◌, length, map, Option, Some, None, refl, sym, ◌∙◌, ap, subst, arith, append_assoc, append-nil}
 use Rattle.std.specs.List.{AllByRecursion, flat_map}
 use Rattle.in_syntax.specs.declared.places.Place.{Place}
@@ -152,7 +152,7 @@ roots_ends r (suc n) = roots_append r.spots (boundary_spots (length r.spots) (su
 abbrev pub body_places : Body → List Place
 body_places b = name_places_in b.heads ++ name_places b.equations
 
--- what is read of a body stands in the order of its text
+-- what is read of a body is in the order of its text
 pub roots_rise : (t : Tables) (b : Body) → Rises (body_places b) → Rises (root_places (reading_of t b).spots)
 roots_rise t b order =
     let ends : Reading = with_ends (reads_free b.free) (ends_of t b.heads) in

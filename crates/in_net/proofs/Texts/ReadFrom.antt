@@ -1,4 +1,4 @@
--- What is read of a net is in range, and not too much.
+-- The reading of a net is in range, and not too large.
 use Rattle.std.proofs.Common.{◌≡◌, ℕ, suc, ◌+◌, ◌<◌, ◌≤◌, List, [], ◌∷◌, length, refl, sym, subst, arith, get_or}
 use Rattle.std.specs.List.{AllByRecursion}
 use Rattle.in_syntax.specs.Grammar.{max_free}

@@ -1,4 +1,4 @@
--- A term is read: what is added is joined, but for the term's own spot.
+-- A term is read: the added spots are joined, except for the term's own.
 use Rattle.std.proofs.Common.{◌≡◌, ◌≢◌, ◌⊎◌, inl, inr, ℕ, zero, suc, ◌+◌, ◌<◌, ◌≤◌, true, List, [], ◌∷◌, ◌++◌, length, map, Option, Some, None, IsSome, refl, sym, ◌∙◌, ap, subst, arith, slice_get, length-append, append_assoc, append-nil}
 use Rattle.std.proofs.lemmas.Option.{none-some}
 use Rattle.std.specs.List.{AllByRecursion}
@@ -30,7 +30,7 @@ use Rattle.in_net.proofs.Texts.Read.{name_there, grows_by, IsRead, with_agent_re
 use Rattle.std.proofs.lemmas.Bool.{and_parts, cases_eq, cases_lt}
 use Rattle.in_syntax.proofs.Public.{names_out, term_by_arguments}
 
--- the joints of a term's arguments and its variables stand among the spots
+-- the joints of a term's arguments and its variables are among the spots
 pub record IsHeldIn (t : Tables) (u : Term) (r : Reading) : Type 0 where
   pub arguments : (v w : Term) (i : ℕ) → IsPartOf v u → IsSome (number_in (name_of v) t.names) → slice_get (out-Term v).args i ≡ Some w → IsSettled r (text.port_at (place_of v) (suc i)) (spot_of t w) (place_of w)
   pub variables : (v : Term) → IsPartOf v u → IsVariable t v → IsHeldAt r v

@@ -1,4 +1,4 @@
--- The free ends of a net and the boundary ends of a rule are joined to what the first spots are joined to.
+-- The free ends of a net and the boundary ends of a rule have the partners of the first spots.
 use Rattle.std.proofs.Common.{◌≡◌, ℕ, zero, suc, ◌+◌, ◌-◌, List, [], ◌∷◌, ◌++◌, length, length-append, append_assoc, map, refl, sym, ◌∙◌, ap, arith}
 use Rattle.std.proofs.lemmas.List.{map-append}
 use Rattle.std.specs.List.{AllByRecursion}

@@ -18,7 +18,7 @@ use Rattle.in_net.specs.Building.{nth_spot, nth_link, nth_agent, IsPointSpot, po
 use Rattle.in_net.specs.Built.{IsEnd, IsNumbered, AreJoinedTo}
 use Rattle.in_net.specs.Parts.{Parts, as_built, cell_in, partner_in}
 
--- the point stands at the spot of that number
+-- the point is at the spot of that number
 pub record Stands (spots : List Spot) (p : Point) (k : ℕ) : Type 0 where
   pub inside : k < length spots
   pub point : IsPointSpot (nth_spot spots k)
@@ -41,7 +41,7 @@ module _ (spots : List Spot) (links : List Link) (joined : IsJoined spots links)
           let self = joined.alone (nth_link links i).to (joined.inside i lt) x in
           absurd (joined.apart i lt h (sym self ∙ ap (λ (l : Link). l.to) (joined.back i lt)))
 
-  -- the partner stands at the spot that a point's spot is joined to, and so back
+  -- the partner is at the spot that a point's spot is joined to, and so back
   pub partner_stands : (p : Point) (k : ℕ) → Stands spots p k → Stands spots (partner_of spots links k) (nth_link links k).to
   partner_stands p k h = record { inside = joined.inside k h.inside; point = point_to k h.inside h.point; is = refl }
 
@@ -125,7 +125,7 @@ module _ (t : Tables) (free : List FreeEnd) (r : Reading) (links : List Link) (n
       by_spots (spot.End a) (spot.Occurrence c y) e f m n same = absurd n
       by_spots (spot.Occurrence a x) u e f m n same = absurd m
 
-  -- the partner of a point that stands there
+  -- the partner of a point that is there
   pub partner_at : (p : Point) (k : ℕ) → Stands r.spots p k → partner_in net p ≡ Some (partner_of r.spots links k)
   partner_at p k h = subst (λ p. partner_in net p ≡ Some (partner_of r.spots links k)) h.is (by_spot (nth_spot r.spots k) refl h.point)
     where

@@ -21,11 +21,11 @@ use Rattle.std.proofs.lemmas.Option.{same_Some, slice_get_within}
 use Rattle.in_net.proofs.WholeNets.WireAt.{has_partner}
 use Rattle.in_base.proofs.Each.{at_index}
 
--- a wire of the text from a spot is one wire: it leads to one spot, and stands at one place
+-- a wire of the text from a spot is one wire: it leads to one spot, and is at one place
 abbrev pub AreSingle : Tables → Body → Type 0
 AreSingle t b = (x y z : Spot) (p q : Place) → IsWireOf t b x y p → IsWireOf t b x z q → (y ≡ z) × (p ≡ q)
 
--- what the order of a text says of its agents: they stand at different places
+-- by the order of a text its agents have different places
 abbrev pub StandApart : List Place → Type 0
 StandApart ps = (i j : ℕ) (p : Place) → slice_get ps i ≡ Some p → slice_get ps j ≡ Some p → i ≡ j
 

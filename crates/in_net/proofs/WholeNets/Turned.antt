@@ -17,7 +17,7 @@ module _ (t : Tables) (free : ℕ) (r : Reading) (numbered : IsNumbered t free r
   end_before : (k l a c : ℕ) → k < length r.spots → l < length r.spots → IsEnd (nth_spot r.spots k) a → IsEnd (nth_spot r.spots l) c → k < l → a < c
   end_before k l a c k_in l_in x y lt = let one = (numbered.end k a k_in x).0 in let other = (numbered.end l c l_in y).0 in omega (arith, one, other, lt)
 
-  -- no port stands before an end
+  -- no port is before an end
   no_port : (k l a i c : ℕ) (p : Place) → l < length r.spots → nth_spot r.spots k ≡ spot.Port a i p → IsEnd (nth_spot r.spots l) c → k < l → ⊥
   no_port k l a i c p l_in is y lt =
       let end = numbered.end l c l_in y in
@@ -27,7 +27,7 @@ module _ (t : Tables) (free : ℕ) (r : Reading) (numbered : IsNumbered t free r
   port_is : (a c i j : ℕ) (p q : Place) → spot.Port a i p ≡ spot.Port c j q → a ≡ c
   port_is a c i j p q e = cc
 
-  -- ports of an agent stand before those of a later one
+  -- ports of an agent are before those of a later one
   ports_before : (k l a c i j : ℕ) (p q : Place) → k < length r.spots → l < length r.spots → nth_spot r.spots k ≡ spot.Port a i p → nth_spot r.spots l ≡ spot.Port c j q → k < l → (a < c) ⊎ ((a ≡ c) × (i < j))
   ports_before k l a c i j p q k_in l_in is at lt = by_order (cases_eq a c) (cases_lt a c)
     where

@@ -31,7 +31,7 @@ use Rattle.in_net.proofs.Refusals.Standing.{IsStanding}
 use Rattle.in_net.proofs.Wiring.Ways.{nth_seen, IsMet, kind_of, IsOpen, IsWay, IsJoiningAt}
 use Rattle.in_net.proofs.Wiring.Naming.{AreOfText, IsLast, step_on}
 
--- ---- a name that stands twice stands no third time
+-- ---- a name that occurs twice stands no third time
 
 often_named : (seen : List Seen) (at m : ℕ) (o : Option ℕ) → m < length seen → nth_seen seen m ≡ Often → nth_seen (count_name seen at o) m ≡ Often
 often_named seen at m None lt is = is
@@ -173,7 +173,7 @@ module _ (t : Tables) (b : Body) (free count : ℕ) (r : Reading) (net : IsNetRe
   start_open i lt (Free k m) is o = absurd (subst IsMet (nth_none (length r.names) m) o)
   start_open i lt (Occurrence m p) is o = beyond i lt (λ k n e. let wrong : Occurrence m p ≡ Free k n = sym is ∙ e in cc)
 
-  -- and so is what it is joined to
+  -- and so is its partner
   to_beyond : (i : ℕ) → i < length spots → length b.free ≤ i → length b.free ≤ (nth_link (links_of r) i).to
   to_beyond i lt from = part (cases_lt (nth_link (links_of r) i).to (length b.free))
     where

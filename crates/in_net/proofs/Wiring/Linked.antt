@@ -1,4 +1,4 @@
--- What one spot is joined to, after each step of the reading.
+-- The partner of one spot, after each step of the reading.
 use Rattle.std.proofs.Common.{◌≡◌, ◌≢◌, ◌⊎◌, inl, inr, ℕ, zero, suc, ◌+◌, ◌-◌, ◌<◌, ◌≤◌, List, [], ◌∷◌, ◌++◌, length, length-append, refl, sym, ◌∙◌, ap, arith, get_or, set}
 use Rattle.std.proofs.lemmas.List.{get_or_append_left, get_or-append-add, length-set, get_or-set_same, get_or-set_other, set-append_left}
 use Rattle.std.proofs.lemmas.Bool.{cases_lt}

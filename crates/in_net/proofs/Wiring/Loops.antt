@@ -27,8 +27,7 @@ among_turned d p (q ∷ ps) (inr h) = by_rest (among_turned d p ps h)
     by_rest (inl e) = inl e
     by_rest (inr h) = inr (inr h)
 
--- a chain to this spot, with the places `along`, stays on a closed wire with the places `ps`: the wire goes on from there, and
--- leads back
+-- a chain to this spot, with the places `along`, stays on a closed wire with the places `ps`: the wire continues from there, and leads back
 pub record IsFollowed (t : Tables) (b : Body) (l : Kind) (y : Spot) (along ps : List Place) : Type 0 where
   pub occurs : IsOccurrence y
   pub within : (d : Place) → IsAmong d along → IsAmong d ps

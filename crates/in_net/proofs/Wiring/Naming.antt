@@ -194,7 +194,7 @@ module _ (t : Tables) (b : Body) (names : List (List ℕ)) (spots : List Spot) (
     round_back : q ≡ a
     round_back = ap (λ k. (nth_link links k).to) (sym shut.round) ∙ to_of a two.a_in
 
-    -- what another spot is joined to is none of the two
+    -- the partner of another spot isn't one of the two
     to_other : (i : ℕ) → i < length spots → i ≢ a → i ≢ at → ((nth_link links i).to ≢ a) × ((nth_link links i).to ≢ at)
     to_other i lt x y =
         ((λ e. y (sym (to_of i lt) ∙ ap (λ k. (nth_link links k).to) e ∙ shut.round)), (λ e. x (sym (to_of i lt) ∙ ap (λ k. (nth_link links k).to) e ∙ round_back)))
@@ -212,7 +212,7 @@ module _ (t : Tables) (b : Body) (names : List (List ℕ)) (spots : List Spot) (
         ap (λ (l : Link). nth_link new l.to) (shut.rest i e f) ∙ shut.rest (nth_link links i).to there.0 there.1 ∙ h.back i lt
         ∙ ap (λ (l : Link). let k : Link = record { to = i; place = l.place } in k) (sym (shut.rest i e f))
 
-    -- an end is none of the two
+    -- an end isn't one of the two
     end_other : (i : ℕ) → Open2 i → (i ≢ a) × (i ≢ at)
     end_other i open_ = ((λ e. not_open2 a first_occurs.0 first_occurs.1 (subst Open2 e open_)), (λ e. not_open2 at two.second.0 two.second.1 (subst Open2 e open_)))
 
@@ -247,7 +247,7 @@ module _ (t : Tables) (b : Body) (names : List (List ℕ)) (spots : List Spot) (
       closed = earlier_by {P = IsClosedWireOf t b} j.closed closed h.closed closed_here;
     }
 
-  -- ---- the wire goes on
+  -- ---- the wire continues
   module _ (new : List Link) (closed : Option Place) (size : length new ≡ length spots) (on : IsOpened links new a at p q closed) where
     abbrev pub after_opened : Joining
     after_opened = record { links = new; seen = seen2; closed = earlier j.closed closed }
@@ -377,7 +377,7 @@ module _ (t : Tables) (b : Body) (names : List (List ℕ)) (spots : List Spot) (
     way_4 i lt open_ (is_a e x) = absurd (no_end_a x (subst Open2 e open_))
     way_4 i lt open_ (is_else x y z w) = subst (Way4 i) (sym (on.rest i x y z w)) (h.way i lt (old_end i lt x y open_))
 
-    -- a spot that is joined to nothing, and isn't one of the two, is none of the four
+    -- a spot without a partner that isn't one of the two isn't one of the four
     not_joined : (i : ℕ) → i < length spots → i ≢ a → i ≢ at → (nth_link links i).to ≡ i → (i ≢ p) × (i ≢ q)
     not_joined i lt x y self = (
       (λ e. x (sym self ∙ ap (λ k. (nth_link links k).to) e ∙ to_of a two.a_in)),

@@ -1,4 +1,4 @@
--- At each place of a text stands one joint.
+-- Each place of a text has one joint.
 use Rattle.std.proofs.Common.{◌≡◌, ◌≢◌, ◌⊎◌, inl, inr, ℕ, ◌<◌, ◌≤◌, List, [], ◌∷◌, ◌++◌, length, Option, Some, None, refl, sym, ◌∙◌, ap, subst, arith}
 use Rattle.std.specs.List.{flat_map}
 use Rattle.std.proofs.lemmas.Bool.{cases_eq, cases_lt}
@@ -25,7 +25,7 @@ use Rattle.in_net.proofs.Texts.TextPlaces.{text_places, argument_of, part_place}
 
 -- ---- what stands in two parts of places that rise
 
--- what stands in the first part stands before what stands in the second one
+-- what stands in the first part is before what stands in the second one
 rises_between : (xs ys : List Place) (p q : Place) → Rises (xs ++ ys) → IsAmong p xs → IsAmong q ys → p.from < q.from
 rises_between [] ys p q up h k = absurd h
 rises_between (x ∷ xs) ys p q up (inl e) k = subst (λ p. p.from < q.from) e (among_all (λ q. x.from < q.from) (xs ++ ys) q up.0 (among_right q xs ys k))
@@ -144,7 +144,7 @@ abbrev pub AreOne : text.Spot → text.Spot → text.Spot → text.Spot → Type
 AreOne x y u v = ((x ≡ u) × (y ≡ v)) ⊎ ((x ≡ v) × (y ≡ u))
 
 module _ (t : Tables) (b : Body) (r : Reading) (h : IsReadWhole t b r) (up : Rises (text_places b)) where
-  -- spots of terms whose first tokens stand at one byte are one
+  -- spots of terms whose first tokens are at one byte are one
   one_root : (x y z w : text.Spot) (p q : Place) → PlacedJoint t b x y p → PlacedJoint t b z w q → LeadsToTerm t b y p → LeadsToTerm t b w q → p.from ≡ q.from → y ≡ w
   one_root x y z w p q j k a c same =
       let s = settled_of t b r h x y p j in
@@ -197,7 +197,7 @@ module _ (t : Tables) (b : Body) (r : Reading) (h : IsReadWhole t b r) (up : Ris
   pub one_joint : (x y z w : text.Spot) (p q : Place) → PlacedJoint t b x y p → PlacedJoint t b z w q → p.from ≡ q.from → AreOne x y z w
   one_joint x y z w p q j k same = by_sorts x y z w p q j k same (sort_of t b x y p j) (sort_of t b z w q k)
 
-  -- so links of two spots stand at one place only where they are one link
+  -- so links of two spots are at one place only where they are one link
   pub links_apart : (i j : ℕ) → i < length r.spots → j < length r.spots → (nth_link (links_of r) i).to ≢ i → (nth_link (links_of r) j).to ≢ j → (nth_link (links_of r) i).place.from ≡ (nth_link (links_of r) j).place.from →
       (i ≡ j) ⊎ ((nth_link (links_of r) i).to ≡ j)
   links_apart i j i_in j_in i_to j_to same =

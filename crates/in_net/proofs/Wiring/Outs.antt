@@ -1,4 +1,4 @@
--- Where a chain leads from each occurrence whose name is joined: to an end of what is joined so far, or round a closed wire.
+-- The end of the chain from each occurrence whose name is joined: an end of what is joined so far, or round a closed wire.
 use Rattle.std.proofs.Common.{if◌then◌else◌, ◌≡◌, ◌≢◌, ◌⊎◌, inl, inr, ℕ, ◌<◌, ◌≤◌, Bool, true, false, nat_lt, ltb-true, ltb-false, List, ◌++◌, length, Option, Some, None, refl, sym, ◌∙◌, ap, subst, arith, set}
 use Rattle.std.proofs.lemmas.List.{get_or-set_same}
 use Rattle.std.proofs.lemmas.Option.{same_Some}
@@ -175,7 +175,7 @@ module _ (t : Tables) (b : Body) (names : List (List ℕ)) (spots : List Spot) (
   still_open : (i : ℕ) → i < length spots → i ≢ a → i ≢ at → IsOpen j.seen (nth_spot spots i) → IsOpen seen2 (nth_spot spots i)
   still_open i lt x y open_ = open_on j.seen m Twice (nth_spot spots i) (two.is_one_of i lt x y) open_
 
-  -- where chains lead on from the two, that came to them or begin there
+  -- where chains lead on from the two, if they reached them or begin there
   module _ (closed : Option Place) where
     abbrev Out2 : text.Spot → Type 0
     Out2 s = IsOut t b spots seen2 (earlier j.closed closed) s
@@ -247,7 +247,7 @@ module _ (t : Tables) (b : Body) (names : List (List ℕ)) (spots : List Spot) (
         end = inr (round_of t b j.closed closed (nth_spot spots at) (nth_spot spots a) (nth_link links a).place held_at held_a joint_back way_a shut.place);
       }
 
-  -- the wire goes on
+  -- the wire continues
   opened_out : (closed : Option Place) → p ≢ at → AreOut t b spots seen2 (earlier j.closed closed)
   opened_out closed on = by_first (spot_named (nth_spot spots a) m two.first.1)
     where

@@ -213,7 +213,7 @@ module _ (t : Tables) (b : Body) (r : Reading) (h : IsReadWhole t b r) where
 
   -- ---- chains
 
-  -- a free end goes on by its name, a boundary end by a joint of a place
+  -- a free end continues by its name, a boundary end by a joint of a place
   abbrev kind_from : text.Spot → Kind
   kind_from (text.port_at p i) = placed
   kind_from (text.free_end k) = cond (nat_lt k (length b.free)) of_name placed

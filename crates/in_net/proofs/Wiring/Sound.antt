@@ -104,7 +104,7 @@ module _ (t : Tables) (b : Body) (spots : List Spot) (links : List Link) (count 
       go (inr e) (inl f) = is_other f
       go (inr e) (inr f) = is_third e f
 
-  -- what a third spot is joined to is none of the two
+  -- the partner of a third spot isn't one of the two
   not_to : (k i : ℕ) → i < length spots → (nth_link links k).to ≡ k → i ≢ k → (nth_link links i).to ≢ k
   not_to k i lt alone differs e =
       differs (sym (ap (λ (l : Link). l.to) (sym (ap (λ j. nth_link links j) e) ∙ linked.back i lt)) ∙ alone)

@@ -88,7 +88,7 @@ module _ (t : Tables) (b : Body) (free : List FreeEnd) (r : Reading) (links : Li
         place = way.last;
       }
 
-  -- two wires stand at two places
+  -- two wires are at two places
   places_apart : AreApart (length r.spots) links → (v w : ℕ) (d : Wire) → v < w → w < length wires → (get_or wires v d).place.from ≢ (get_or wires w d).place.from
   places_apart apart v w d lt in_ same =
       let one : wire_in net v ≡ Some ((get_or wires v d).one, (get_or wires v d).other) = ap (option_map {T = Wire} {U = Point × Point} (λ u. (u.one, u.other))) (slice_get-get_or wires v d (omega (arith, lt, in_))) in
@@ -178,14 +178,14 @@ module _ (t : Tables) (b : Body) (good : IsGood t b) where
       let le = early.no_later in
       omega (arith, from, le)
 
-  -- where none is found, there is none
+  -- if none is found, there is none
   pub read_none : (joining_of (reading_of t b)).closed ≡ None → (q : Place) → IsClosedWireOf t b q → ⊥
   read_none none q wire =
       let early = found_first t b (ends_in t b) (names_in_body b) (reading_of t b) read.net names good.ready.differ rises good.twice read_whole q wire in
       let wrong : None ≡ Some early.found = sym none ∙ early.is in
       cc
 
-  -- no two of its joints, and so no two of its wires, stand at one place
+  -- no two of its joints, and so no two of its wires, are at one place
   pub read_apart : AreApart (length (reading_of t b).spots) (joining_of (reading_of t b)).links
   read_apart =
       let r : Reading = reading_of t b in

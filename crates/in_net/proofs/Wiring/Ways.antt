@@ -40,7 +40,7 @@ IsOpen seen (Free k m) = IsMet (nth_seen seen m)
 IsOpen seen (End k) = Unit {0}
 IsOpen seen (Occurrence m p) = IsMet (nth_seen seen m) → ⊥
 
--- a chain of the text leads from one to the other, and stands at that place
+-- a chain of the text leads from one to the other, and is at that place
 pub record IsWay (t : Tables) (b : Body) (s u : Spot) (place : Place) : Type 0 where
   pub places : List Place
   pub chain : Chain t b (kind_of s) (kind_of u) (named s) (named u) places

@@ -55,7 +55,7 @@ times_some f n (y ∷ ys) h = elim (cases_Bool (is_among n (f y))) [
 ]
 
 module _ (o : OpenNet) where
-  -- the nodes that are a step's own stand in one step
+  -- the nodes that are a step's own are in one step
   pub is_node : (step : Step) (n : ℕ) (xs : List Part) (x : Part) → Joins o step xs x → is_among n (own_nodes step) ≡ true → IsNode o n
   is_node Empty n xs x j h = cc
   is_node (Link l) n xs x j h = cc
@@ -71,7 +71,7 @@ module _ (o : OpenNet) where
   is_node (Mix a b) n xs x j h = cc
 
 module _ (o : OpenNet) (net : IsOpenNet o) (steps : List Step) (d : IsDerivation o steps) where
-  -- a node of a part stands in a step up to it
+  -- a node of a part is in a step up to it
   stands : (b k : ℕ) → k < b → (step : Step) → slice_get steps k ≡ Some step → (x : Part) → slice_get d.parts k ≡ Some x → (m : ℕ) → IsIn m x.nodes → (j : ℕ) × (j ≤ k) × (y : Step) × (slice_get steps j ≡ Some y) × (is_among m (own_nodes y) ≡ true)
   stands zero k l step e x g m h = absurd (omega arith)
   stands (suc b) k l step e x g m h =

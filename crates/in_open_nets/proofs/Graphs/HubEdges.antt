@@ -18,7 +18,7 @@ module _ (g : Graph) (Has : g.Node → ℕ → Type 0) (has : AreNodeClasses g H
     abbrev Touches : g.Node → Type 0
     Touches m = (i : ℕ) × (l : g.Node) × (h : ℕ) × g.Wire (n, i) (l, h) × (g.class n i ≡ c) × Linked g (Without n s) l m
 
-    -- where a walk from class c of n can come to without its hub edge
+    -- the nodes that a walk from class c of n can reach without its hub edge
     abbrev Reached : Vertex g.Node → Type 0
     Reached (Hub m) = (m ≢ n) × Touches m
     Reached (Class m k) = ((m ≡ n) × (k ≡ c)) ⊎ ((m ≢ n) × Touches m)

@@ -88,6 +88,6 @@ marks_first n ms few size none = record {
 pub has_mark : (last : ℕ) (ms : List ℕ) (now : List Bool) (n : ℕ) → marked last ms ≡ now → n < length now → n < length ms
 has_mark last ms now n e l = let a = marked_many last ms in let b = ap length e in omega arith
 
--- what is as it is to be stays so
+-- right marks stay right
 pub same_set : (bits : List Bool) (n : ℕ) (b : Bool) → nodes_in bits n ≡ b → bits ≡ set bits n b
 same_set bits n b e = sym (subst (λ z. set bits n z ≡ bits) e (set-get_or bits n false))

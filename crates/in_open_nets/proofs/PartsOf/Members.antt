@@ -30,7 +30,7 @@ among_get [] i l = absurd (omega arith)
 among_get (n ∷ ns) zero l = inl refl
 among_get (n ∷ ns) (suc i) l = inr (among_get ns i (omega arith))
 
--- one that is not past the first i is none of them, and one below the next one is
+-- one that isn't past the first i isn't one of them, and one below the next one is
 gap : (low : ℕ) (ns : List ℕ) (m i : ℕ) → RisesThrough low ns → Among m ns → i < length ns → m < get_or ns i 0 → m < past ns i
 gap low [] m i r h l b = absurd h
 gap low (n ∷ ns) m zero r (inl e) l b = absurd (omega arith)

@@ -1,4 +1,4 @@
--- What a node leaves of a set in one piece is in one piece, where its neighbours are joined without it.
+-- A set in one piece without a node is in one piece, if the node's neighbours are joined without it.
 use Rattle.std.proofs.Common.{◌≡◌, ◌⊎◌, ◌<◌, ◌≤◌, ◌+◌, ◌∙◌, ℕ, suc, Bool, true, false, true≢false, None, Some, List, [], ◌∷◌, length, refl, sym, subst, inl, inr, arith}
 use Rattle.std.proofs.Math.ListN.{set}
 use Rattle.std.proofs.lemmas.Bool.{false_from_ne_true}

@@ -54,7 +54,7 @@ next_found found place node l e =
     subst (λ z. drop place found ≡ node ∷ drop z found) (sym (add-one place))
     (subst (λ z. drop place found ≡ z ∷ drop (suc place) found) (sym (e ∙ any_default found place node 0 l)) (drop_here found place l))
 
--- a search goes on from the next node that was found
+-- a search continues from the next node that was found
 pub next_node : (o : OpenNet) (within r : List Bool) (from : ℕ) (found : List ℕ) (place node : ℕ) → place < length found → node ≡ get_or found place node →
     IsSearch o within from r (drop place found) → IsSearch o within from r (node ∷ drop (place + 1) found)
 next_node o within r from found place node l e s = subst (λ (q : List ℕ). IsSearch o within from r q) (next_found found place node l e) s

@@ -1,4 +1,4 @@
--- A search goes by one port: what it leads to is reached, or was reached before, or isn't in the part.
+-- A search follows one port: the node there is reached, or was reached before, or isn't in the part.
 use Rattle.std.proofs.Common.{◌≡◌, ◌+◌, ℕ, Bool, true, false, List, [], ◌∷◌, ◌++◌, ◌∙◌, length, length-append, drop, refl, sym, subst, inl, inr, arith}
 use Rattle.std.proofs.Math.ListN.{set}
 use Rattle.std.proofs.lemmas.Bool.{cases_Bool}

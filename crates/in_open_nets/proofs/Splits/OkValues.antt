@@ -1,4 +1,4 @@
--- What holds of the value of an answer that is no refusal.
+-- Properties of the value of a result that is no refusal.
 use Rattle.std.proofs.Common.{Result, Ok, Err}
 use Rattle.std.specs.Prelude.{IfOk}
 

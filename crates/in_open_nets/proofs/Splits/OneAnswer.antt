@@ -1,4 +1,4 @@
--- What is answered of sets of nodes is one.
+-- The calls on sets of nodes have one result.
 use Rattle.std.proofs.Common.{◌≡◌, ◌⊎◌, ◌≤◌, ◌∙◌, inl, inr, ℕ, suc, Bool, false, List, [], ◌∷◌, length, Some, None, refl, sym, subst, ap, arith}
 use Rattle.std.proofs.lemmas.List.{ext_get_or}
 use Rattle.in_open_nets.specs.Laws.{ComponentIsOne, FirstSplittingIsOne, MembersAreListedOnce, RestIsOne, SetIsItsMembers, UnionIsOne}

@@ -1,4 +1,4 @@
--- What the ports of a node say of whether it splits a part.
+-- Whether a node splits a part, by its ports.
 use Rattle.std.proofs.Common.{◌≡◌, ◌+◌, ℕ, Bool, false, List, Option, Some, None, sym, subst, ap, inl, inr, ◌∙◌, arith}
 use Rattle.std.specs.Option.{is_some, unwrap_or}
 use Rattle.std.proofs.lemmas.Option.{same_Some}

@@ -1,4 +1,4 @@
--- What a cycle and labels show of one node.
+-- A cycle or labels show whether one node splits a part.
 use Rattle.std.proofs.Common.{◌≡◌, ◌≢◌, ◌⊎◌, ◌+◌, ℕ, List, Bool, Option, Some, None, refl, sym, subst, ap, inl, inr, ◌∙◌, arith}
 use Rattle.std.proofs.lemmas.Option.{same_Some}
 use Rattle.std.specs.Prelude.{IsSomeAnd}
@@ -23,7 +23,7 @@ module _ (o : OpenNet) (part : List Bool) (n : ℕ) where
   abbrev pub IsClassOf : Option ℕ → ℕ → ℕ → ℕ → Type 0
   IsClassOf begun l i class = (begun ≡ Some class) ⊎ ((begun ≡ None) × (class ≡ class_in o l i))
 
-  -- by port i of l it leaves n for m, or goes on to it
+  -- by port i of l it leaves n for m, or continues to it
   abbrev Leaves : ℕ → ℕ → ℕ → Type 0
   Leaves class l i = ((l ≡ n) × (class_in o l i ≡ class)) ⊎ IsLedTo o part n class l
 

@@ -1,4 +1,5 @@
--- What a reducer that keeps a sound net has: steps, a rule for each pair, one result. As for nets that are reached, with soundness in their place.
+-- A reducer that keeps a sound net has steps, a rule for each pair, and one result: as for reached nets, with soundness in the place of being
+-- reached.
 use Rattle.std.proofs.Common.{sym, subst}
 use Rattle.in_net.specs.Built.{IsOver}
 use Rattle.in_interaction.specs.Interacting.{unused}

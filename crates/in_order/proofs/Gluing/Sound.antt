@@ -85,7 +85,7 @@ module _ (p : System) (parts : ℕ → Net ℕ) (name : ℕ → ℕ → ℕ) (cu
   is_cut (Port x k) = inr (λ h. h)
   is_cut (Free e) = some_or (cuts.across (i, e))
 
-  -- a point that isn't joined stands in the whole, with its type
+  -- a point that isn't joined is in the whole, with its type
   placed : (u : Point ℕ) → IsPoint p.symbols (parts i) u → (IsJointEndAt cuts i u → ⊥) → (v : Point ℕ) × IsPlaced cuts name i u v × (type_in p.symbols whole v ≡ type_in p.symbols (parts i) u)
   placed (Port x k) h c = (Port (name i x) k, refl, ap (λ o. elim o [ None ↦ None | Some s ↦ Some (p.symbols.type_of s k) ]) (same_symbol x))
   placed (Free e) h c =

@@ -112,7 +112,7 @@ module _ (r : Body) (k : KeepsNet r) (two : 2 ≤ length r.free.items) (own : �
   pub has_symbols : (tables : Tables) → tables ≡ t → HasSymbols tables r.arena
   has_symbols tables same y s e = subst (λ (u : Tables). IsSymbol u s) (sym same) (k.reducer.net.sound.within y s (symbol_seen r.arena fs es0 y ∙ e))
 
-  -- what a free end leads to stands at its number
+  -- what a free end leads to is at its number
   stands : (j : ℕ) (e : End) → j < own + 2 → slice_get es0 j ≡ Some e → m.partner (Free j) ≡ Some (shown_point.point_of e)
   stands j e low at = partner_seen r.arena fs es0 (Free j) ∙ ap (option_map shown_point.point_of) (take_at (length fs) j es0 (let n = many in omega (arith, low, n)) ∙ at)
 
@@ -208,7 +208,7 @@ module _ (r : Body) (k : KeepsNet r) (two : 2 ≤ length r.free.items) (own : �
       leads_other : m.partner (Free (suc own)) ≡ Some (shown_point.point_of other)
       leads_other = stands (suc own) other (omega arith) at_other
 
-      -- which port stands at an end
+      -- which port is at an end
       at_port : (e : End) (x : ℕ) → shown_point.point_of e ≡ Port x 0 → e ≡ shown_point.end_of (Port x 0)
       at_port e x h = sym (point_end e) ∙ ap shown_point.end_of h
 

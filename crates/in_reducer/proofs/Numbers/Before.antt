@@ -1,5 +1,5 @@
--- What an interaction leads to under other numbers is what one leads to from its reducer under other numbers. The agents that stay are
--- numbered as they are after it, and the two of the pair by numbers that the net after it doesn't have.
+-- The result of an interaction, under other numbers, is the result of one of its reducer under other numbers. The agents that stay are numbered as
+-- after it, and the two of the pair by numbers that the net after it doesn't have.
 use Rattle.std.proofs.Common.{◌≡◌, ◌≢◌, ◌⊎◌, inl, inr, ◌<◌, ◌+◌, ℕ, zero, suc, Option, Some, None, IsSome, List, ◌++◌, map, length, remove, slice_get, option_map, option_and_then, refl, sym, ap, subst, ◌∙◌, arith}
 use native.Mathlib.Decide.{ℕ_discrete}
 use Rattle.std.proofs.lemmas.Option.{slice_get_within}

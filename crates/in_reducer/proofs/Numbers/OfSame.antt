@@ -1,4 +1,4 @@
--- What is the same as a reducer, up to the numbers of its agents, is one.
+-- A state that is the same as a reducer, up to the numbers of its agents, is a reducer.
 use Rattle.std.proofs.Common.{◌≡◌, ◌<◌, ◌+◌, ℕ, suc, Option, Some, None, IsSome, List, [], ◌∷◌, map, length, slice_get, option_map, option_and_then, refl, sym, ap, subst, ◌∙◌, arith}
 use native.Mathlib.Decide.{ℕ_discrete}
 use Rattle.std.proofs.lemmas.Option.{same_Some}

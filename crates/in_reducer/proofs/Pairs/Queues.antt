@@ -104,7 +104,7 @@ module _ (t : Tables) (n : Parts) (back : (p q : coded.Point) → partner_in n p
   numbers_apart : (x y : ℕ) → x ≡ y → ◌≡◌ {A = AgentNo} (record { 0 = x }) (record { 0 = y })
   numbers_apart x y e = ap (λ (z : ℕ). let a : AgentNo = record { 0 = z } in a) e
 
-  -- an agent of one pair stands in no other of them
+  -- an agent of one pair is in no other of them
   elsewhere : (q : ℕ × ℕ) (x : ℕ) → IsActivePair t n (agents_at q) → (x ≡ q.0) ⊎ (x ≡ q.1) → (qs : List (ℕ × ℕ)) → AreActivePairs qs → ((k : ℕ) → slice_get qs k ≡ Some q → ⊥) → AllByRecursion (λ y. x ≢ y) (agents_of qs)
   elsewhere q x h at [] each none = tt
   elsewhere q x h at (r ∷ rs) each none = (

@@ -64,7 +64,7 @@ both_same p q r (inr a) (inr b) = inl (b ∙ sym a)
 by_number : (a b : ℕ) → a ≢ b → (a < b) ⊎ (b < a)
 by_number a b differ = grind arith
 
--- of two agents one stands first
+-- of two agents one is first
 one_first : (t : Tables) (c d : SymbolNo) (a b : AgentNo) → a.0 ≢ b.0 → StandsFirst t c d a b ⊎ StandsFirst t d c b a
 one_first t c d a b differ = go (is_constructor t c.0) (is_constructor t d.0) refl refl
   where
@@ -78,7 +78,7 @@ one_first t c d a b differ = go (is_constructor t c.0) (is_constructor t d.0) re
     go true true e f = by (e ∙ sym f) (by_number a.0 b.0 differ)
     go false false e f = by (e ∙ sym f) (by_number a.0 b.0 differ)
 
--- as active pairs of nets with the same symbols they stand in one order
+-- as active pairs of nets with the same symbols they are in one order
 one_order : (t : Tables) (n m : Parts) → ((x : ℕ) (s : SymbolNo) → symbol_in n x ≡ Some s → symbol_in m x ≡ Some s) → (p q : ℕ × ℕ) → IsActivePair t n (agents_at p) → IsActivePair t m (agents_at q) → AreSameTwo p q → p ≡ q
 one_order t n m kept p q h g (inl e) = sym e
 one_order t n m kept p q h g (inr e) =

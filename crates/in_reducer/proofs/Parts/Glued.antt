@@ -76,7 +76,7 @@ module _ (r o : Body) (k : KeepsNet r) (l : KeepsNet o) (can : CanAppend (reduce
   abbrev n : Net ℕ
   n = net_in (reducer_view o)
 
-  -- what is told of both, in the order of the free ends
+  -- the data of both, in the order of the free ends
   module _ {X : Type 0} (f : FreeEnd → X) (from : ℕ × ℕ → Option X) (of_rest : (e : ℕ) → from (0, e) ≡ slice_get (map f fs) e) (of_part : (e : ℕ) → from (1, e) ≡ slice_get (map f gs) e) where
     pub told : map (λ t. Some t) (glued own (map f fs) (map f gs)) ≡ map from (ends_of_two own cuts)
     told =

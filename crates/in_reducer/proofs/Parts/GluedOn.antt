@@ -1,4 +1,4 @@
--- What is known of a reducer and of a part that is glued on to it, by what contracts see of both.
+-- A reducer, and a part that is glued on to it, as contracts see both.
 use Rattle.std.proofs.Common.{◌≡◌, ◌≤◌, ◌+◌, ◌-◌, ◌*◌, ℕ, length, sym, ap, subst, ◌∙◌, arith}
 use Rattle.std.proofs.lemmas.List.{length-map}
 use Rattle.in_arena.specs.Classes.{classes}

@@ -1,4 +1,4 @@
--- What is split off, and what is glued on, is determined but for the numbers that agents get.
+-- The results of splitting off and of gluing on are determined, except for the numbers of agents.
 use Rattle.std.proofs.Common.{◌≡◌, inl, inr, ◌+◌, ◌<◌, ℕ, Option, Some, None, List, length, map, slice_get, refl, sym, subst, ap, ◌∙◌, arith}
 use Rattle.std.proofs.lemmas.List.{length-map}
 use Rattle.std.proofs.lemmas.Option.{slice_get_within}

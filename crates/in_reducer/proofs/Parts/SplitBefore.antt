@@ -75,7 +75,7 @@ module _ (r : Body) (k : KeepsNet r) where
   pub places_here : (y s : ℕ) → word_of (state_at r.arena y) ≡ Some s → places (state_at r.arena y) ≡ suc (arity_of t s)
   places_here y s e = places_seen t r.arena fs es k.reducer.net.sound.net k.reducer.net.sound.within y s e
 
-  -- an agent stands in one of the cells
+  -- an agent is in one of the cells
   symbol_inside : (y s : ℕ) → m.symbol y ≡ Some s → y < length r.arena.states
   symbol_inside y s e = state_inside r.arena y (λ f. (let g : None ≡ Some s = sym (ap word_of f) ∙ sym (symbol_seen r.arena fs es y) ∙ e in cc))
 

@@ -156,7 +156,7 @@ module _ (r : Body) (k : KeepsNet r) (agents : List CellNo) (own cuts : ℕ) (ca
     pub rest_cells : (c : CellClass) → count_of (vacant_in (at_rest left)) c + agents_of t c (agents_in left) ≡ r.arena.cells
     rest_cells c = cells_at_rest t left rest_net c ∙ lost.cells
 
-    -- what stands in the arena afterwards is none of the agents, and what is gone is one
+    -- a cell that is still live isn't one of the agents, and one that is gone is one
     pub there_still : (y : ℕ) → IsLive (state_at r.arena y) → IsLive (state_at left y) ⊎ ((j : ℕ) × (slice_get agents j ≡ Some (record { 0 = y })))
     there_still y live = go (listed_or y)
       where

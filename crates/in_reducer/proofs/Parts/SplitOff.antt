@@ -1,4 +1,4 @@
--- What is known once a part is split off: by the slices that were lent for it, and by what each call made of them.
+-- A part that was split off, by the slices that were lent for it and the result of each call on them.
 use Rattle.std.proofs.Common.{◌≡◌, ◌+◌, ℕ, List, count_by, take, sym, subst, ◌∙◌, arith}
 use Rattle.in_arena.specs.Arenas.{ArenaView, state_at}
 use Rattle.in_arena.specs.Classes.{holds}

@@ -1,4 +1,4 @@
--- The nets of two reducers in the cells of one of them, side by side, whatever the order of their free ends.
+-- The nets of two reducers in the cells of one of them, side by side, in any order of their free ends.
 use Rattle.std.proofs.Common.{◌≡◌, ◌⊎◌, inl, inr, ◌<◌, ◌≤◌, ◌+◌, ℕ, zero, suc, true, Some, List, [], ◌∷◌, ◌++◌, length, map, take, drop, get_or, count_by, slice_get, refl, sym, ap, subst, ◌∙◌, length-append, arith}
 use Rattle.std.specs.Prelude.{All, option_map}
 use Rattle.std.specs.VecDeque.{deque_capacity}
@@ -290,7 +290,7 @@ module _ (r o : Body) (k : KeepsNet r) (l : KeepsNet o) (can : CanAppend (reduce
       pub cells_after : (c : CellClass) → count_of (vacant_in (at_rest b)) c + agents_of t c (agents_in b) ≡ count_of (vacant_in (at_rest r.arena)) c + agents_of t c (agents_in r.arena)
       cells_after c = cells_at_rest t b still_net c ∙ copied.cells ∙ anew.cells ∙ sym (cells_at_rest t r.arena k.net c)
 
-      -- where the nets stand side by side in these cells, they are a reducer's
+      -- where the nets are side by side in these cells, they are a reducer's
       module _ (ends : List (ℕ × ℕ)) (new : List OwnEnd) (list : List End) (queue : List (ℕ × ℕ)) (is_queue : queue ≡ r.queue.items ++ map (both (name_in names)) o.queue.items)
           (stand : StandBeside m n (name_in names) ends (net_in (in_cells r b new list queue))) where
         abbrev after : MachineParts

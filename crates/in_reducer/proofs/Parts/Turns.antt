@@ -110,7 +110,7 @@ glued_are f own w xs ys many_x many_y hx hy =
     map-append (λ t. Some t) (take own xs) (in_turn ys (drop own xs)) ∙ ap (λ zs. zs ++ map (λ t. Some t) (in_turn ys (drop own xs))) first
     ∙ ap (λ zs. map f (ends_of 0 0 own) ++ zs) turns ∙ sym (map-append f (ends_of 0 0 own) (by_turns own 0 w))
 
--- what stands in a list, where all its elements are told by those of another one
+-- the elements of a list that are determined by those of another one
 pub told_at : {X : Type 0} (f : ℕ × ℕ → Option X) (xs : List X) (ends : List (ℕ × ℕ)) (k : ℕ) (p : ℕ × ℕ) → map (λ t. Some t) xs ≡ map f ends → slice_get ends k ≡ Some p → slice_get xs k ≡ f p
 told_at {X} f [] [] k p same at = absurd (let g : None ≡ Some p = at in cc)
 told_at {X} f [] (q ∷ ends) k p same at = absurd (let g : ◌≡◌ {A = List (Option X)} [] (f q ∷ map f ends) = same in cc)

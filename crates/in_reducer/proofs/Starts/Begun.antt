@@ -1,4 +1,4 @@
--- What a reducer begins with: tools that hold nothing, and what its free ends lead to.
+-- A reducer at its start: tools that hold nothing, and the other ends of its free ends.
 use Rattle.std.proofs.Common.{◌≡◌, ◌<◌, ◌≤◌, ◌+◌, ℕ, zero, suc, Some, List, [], ◌∷◌, ◌++◌, length, map, take, set, slice_get, vec_capacity, sym, ap, subst, ◌∙◌}
 use Rattle.std.proofs.lemmas.List.{map-append, take_more, take_more_set}
 use Rattle.std.proofs.lemmas.Option.{same_Some}

@@ -1,4 +1,4 @@
--- What a reducer keeps of its fields, at its program's net.
+-- The invariant of a reducer's fields, at its program's net.
 use Rattle.std.proofs.Common.{◌≡◌, ◌≤◌, ◌+◌, ◌*◌, ℕ, Some, List, length, map, take, replicate, slice_get, sym, ap, subst, ◌∙◌, arith}
 use Rattle.std.specs.VecDeque.{deque_capacity}
 use Rattle.std.proofs.lemmas.List.{length-map}

@@ -134,7 +134,7 @@ module _ (text : List ℕ) (p : Program) (accepted : IsAccepted text p) (m : Mem
       let w = fits Wide in
       omega (arith, h, a, s, l, w)
 
-  -- what it needs is free where `cells` cells of each class are
+  -- the cells that it needs are free if `cells` cells of each class are
   pub enough : (cells : ℕ) (free : CellClass → ℕ) → ((c : CellClass) → agents_of p.tables c p.net.cells ≤ cells) → ((c : CellClass) → free c ≡ cells) → IsEnough (count_of m.need) free
   enough cells free fits all c = let e = of.need c in let f = fits c in let g = all c in omega (arith, e, f, g)
 

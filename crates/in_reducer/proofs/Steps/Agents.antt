@@ -1,4 +1,4 @@
--- Which agents stand in cells once new ones are begun: those that stayed, and the new ones.
+-- The agents in cells once new ones are begun: those that stayed, and the new ones.
 use Rattle.std.proofs.Common.{◌≡◌, ◌⊎◌, ◌↔◌, inl, inr, ℕ, suc, Some, List, sym, ap, ◌∙◌}
 use Rattle.in_arena.specs.Arenas.{ArenaView, state_at}
 use Rattle.in_arena.specs.States.{word_of, places}

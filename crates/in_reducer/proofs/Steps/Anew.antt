@@ -164,7 +164,7 @@ module _ (t : Tables) (s : PairSetting) (p : TemplateParts) (pair : Pair) (own :
       read.port_stands t s p pair own old ends about old e u
       (read.stood t s p pair own old ends about (Port (end_agent sig redex e) (end_place sig redex e)) u ((alike.ends e u).0 side))
 
-  -- a point of the right member has a wire, so what it comes to is a side
+  -- a point of the right member has a wire, so it leads to a side
   is_side : (q u : Point ℕ) → IsPoint sig m q → IsSideOf t x q u → IsSideAfter t x u
   is_side q u h at =
       let r = has_value (m.partner q) (about.inside.joined q h) in

@@ -1,4 +1,4 @@
--- What a worker placed stands beside its pair once it is settled.
+-- A member that a worker placed is beside its pair once it is settled.
 use Rattle.std.proofs.Common.{◌≡◌, ℕ, List, refl, subst, sym, arith}
 use Rattle.in_arena.specs.Arenas.{ArenaView}
 use Rattle.in_arena.specs.Bags.{IsBagOf}

@@ -127,7 +127,7 @@ module _ (t : Tables) (s : PairSetting) (p : TemplateParts) (pair : Pair) (own :
     no_word_two : (y z : ℕ) → y ≡ s.two.0 → word_of (state_at b y) ≡ Some z → ⊥
     no_word_two y z f w = let n : None ≡ Some z = sym (ap word_of (ap (state_at b) f ∙ two_gone)) ∙ w in cc
 
-    -- a new agent is none of the pair
+    -- a new agent isn't one of the pair
     new_other : (k z : ℕ) → m.symbol k ≡ Some z → (x.name k ≢ s.one.0) × (x.name k ≢ s.two.0)
     new_other k z f = (
       (λ same. (let g : None ≡ Some s.rule.heads.0.0 = sym (can.naming.fresh k z f) ∙ ap (before x).symbol same ∙ about.redex.one in cc)),

@@ -1,4 +1,4 @@
--- An interaction that is finished where the right member stands beside its pair: what its steps owe, and what it leaves.
+-- An interaction whose right member is beside its pair: the goals of its last steps, and its result.
 use Rattle.std.proofs.Common.{◌≡◌, ◌<◌, ◌≤◌, ◌+◌, ℕ, List, [], ◌++◌, map, remove, reverse, length, get_or, sym, ap, subst, ◌∙◌, arith, refl}
 use Rattle.std.specs.VecDeque.{deque_capacity}
 use Rattle.std.proofs.lemmas.Option.{same_Some, slice_get_within, slice_get_read}

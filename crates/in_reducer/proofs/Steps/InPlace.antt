@@ -1,4 +1,4 @@
--- An interaction in place, of a pair of a reducer: what its steps owe, and what it leaves.
+-- An interaction in place, of a pair of a reducer: the goals of its steps, and its result.
 use Rattle.std.proofs.Common.{◌≡◌, ◌≤◌, ◌+◌, ℕ, List, [], ◌++◌, map, remove, reverse, length, length-append, get_or, refl, sym, ap, subst, ◌∙◌, arith}
 use Rattle.std.specs.VecDeque.{deque_capacity}
 use Rattle.std.proofs.lemmas.List.{length-map, length-reverse, length-set, take_all}
@@ -44,7 +44,7 @@ module _ (r : Body) (k : KeepsNet r) (i : ℕ) (p : TemplateParts) (at : IsTempl
   abbrev pub setting : PairSetting
   setting = stepped.setting r k i p at
 
-  -- as many free ends as are told
+  -- as many free ends as named
   abbrev pub own_ends : ℕ
   own_ends = length (own_free r)
 

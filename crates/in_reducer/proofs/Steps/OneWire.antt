@@ -1,4 +1,4 @@
--- One wire of a right member is written: what that asks, and what it leaves.
+-- One wire of a right member is written: the conditions, and the result.
 use Rattle.std.proofs.Common.{◌≡◌, ◌<◌, ◌+◌, ℕ, Bool, Some, List, length, map, slice_get, refl, sym, ap, subst, ◌∙◌, inl, inr, arith}
 use Rattle.std.specs.Prelude.{option_map, slice_index_or}
 use Rattle.std.proofs.lemmas.List.{length-map}
@@ -26,7 +26,7 @@ use Rattle.in_reducer.specs.Wiring.{AddsInOrder, HasQueued, IsAtPlace, IsWiring,
 use Rattle.in_reducer.proofs.Steps.NextWire.{IsReadAt, inner_read, one_read, other_read, outer_read, over_at, over_wire, within_wire}
 use Rattle.in_reducer.proofs.Steps.Wired as wires
 
--- an end stands at the slot and place of a joint
+-- an end is at the slot and place of a joint
 abbrev pub CanBeRead : List End → Joint → Type 0
 CanBeRead points j = (slot place : ℕ) → slot ≡ slot_of j → place ≡ place_in j → (y : End) × (z : End) × (slice_get points slot ≡ Some y) × IsAtPlace y place z
 

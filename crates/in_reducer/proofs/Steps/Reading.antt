@@ -1,4 +1,4 @@
--- What the cells show of an active pair: its agents' places, what is read at its ports, and that it can be retired.
+-- An active pair in cells: its agents' places, the words at its ports, and that it can be retired.
 use Rattle.std.proofs.Common.{◌≡◌, ◌≢◌, ◌<◌, ◌≤◌, ◌+◌, ◌-◌, ℕ, suc, Bool, cond, nat_lt, Option, Some, None, List, length, take, sym, ap, subst, ◌∙◌, get_or-set_same, get_or-set_other, arith}
 use Rattle.std.specs.Prelude.{option_map, IsSomeAnd}
 use Rattle.in_arena.specs.Arenas.{ArenaView, changed, state_at}

@@ -1,5 +1,5 @@
--- An interaction of a reducer whose new agents may stand in the cells of the pair: what its steps owe, and what it leaves. It is one of the
--- reducer in which the pair has numbers of no cell.
+-- An interaction of a reducer whose new agents may be in the cells of the pair: the goals of its steps, and its result. It is one of the reducer in
+-- which the pair has numbers of no cell.
 use Rattle.std.proofs.Common.{◌≡◌, ◌≢◌, ◌≤◌, ◌+◌, ℕ, suc, List, ◌++◌, map, take, remove, length, length-append, Option, Some, None, refl, sym, ap, subst, ◌∙◌, append_assoc, arith}
 use Rattle.std.specs.VecDeque.{deque_capacity}
 use Rattle.std.proofs.lemmas.List.{length-map, length-set, take_all}
@@ -159,7 +159,7 @@ module _ (r : Body) (k : KeepsNet r) (i : ℕ) (p : TemplateParts) (at : IsTempl
       few = stepped.few_joints r k i p at;
     }
 
-  -- ---- what it leaves
+  -- ---- its result
 
   module _ (room : HasRoomAt m i) (none : NoneLeased r.arena) (pair : Pair) (own : ℕ) (is_own : own ≡ length (own_free r)) (ends : List End) (about : IsAbout t setting p pair own r.arena ends)
       (old : List (ℕ × ℕ)) (c : ArenaView) (es points : List End) (middle : List (ℕ × ℕ)) (up : IsWiredAnew t p pair r.arena ends old c es points middle) where

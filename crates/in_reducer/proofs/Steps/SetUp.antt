@@ -219,7 +219,7 @@ module _ (t : Tables) (s : PairSetting) (p : TemplateParts) (pair : Pair) (own :
               inl (at.0, a.0.symbol.0, laid.symbol_of t s.rule.member about.member_over p.member about.template.member at.0 a.0 a.1, a.2)
           go (inr out) = inr (as_put y f g ∙ is_put.others y out)
 
-      -- a new agent is none of the pair
+      -- a new agent isn't one of the pair
       not_one : (k x : ℕ) → (net_of s.rule.member).symbol k ≡ Some x → named ns k ≢ s.one.0
       not_one k x e same = let f : None ≡ Some s.rule.heads.0.0 = sym (begun_fresh ns put begun k x e) ∙ ap (net_of s.net).symbol same ∙ about.redex.one in cc
 

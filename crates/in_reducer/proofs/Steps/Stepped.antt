@@ -1,4 +1,4 @@
--- One interaction of a reducer: what its call owes, and what it leaves.
+-- One interaction of a reducer: the goals of its call, and its result.
 use Rattle.std.proofs.Common.{◌≡◌, ◌<◌, ◌≤◌, ◌+◌, ℕ, List, [], ◌∷◌, ◌++◌, append_assoc, length, length-append, map, remove, take, reverse, slice_get, Option, Some, None, refl, sym, ap, subst, ◌∙◌, arith}
 use Rattle.std.specs.VecDeque.{deque_capacity}
 use Rattle.std.specs.Prelude.{option_map}
@@ -83,7 +83,7 @@ module _ (r : Body) (k : KeepsNet r) (i : ℕ) (p : TemplateParts) (at : IsTempl
   abbrev pub setting : PairSetting
   setting = record { net = parts_of (reducer_view r); rule = at.rule; one = (agents_at at.pair).0; two = (agents_at at.pair).1 }
 
-  -- as many free ends as are told
+  -- as many free ends as named
   pub own_many : length (own_free r) ≡ length r.free.items
   own_many = length-map r.free.items (declared_as r.checked.now)
 
@@ -235,7 +235,7 @@ module _ (r : Body) (k : KeepsNet r) (i : ℕ) (p : TemplateParts) (at : IsTempl
     pub reducer_after : IsReducer (after final)
     reducer_after = steps.reducer_on (reducer_view r) (after final) i k.reducer is_step
 
-    -- the queue as it is made, one list after another
+    -- the queue as made, one list after another
     pub in_turn : (removed middle queue : List (ℕ × ℕ)) → removed ≡ remove r.queue.items i → middle ≡ removed ++ reverse made → queue ≡ middle ++ map (both (named ns)) p.member.pairs → queue ≡ final
     unfolding are_made
     in_turn removed middle queue e f g =

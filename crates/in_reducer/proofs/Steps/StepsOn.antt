@@ -1,4 +1,4 @@
--- An interaction of a reducer leaves a reducer, whatever numbers the new agents have.
+-- An interaction of a reducer leaves a reducer, however the new agents are numbered.
 use Rattle.std.proofs.Common.{◌≡◌, ◌+◌, ℕ, suc, Some, List, ◌++◌, map, remove, slice_get, refl, sym, ap, subst, ◌∙◌}
 use Rattle.in_typing.specs.TypedNets.{IsTypedNet}
 use Rattle.in_net.specs.declared.nets.AgentNo.{AgentNo}

@@ -84,7 +84,7 @@ alike_through a b c h k = record {
   none = λ n low l. h.none n low (k.none n (subst (λ (z : ℕ). n < z) (sym h.many) low) l);
 }
 
--- a retired cell was none of them, and is none
+-- a retired cell wasn't one of them, and isn't one
 pub retired_alike : (a b : ArenaView) (y : ℕ) → IsLive (state_at a y) → b ≡ changed a y Vacant → AreLeasedAlike a b
 retired_alike a b y live e = subst (AreLeasedAlike a) (sym e) (record {
   memory = refl;

@@ -260,7 +260,7 @@ module _ (t : Tables) (x : Interaction) (wires : List (Point ℕ × Point ℕ)) 
     abbrev shown_net : Net ℕ
     shown_net = record { symbol = λ y. word_of (state_at a y); partner = λ u. option_map point_of (stands_at a (take own es) u); free = (before x).free }
 
-    -- a new agent is none of the pair
+    -- a new agent isn't one of the pair
     new_other : (k s : ℕ) → m.symbol k ≡ Some s → (x.name k ≢ x.one.0) × (x.name k ≢ x.two.0)
     new_other k s f = (
       (λ same. (let g : None ≡ Some (redex_of x).first = sym (can.naming.fresh k s f) ∙ ap (before x).symbol same ∙ can.redex.one in cc)),

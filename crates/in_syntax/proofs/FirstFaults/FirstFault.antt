@@ -6,7 +6,7 @@ use Rattle.in_syntax.specs.declared.places.Place.{Place}
 use Rattle.in_syntax.specs.Refusals.{code_number, IsNoLater, IsFirstOf, refused, earlier_refusal}
 use Rattle.in_syntax.proofs.FirstFaults.Least.{IsLeast}
 
--- the first of the faults F; none where there is none
+-- the first of the faults F, if there is any
 abbrev pub IsFirst : (Code → Place → Type 0) → Option Refusal → Type 0
 IsFirst F None = (c : Code) (q : Place) → F c q → ⊥
 IsFirst F (Some r) = F r.code r.place × ((d : Code) (q : Place) → F d q → IsNoLater r.code r.place d q) × (let nothing : Option Place = None in r.other ≡ nothing)
@@ -86,7 +86,7 @@ first_as F o r first is = let there = subst (IsFirst F) is first in (record { st
 
 -- ---- two first faults are one
 
--- they stand at one byte, and have codes of one number
+-- they are at one byte, and have codes of one number
 pub both_first : (c d : Code) (p q : Place) → IsNoLater c p d q → IsNoLater d q c p → (p.from ≡ q.from) × (code_number c ≡ code_number d)
 both_first c d p q (inl a) (inl e) = absurd (omega (arith, a, e))
 both_first c d p q (inl a) (inr e) = let x = e.0 in absurd (omega (arith, a, x))

@@ -1,4 +1,4 @@
--- The earliest of the places at which something stands.
+-- The earliest of the places with a property.
 use Rattle.std.proofs.Common.{◌≡◌, ◌⊎◌, ℕ, ◌≤◌, Bool, true, false, List, [], ◌∷◌, map, Option, Some, None, refl, inl, inr, arith, nat_lt, if◌then◌else◌, ltb-true, ltb-false}
 use Rattle.std.specs.List.{AllByRecursion}
 use Rattle.in_syntax.specs.declared.places.Place.{Place}

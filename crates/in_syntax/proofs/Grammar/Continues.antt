@@ -1,4 +1,4 @@
--- What is expected in a state is what some program goes on with.
+-- The tokens expected in a state are those with which some program continues.
 use Rattle.std.proofs.Common.{◌≡◌, ◌⊎◌, inl, inr, ℕ, zero, suc, Bool, true, false, List, [], ◌∷◌, ◌++◌, take, refl, sym, ◌∙◌, ap, subst, IsTrue, Result, Ok, Err}
 use Rattle.in_syntax.specs.declared.expecting.Expected.{Expected}
 use Rattle.in_syntax.specs.declared.faults.Fault.{Fault}

@@ -86,7 +86,7 @@ run_along : (s rest : List Sign) (r last : Reader) → Path r (unmarked s) last 
 run_along [] rest r last p = ap (λ z. run z rest) p
 run_along (x ∷ s) rest r last p = run_turn r x (s ++ rest) (turns false p.0) p.1 ∙ run_along s rest p.0 last p.2
 
--- ---- what the run answers is the outcome
+-- ---- the run's result is the outcome
 
 read_end : (s : List Sign) (source : Source) (last : Reader) → Path start (unmarked s) last → (o : Option SourceNet) → net_of last.state ≡ o → whole last o ≡ reads source →
     IsOutcomeOfSigns s (tree source)
@@ -138,7 +138,7 @@ signs_begun front x b more =
     map-append (λ m. m.sign) (unmarked front ++ marked b x ∷ []) more
     ∙ ap (λ z. z ++ signs more) (map-append (λ m. m.sign) (unmarked front) (marked b x ∷ []) ∙ ap (λ z. z ++ x ∷ []) (signs_unmarked front))
 
--- some program goes on with a sign that leads on
+-- some program continues with a sign that leads on
 pub begins_on : (front : List Sign) (x : Sign) (last next : Reader) (past : Bool) → Path start (unmarked front) last → turn last x ≡ turns past next → Begins (front ++ x ∷ [])
 begins_on front x last next past path e =
     let p = begun (unmarked front ++ marked past x ∷ []) next (join (unmarked front) (marked past x ∷ []) start last next path (next, e, refl)) in
@@ -174,7 +174,7 @@ found s (refused c rest) e =
     let t : IsTrace start s (refused c rest) = subst (IsTrace start s) e (trace s start) in
     (fault c (length t.0), fault_from c s t.0 rest (length t.0) t.1 refl (explained c t.0 rest t.2 t.3 t.4))
 
--- ---- each outcome is what the run answers
+-- ---- each outcome is the run's result
 
 abbrev answer_of : List Sign → Outcome → Answer
 answer_of s (tree source) = reads source
@@ -241,7 +241,7 @@ one_tree p q e =
     let tree : source_of p ≡ source_of q = cc in
     (tree, k.0)
 
--- ---- the function's answer
+-- ---- the function's result
 
 drop_signs : (text : List ℕ) (i : ℕ) (tokens : List Token) → signs_of text (drop i tokens) ≡ drop i (signs_of text tokens)
 drop_signs text zero tokens = refl

@@ -44,7 +44,7 @@ past_within front x (p, more, e) (q, rest, f) =
 within_begins : (front : List Sign) → BeginsWithin front → Begins front
 within_begins front (p, more, e) = (p, signs more, ap signs e ∙ map-append (λ m. m.sign) (unmarked front) more ∙ ap (λ z. z ++ signs more) (signs_unmarked front))
 
--- the fault's own sign doesn't go on with them
+-- the fault's own sign doesn't continue with them
 fault_ends : (c : Code) (front rest : List Sign) (x : Sign) → IsFault c front (x ∷ rest) → BeginsWithin (front ++ x ∷ []) → ⊥
 fault_ends E02 front rest x is begins = is.1 (within_begins (front ++ x ∷ []) begins)
 fault_ends E03 front rest x is begins = past_within front x is begins

@@ -1,4 +1,4 @@
--- Where each link of a chain of passes has one answer, the chain has.
+-- If each link of a chain of passes has one result, the chain has one.
 use Rattle.std.proofs.Common.{◌≡◌, inl, inr, Result, Ok, Err, subst}
 use Rattle.in_syntax.specs.declared.faults.Fault.{Fault}
 use Rattle.in_syntax.specs.declared.faults.Fault.TheVariants.{Refused, Memory}
@@ -20,6 +20,6 @@ then_two R S P Q Q1 one on (Err (Refused q)) (Err (Refused r)) (inr h) (inr k) =
 then_two R S P Q Q1 one on (Err (Refused q)) (Err (Memory e)) h k = tt
 then_two R S P Q Q1 one on (Err (Memory e)) y h k = tt
 
--- where the first pass answers one value, the rest has only to be one for that
+-- if the first pass has one value, the others need only be one for that
 pub then_same : {A B : Type 0} (S : B → B → Type 0) (P : Result A Fault → Type 0) (Q : A → Result B Fault → Type 0) → IsOne P → ((a : A) → P (Ok a) → IsOneBy S (Q a)) → IsOneBy S (Then P Q)
 then_same S P Q one on = then_two (λ a b. a ≡ b) S P Q Q one (λ a b e h k x y l r. on b k x y (subst (λ z. Q z x) e l) r)

@@ -20,7 +20,7 @@ use Rattle.in_syntax.specs.Cursors.{FirstIs, FirstFails}
 pub begins_name-ascii : (c : ℕ) → c < 128 → begins_name c ≡ (is_ascii_alphabetic c || c == 95)
 begins_name-ascii c h = ap (λ b. b || c == 95) (is_xid_start-ascii c h)
 
--- what a name begins with it may go on with
+-- what a name begins with it may continue with
 pub continues-begins : (c : ℕ) → begins_name c ≡ true → continues_name c ≡ true
 continues-begins c h =
     go (is_xid_start c) (c == 95) refl refl h
@@ -137,7 +137,7 @@ word_kind-name w t s r n =
     let net = differs w (codes "net") n in
     simp (type, symbol, rule, net)
 
--- a run of characters with which a name goes on, of which the first begins a name, is a word
+-- a run of characters that continue a name, whose first one begins a name, is a word
 pub is_word-run : (w rest : List ℕ) → FirstIs (λ c. begins_name c ≡ true) (w ++ rest) → list_all continues_name w ≡ true → FirstFails continues_name rest → is_word w ≡ true
 is_word-run [] [] f a stops = absurd f
 is_word-run [] (d ∷ ds) f a stops = absurd (false≢true (sym stops ∙ continues-begins d f))

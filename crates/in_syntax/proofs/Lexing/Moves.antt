@@ -1,4 +1,4 @@
--- What stands at a spot, from the characters that were read there.
+-- The token at a spot, from the characters that were read there.
 use Rattle.std.proofs.Common.{◌≡◌, ℕ, ◌<◌, ◌≤◌, ◌⊎◌, Bool, true, false, List, [], ◌∷◌, ◌++◌, length, take, ◌-◌, Some, None, refl, sym, ◌∙◌, ap, subst, arith, ◌==◌, length-append, take_at, lit≤}
 use Rattle.std.specs.List.{list_all}
 use Rattle.std.specs.Str.{chars, IsUtf8, IsCharBoundary, encode_utf8_all, all_scalars}

@@ -1,4 +1,4 @@
--- Where tokens stand in their text.
+-- The places of tokens in their text.
 use Rattle.std.proofs.Common.{◌≡◌, ℕ, ◌+◌, ◌-◌, ◌<◌, ◌≤◌, true, List, [], ◌∷◌, ◌++◌, length, take, drop, Some, refl, sym, ◌∙◌, ap, subst, arith, length-append, append_assoc, take_at}
 use Rattle.std.specs.Prelude.{slice_range}
 use Rattle.std.specs.List.{AllByRecursion}
@@ -15,7 +15,7 @@ use Rattle.in_syntax.proofs.Lexing.PastCharacters.{past_all-at}
 use Rattle.in_syntax.proofs.Lexing.Moves.{scalars-front, scalars-rest}
 use Rattle.in_base.proofs.Each.{all_append}
 
--- a spot of a text: `s.at` bytes stand before it
+-- a spot of a text: `s.at` bytes are before it
 record IsSpotOf (text front cs : List ℕ) (s : Spot) : Type 0 where
   bytes : text ≡ encode_utf8_all front ++ encode_utf8_all cs
   at : s.at ≡ length (encode_utf8_all front)
@@ -53,7 +53,7 @@ token_stands text front w rest s k h is =
       kind = ap (λ z. kind_of (chars z)) part ∙ ap kind_of (chars-encodes w scalars) ∙ is;
     }
 
--- what is passed are the first characters, and its token stands there
+-- what is passed are the first characters, and its token is there
 record IsPassed (text cs : List ℕ) (ts : List Token) (s t : Spot) (rest : List ℕ) : Type 0 where
   front : List ℕ
   split : cs ≡ front ++ rest

@@ -12,7 +12,7 @@ use Rattle.in_syntax.specs.Places.{past, past_all, place_between}
 use Rattle.in_syntax.specs.Tokens.{kind_of, IsLongest, BeginsNoToken, EndsLine, Passes, blank, comment, token, Reads, ends, goes_on, Faults, stray, too_long, Stops, here, later}
 use Rattle.in_syntax.proofs.Lexing.Lexemes.{kind_of-blank, kind_of-hash}
 
--- two ways to part one list: alike, or the second front goes on with c, or the first does
+-- two ways to part one list: alike, or the second front continues with c, or the first does
 data Parts : List ℕ → List ℕ → List ℕ → List ℕ → Type 0 where
   alike : {v w a b : List ℕ} → v ≡ w → a ≡ b → Parts v a w b
   second_more : {v w a b : List ℕ} (c : ℕ) (more : List ℕ) → w ≡ v ++ (c ∷ more) → a ≡ c ∷ (more ++ b) → Parts v a w b
@@ -50,7 +50,7 @@ same_token v a w b k l e p q = go (parts v a w b e)
     go (second_more c more f g) = absurd (no_longer v a w b k l c more p q f g)
     go (first_more c more f g) = absurd (no_longer w b v a l k c more q p f g)
 
--- the first character after a comment's front is none that stays in it
+-- the first character after a comment's front isn't one that stays in it
 stays_on : (v w : List ℕ) (c : ℕ) (more : List ℕ) → list_all stays_in_comment w ≡ true → w ≡ v ++ (c ∷ more) → stays_in_comment c ≡ true
 stays_on v w c more h e =
     let all = sym (ap (list_all stays_in_comment) e ∙ list_all-append stays_in_comment v (c ∷ more)) ∙ h in

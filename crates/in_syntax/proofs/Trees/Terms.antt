@@ -1,4 +1,4 @@
--- A term by its name and its arguments: how many names stand in it, how it is spelled, and what holds of it where it holds of its arguments.
+-- A term by its name and its arguments: how many names it has, how it is spelled, and a property that follows from that of its arguments.
 use Rattle.std.proofs.Common.{◌≡◌, ◌≤◌, ◌+◌, ℕ, zero, suc, List, [], ◌∷◌, map, arith}
 use Rattle.std.specs.List.{AllByRecursion}
 use Rattle.in_syntax.specs.declared.tree.Term.{Term, out-Term}

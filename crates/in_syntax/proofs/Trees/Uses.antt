@@ -1,4 +1,4 @@
--- What is listed of a term by a walk over it: the uses of names in it.
+-- The uses of names in a term, as a walk over it lists them.
 use Rattle.std.proofs.Common.{◌≡◌, ℕ, List, [], ◌∷◌, ◌++◌, false, map, length, sym, ap, ◌∙◌, append_assoc, append-nil, ◌+◌, true}
 use Rattle.std.specs.Prelude.{⊤}
 use Rattle.std.proofs.lemmas.List.{length-map}

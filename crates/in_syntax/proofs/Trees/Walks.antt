@@ -6,7 +6,7 @@ use Rattle.in_syntax.specs.declared.tree.Term.TheFolds.{fold_out-Term}
 use Rattle.in_syntax.specs.Walks.{Visits, walks_name, walks_term, walks_terms}
 
 module _ {S K : Type 0} (v : Visits S K) where
-  -- after the name was told of
+  -- after the name was visited
   abbrev pub goes_on : List Term → S × K → S × K
   goes_on ts there = (walks_terms v there.1 ts there.0, there.1)
 

@@ -11,7 +11,7 @@ use Rattle.in_cells.proofs.Numbered.{all_numbered, none_numbered, none_to_number
 use Rattle.in_cells.proofs.numbering.number_anew.Goals as goal
 use Rattle.in_cells.proofs.numbering.number_anew.Goals.{in-Cell, in_default}
 
--- what is read stands in the list, and so does the end that it is the word of
+-- the word that is read is in the list, and so is its end
 read : (ends : List End) (x : ℕ) (word end : End) → x < length ends → word ≡ get_or ends x word → end ≡ word → slice_get ends x ≡ Some end
 read ends x word end lt is same = slice_get-get_or ends x word lt ∙ ap (λ e. Some e) (sym is) ∙ ap (λ e. Some e) (sym same)
 

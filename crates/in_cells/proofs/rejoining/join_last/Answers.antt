@@ -43,7 +43,7 @@ module _ (sig : Signature) (own : ℕ) (a : ArenaView) (es : List End) (m : Net 
     kept : KeepsCells a b
     kept = (cells.kept sig own a es m before long b bs written).0
 
--- of whatever two ends stand there
+-- of whatever two ends are there
 adds : (t : Tables) (b : ArenaView) (es : List End) (own : ℕ) (one other x y : End) (old new : List (ℕ × ℕ)) → slice_get es own ≡ Some one → slice_get es (suc own) ≡ Some other → slice_get es own ≡ Some x → slice_get es (suc own) ≡ Some y → AddsPair t b one other old new → AddsPair t b x y old new
 adds t b es own one other x y old new h k u v made =
     subst (λ (z : End). AddsPair t b x z old new) (same_Some other y (sym k ∙ v)) (subst (λ (z : End). AddsPair t b z other old new) (same_Some one x (sym h ∙ u)) made)

@@ -40,7 +40,7 @@ returns-then-many-eq0-clause-begun c =
     c.begin_rest.ensures.begun (retired c.args.pair c.args.arena.now) (taken.can_retired m c.is_sound.ensures c.args.pair c.args.arena.now c.requires.0 c.args.points.now c.requires.1)
     (none_below m c.retire-then-many-eq0.new.self (retired c.args.pair c.args.arena.now) c.args.points.now gone)
 
--- one is begun, and stands at its point
+-- one is begun, and is at its point
 one_below : (m : MemberParts) (b new : ArenaView) (one : CellNo) (points : List End) (v : End) → AreBegunBelow m b 1 new (one ∷ []) → 33 ≤ length points → v ≡ Cell one 0 → HasBegunBelow m b 1 new (set points 32 v)
 one_below m b new one points v below long is_v = (one ∷ [], below, one_more_at [] one points 0 refl (omega (arith, long)) v is_v (none_at points))
 
@@ -102,7 +102,7 @@ begin_in-second-requires-clause-free c =
     let x = at_index m.agents 0 (let many = c.agents-many.ensures in let f = c.if-many-eq0.false in omega (arith, many, f)) in
     taken.second_free m c.is_sound.ensures c.args.pair c.args.arena.now c.requires.0 c.args.points.now c.requires.1 x.0 x.1 c.begin_in-first.result c.begin_in-first.new.arena (c.begin_in-first.ensures x.0 x.1)
 
--- two are begun, and stand at their points
+-- two are begun, and are at their points
 two_below : (m : MemberParts) (b new : ArenaView) (one two : CellNo) (points : List End) (v w : End) → AreBegunBelow m b 2 new (one ∷ two ∷ []) → 34 ≤ length points → v ≡ Cell one 0 → w ≡ Cell two 0 → HasBegunBelow m b 2 new (set (set points 32 v) 33 w)
 two_below m b new one two points v w below long is_v is_w = (
   one ∷ two ∷ [],

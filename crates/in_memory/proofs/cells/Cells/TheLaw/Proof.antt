@@ -1,4 +1,4 @@
--- A `&` to an owner of cells reaches what stands in them. Assumes `Logic`.
+-- A `&` to an owner of cells reaches their contents. Assumes `Logic`.
 use mathlib.Core.List.{[], ◌++◌}
 use base.Fml.{Incl-trans}
 use contract.BorrowLft.{meet_⊑_left}

@@ -1,4 +1,4 @@
--- `get` shows what stands in one cell. Assumes `Logic`.
+-- `get` shows the contents of one cell. Assumes `Logic`.
 use mathlib.Core.Path.{◌≡◌, refl, sym, subst, ◌∙◌}
 use Prim.Native.Nat.{ℕ, ◌+◌, ◌*◌, ◌<◌, ◌^◌}
 use native.Mathlib.Omega.{arith}

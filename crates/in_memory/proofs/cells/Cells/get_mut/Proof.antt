@@ -1,4 +1,4 @@
--- `get_mut` lends what stands in one cell, and the owner's cells follow it. Assumes `Logic`.
+-- `get_mut` lends the contents of one cell, and the owner's cells follow it. Assumes `Logic`.
 use mathlib.Core.Path.{◌≡◌, refl, sym, subst, ◌∙◌}
 use Prim.Native.Nat.{ℕ, ◌+◌, ◌*◌, ◌<◌, ◌^◌}
 use native.Mathlib.Omega.{arith}
@@ -59,7 +59,7 @@ module _ (E : El) where
   abbrev Gives : (Owner E).Denot → ℕ → MutBor (el_x E) → Type 0
   Gives d index r = get_or d.slots index None ≡ Some (Some r.now)
 
-  -- the owner once w stands in the cell
+  -- the owner once w is in the cell
   abbrev new : (Owner E).Denot → ℕ → el_x E → (Owner E).Denot
   new d index w = with_slots d (set d.slots index (Some (Some w)))
 
