@@ -1,5 +1,5 @@
 -- What a text declares, and the passes over it: together they are all passes.
-use Rattle.std.proofs.Common.{◌≡◌, inl, inr, List, ℕ, Result, Ok, Err, sym, subst}
+use Rattle.std.proofs.Common.{inl, inr, List, ℕ, Result, Ok, Err, sym, subst}
 use Rattle.in_syntax.specs.declared.faults.Fault.{Fault}
 use Rattle.in_syntax.specs.declared.faults.Fault.TheVariants.{Refused, Memory}
 use Rattle.in_syntax.specs.declared.tree.Source.{Source}

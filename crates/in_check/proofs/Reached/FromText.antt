@@ -1,10 +1,10 @@
 -- The program of an accepted text is a sound system.
-use Rattle.std.proofs.Common.{◌≡◌, ◌≢◌, ◌⊎◌, ◌<◌, ◌≤◌, ℕ, zero, suc, Bool, true, false, not, ◌&&◌, nat_eq, cond, Option, Some, None, Ok, List, [], ◌∷◌, ◌++◌, map, length, slice_get, get_or, refl, sym, subst, ap, inl, inr, ◌∙◌, arith, eq-eqb}
+use Rattle.std.proofs.Common.{◌≡◌, ◌≢◌, ◌⊎◌, ◌<◌, ◌≤◌, ℕ, zero, suc, Bool, true, false, not, ◌&&◌, nat_eq, cond, Option, Some, None, Ok, List, [], ◌∷◌, ◌++◌, length, slice_get, get_or, refl, sym, subst, ap, inl, inr, ◌∙◌, arith, eq-eqb}
 use Rattle.std.specs.Prelude.{option_map, option_and_then}
 use Rattle.std.specs.List.{AllByRecursion}
 use Rattle.std.proofs.lemmas.Bool.Decides.{eqb_tells}
 use Rattle.std.proofs.lemmas.List.{length-map}
-use Rattle.std.proofs.lemmas.Option.{slice_get_within, slice_get-map, same_Some}
+use Rattle.std.proofs.lemmas.Option.{slice_get_within}
 use Rattle.in_syntax.specs.declared.tree.Source.{Source}
 use Rattle.in_syntax.specs.declared.tree.SourcePort.{SourcePort}
 use Rattle.in_syntax.specs.declared.tree.SourceRule.{SourceRule}
