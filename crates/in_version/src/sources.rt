@@ -1,2 +1,2 @@
 /// The first twelve digits of the sum of the code of both programs, without comments, tests and this file. `dist/keep stamp` writes it.
-pub const SOURCES: &str = "faac5dd9a41b";
+pub const SOURCES: &str = "b140757dfca5";
