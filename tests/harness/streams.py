@@ -1,12 +1,15 @@
-"""Standard streams that are closed, full, cut off, endless or of the wrong kind."""
+"""Standard streams that are closed, full, cut off, endless or of the wrong kind; and a terminal, at which a long run shows how far it is."""
 import fcntl
 import itertools
 import os
+import re
+import select
 import subprocess
 import threading
+import time
 from functools import partial
 
-from harness.programs import COMMANDS, MOST_BYTES, REFUSED, ROWS, STREAM, WRONG_WORDS, answering, differing, failing, text_of
+from harness.programs import COMMANDS, LONGEST, MOST_BYTES, REFUSED, ROWS, STREAM, WRONG_WORDS, answering, differing, failing, text_of
 
 # A file descriptor command of Linux: how many bytes a pipe holds.
 SET_PIPE_SIZE = 1031
@@ -15,6 +18,10 @@ SMALL_PIPE = 4096
 EXAMPLES = ("sum", "waits_for_itself")
 TOO_LONG = b"refused E03 at 1:1\n"
 TOO_SHORT = b"refused E02 at 1:1\n"
+# The line that a long run shows each second, which takes back the one before, and how many interactions are done before it is looked whether
+# a second is over.
+SHOWN = re.compile(rb"\r\x1b\[Kinet: (\d+) interactions")
+SHOWN_TURN = 1 << 20
 
 
 def closed_pipe():
@@ -131,6 +138,44 @@ def early_ends(program):
             )
 
 
+def long_text():
+    """The Ackermann function at three and ten, by the rules of the example: some 67 million interactions."""
+    rules = text_of("ackermann").decode().rpartition("net (")[0]
+    return f"{rules}net (all : nat+) {{ S(S(S(Z))) ~ Ack({'S(' * 10}Z{')' * 10}, all); }}\n".encode()
+
+
+def shown_at_terminal(program, words, text):
+    """Runs the program with a terminal for standard error until it has shown two lines there, and kills it: what the terminal got till then."""
+    terminal, writer = os.openpty()
+    got = b""
+    with open(program.file_of(text), "rb") as file:
+        process = subprocess.Popen([program.path, *words], stdin=file, stdout=subprocess.DEVNULL, stderr=writer)
+    os.close(writer)
+    try:
+        ends = time.monotonic() + LONGEST
+        while len(SHOWN.findall(got)) < 2 and select.select([terminal], [], [], max(0, ends - time.monotonic()))[0]:
+            got += os.read(terminal, SMALL_PIPE)
+    except OSError:
+        # So a terminal tells that nobody writes to it any more.
+        pass
+    finally:
+        process.kill()
+        process.wait()
+        os.close(terminal)
+    return got
+
+
+def wrong_progress(program):
+    """What is wrong with what a long run shows at a terminal: how far it is, each line in the place of the one before, not before a second is over."""
+    began = time.monotonic()
+    got = shown_at_terminal(program, ["run", "--no-net", "--limit", "100000000"], long_text())
+    lasted = time.monotonic() - began
+    shown = [int(number) for number in SHOWN.findall(got)]
+    is_so_far = len(shown) == 2 and 0 < shown[0] < shown[1] and all(number % SHOWN_TURN == 0 for number in shown)
+    lines = b"".join(b"\r\x1b[Kinet: %d interactions" % number for number in shown)
+    return None if is_so_far and got == lines and lasted >= 2 else f"{got!r} in {lasted:.1f} seconds"
+
+
 def from_folder(program, words):
     folder = os.open(program.room, os.O_RDONLY)
     try:
@@ -235,3 +280,4 @@ def errors(program):
 def streams(program):
     for group in (outputs, early_ends, inputs, errors):
         yield from group(program)
+    yield "a long run at a terminal shows how far it is", partial(wrong_progress, program)
