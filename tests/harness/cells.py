@@ -1,5 +1,5 @@
 """Runs with too few cells: the line of the stop, the same with any number of workers, and free cells and agents that make up all cells. And the
-figures of `inet run --stats`, among them the most cells in use."""
+figures of `inet run --stats`, among them the most cells in use; and what helps where a run has stopped early."""
 import itertools
 import re
 from functools import partial
@@ -15,6 +15,13 @@ CLASSES = {"small": 2, "large": 8, "wide": 16}
 # Programs that need more and more cells: rows that fill the cells of one class, and examples.
 GROWING = ("fills_large_cells", "fills_wide_cells")
 GROWING_EXAMPLES = ("factorial", "stream", "product")
+MOST_CELLS = 1_048_576
+# What is told who runs a program that stops early.
+MORE_INTERACTIONS = b"help: `--limit N` allows more interactions, up to 1000000000000\n"
+MORE_CELLS = b"help: `--cells N` gives more cells of each size, up to 1048576\n"
+NO_MORE_CELLS = b"help: no run may have more cells of a size than 1048576\n"
+# So often doubled, one has more agents than there may be cells.
+DOUBLINGS = 21
 # Programs with agents of each class whose runs are so short that figures are taken at their beginning and their end alone, and how many
 # interactions those may have.
 WITH_FIGURES = ("sum_of_two_and_one", "copies_added", "agent_with_a_large_cell", "as_many_wide_agents_as_cells")
@@ -117,7 +124,32 @@ def figures(program):
         yield f"figures of {WITH_THREADS}, {workers} workers", partial(wrong_threads, program, workers)
 
 
+def doubled_text():
+    """One, doubled again and again, by the rules of the example."""
+    rules = text_of("double").decode().rpartition("net (")[0]
+    lines = "".join(f"Dup(one{k}, other{k}) ~ n{k}; Add(other{k}, n{k + 1}) ~ one{k};\n" for k in range(DOUBLINGS))
+    return f"{rules}net (n{DOUBLINGS} : nat+) {{\nn0 ~ S(Z);\n{lines}}}\n".encode()
+
+
+def wrong_help(program, words, text, status, told):
+    """What is wrong with what a run tells on standard error, beside its status."""
+    answer = program.run(["run", "--no-net", *words], text)
+    return None if (answer.status, answer.errors) == (status, told) else f"{answer}, told: {answer.errors!r}; wanted: {status}, {told!r}"
+
+
+def helps(program):
+    for words, text, status, told in (
+        ([], text_of("sum"), ACCEPTED, b""),
+        (["--limit", "1"], text_of("sum"), LIMIT, MORE_INTERACTIONS),
+        (["--cells", "16"], text_of("fills_wide_cells", ROWS), FULL, MORE_CELLS),
+        (["--cells", "16"], text_of("more_wide_agents_than_cells", ROWS), FULL, MORE_CELLS),
+        (["--cells", str(MOST_CELLS), "--limit", "100000000"], doubled_text(), FULL, NO_MORE_CELLS),
+    ):
+        yield f"told of {' '.join(['run', *words])}, status {status}", partial(wrong_help, program, words, text, status, told)
+
+
 def cells(program):
+    yield from helps(program)
     yield from figures(program)
     for number in (11, 12, 13, 14):
         text = sum_text(number)
