@@ -22,6 +22,9 @@ TOO_SHORT = b"refused E02 at 1:1\n"
 # a second is over.
 SHOWN = re.compile(rb"\r\x1b\[Kinet: (\d+) interactions")
 SHOWN_TURN = 1 << 20
+COLOUR = re.compile(rb"\x1b\[[0-9;]*m")
+# What is told who starts the program at a terminal without a file.
+AT_TERMINAL = b"inet: reads the program from the terminal; end it with Ctrl-D on a line of its own\n"
 
 
 def closed_pipe():
@@ -176,6 +179,56 @@ def wrong_progress(program):
     return None if is_so_far and got == lines and lasted >= 2 else f"{got!r} in {lasted:.1f} seconds"
 
 
+def told_at_terminal(program, words, text, environment):
+    """What a terminal for standard error gets of a run, in the lines of a text."""
+    terminal, writer = os.openpty()
+    try:
+        answer = program.run(words, text, environment, stderr=writer)
+    finally:
+        os.close(writer)
+    got = b""
+    try:
+        while part := os.read(terminal, SMALL_PIPE):
+            got += part
+    except OSError:
+        # So a terminal tells that nobody writes to it any more.
+        pass
+    finally:
+        os.close(terminal)
+    return answer, got.replace(b"\r\n", b"\n")
+
+
+def wrong_colours(program, text, environment, has_colours):
+    """What is wrong with the diagnosis at a terminal: in colours or not, its words are the usual ones."""
+    usual = program.run(["check"], text)
+    answer, told = told_at_terminal(program, ["check"], text, environment)
+    plain = COLOUR.sub(b"", told)
+    is_right = plain == usual.errors and (plain != told) == has_colours
+    return differing(answer, usual.status, usual.output) or (None if is_right else f"told: {told!r}")
+
+
+def wrong_from_terminal(program, text):
+    """What is wrong where the program's text comes from a terminal: it is said how it ends, and the rest is as usual."""
+    usual = program.run(["check"], text)
+    terminal, reader = os.openpty()
+    try:
+        # The end is told on a line of its own.
+        os.write(terminal, text + b"\n\x04")
+        answer = program.run(["check"], stdin=reader)
+    finally:
+        os.close(reader)
+        os.close(terminal)
+    return differing(answer, usual.status, usual.output) or (None if answer.errors == AT_TERMINAL + usual.errors else f"told: {answer.errors!r}")
+
+
+def terminals(program):
+    for environment, has_colours in (({"NO_COLOR": ""}, True), ({"NO_COLOR": "1"}, False)):
+        name = "in colours" if has_colours else "without colours"
+        yield f"a diagnosis at a terminal {name}", partial(wrong_colours, program, text_of(EXAMPLES[1]), environment, has_colours)
+    yield "a text from a terminal", partial(wrong_from_terminal, program, b"type nat;\nsymbol Z : nat+;\nnet (r : nat+) { r ~ Z; }\n")
+    yield "a long run at a terminal shows how far it is", partial(wrong_progress, program)
+
+
 def from_folder(program, words):
     folder = os.open(program.room, os.O_RDONLY)
     try:
@@ -278,6 +331,5 @@ def errors(program):
 
 
 def streams(program):
-    for group in (outputs, early_ends, inputs, errors):
+    for group in (outputs, early_ends, inputs, errors, terminals):
         yield from group(program)
-    yield "a long run at a terminal shows how far it is", partial(wrong_progress, program)
