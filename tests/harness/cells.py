@@ -1,9 +1,10 @@
-"""Runs with too few cells: the line of the stop, the same with any number of workers, and free cells and agents that make up all cells."""
+"""Runs with too few cells: the line of the stop, the same with any number of workers, and free cells and agents that make up all cells. And the
+figures of `inet run --stats`, among them the most cells in use; and what helps where a run has stopped early."""
 import itertools
 import re
 from functools import partial
 
-from harness.programs import ACCEPTED, FULL, ROWS, answering, text_of
+from harness.programs import ACCEPTED, FULL, LIMIT, ROWS, answering, text_of
 
 WORKERS = (1, 2, 64)
 TIMES = 3
@@ -14,6 +15,24 @@ CLASSES = {"small": 2, "large": 8, "wide": 16}
 # Programs that need more and more cells: rows that fill the cells of one class, and examples.
 GROWING = ("fills_large_cells", "fills_wide_cells")
 GROWING_EXAMPLES = ("factorial", "stream", "product")
+MOST_CELLS = 1_048_576
+# What is told who runs a program that stops early.
+MORE_INTERACTIONS = b"help: `--limit N` allows more interactions, up to 1000000000000\n"
+MORE_CELLS = b"help: `--cells N` gives more cells of each size, up to 1048576\n"
+NO_MORE_CELLS = b"help: no run may have more cells of a size than 1048576\n"
+# So often doubled, one has more agents than there may be cells.
+DOUBLINGS = 21
+# Programs with agents of each class whose runs are so short that figures are taken at their beginning and their end alone, and how many
+# interactions those may have.
+WITH_FIGURES = ("sum_of_two_and_one", "copies_added", "agent_with_a_large_cell", "as_many_wide_agents_as_cells")
+EXAMPLES_WITH_FIGURES = ("queue", "sum", "double")
+SHORT_RUN = 1_000
+# One whose run with several workers starts threads.
+WITH_THREADS = "tree_of_large_leaves"
+FIGURES = re.compile(
+    rb"time to check: \d+\.\d{3} s\ntime to run: \d+\.\d{3} s\n(?:interactions a second: \d+\n)?"
+    rb"most cells in use: (\d+) small, (\d+) large, (\d+) wide\nthreads: (\d+)\nphases: (\d+)\n"
+)
 
 
 def unary(number):
@@ -47,15 +66,21 @@ def class_of(arity):
     return next(name for name, most in CLASSES.items() if arity <= most)
 
 
+def agents_in(answer, text):
+    """How many agents the printed net has of each class."""
+    known = arities(text)
+    net = re.sub(r"(?m)^\w+ = ", "", answer.output.decode().partition("interactions: ")[0])
+    classes = [class_of(known[name]) for name in re.findall(r"\w+", net) if name in known]
+    return {name: classes.count(name) for name in CLASSES}
+
+
 def wrong_sum_of_cells(answer, text, cells):
     """What is wrong with the cells of a run that is full: those of the class that are free, and the agents in the net, are all of them."""
     stop = re.search(rb"stop: full (\w+) need (\d+) free (\d+)\n$", answer.output)
     if answer.status != FULL or not stop:
         return None if answer.status == ACCEPTED or answer.output.startswith(b"start: full ") else f"{answer}; wanted: full or normal"
     kind, need, free = stop[1].decode(), int(stop[2]), int(stop[3])
-    known = arities(text)
-    net = re.sub(r"(?m)^\w+ = ", "", answer.output.decode().partition("interactions: ")[0])
-    agents = sum(class_of(known[name]) == kind for name in re.findall(r"\w+", net) if name in known)
+    agents = agents_in(answer, text)[kind]
     return None if free < need and agents + free == cells else f"{agents} {kind} agents, need {need}, free {free}, of {cells} cells"
 
 
@@ -69,7 +94,63 @@ def limited(program, name, text, cells):
         yield f"{name} in {cells} cells: {workers} workers, time {time}", answering(run, usual.status, usual.output)
 
 
+def wrong_figures(program, text):
+    """What is wrong with the figures of a short run by one worker: the most cells in use are those of its first net or of its last one."""
+    begun = program.run(["run", "--limit", "0"], text)
+    ended = program.run(["run", "--limit", str(SHORT_RUN), "--stats"], text)
+    figures = FIGURES.fullmatch(ended.errors)
+    if begun.status not in (ACCEPTED, LIMIT) or ended.status != ACCEPTED or not figures:
+        return f"{begun}; {ended}, {ended.errors!r}; wanted: a run that ends, and its figures"
+    nets = [agents_in(answer, text.decode()) for answer in (begun, ended)]
+    wanted = [*(max(net[name] for net in nets) for name in CLASSES), 1, 0]
+    found = [int(figure) for figure in figures.groups()]
+    return None if found == wanted else f"{found}; wanted: {wanted}"
+
+
+def wrong_threads(program, workers):
+    """What is wrong with the figures of a long run by several workers: it has phases, with as many threads as workers at most, and two at least."""
+    answer = program.run(["run", "--no-net", "--stats", "--cells", "200000", "--workers", str(workers)], text_of(WITH_THREADS, ROWS))
+    figures = FIGURES.search(answer.errors)
+    if answer.status != ACCEPTED or not figures:
+        return f"{answer}, {answer.errors!r}; wanted: a run that ends, and its figures"
+    threads, phases = int(figures[4]), int(figures[5])
+    return None if 2 <= threads <= workers and 1 <= phases else f"{threads} threads, {phases} phases of {workers} workers"
+
+
+def figures(program):
+    for text, name in [*((text_of(name, ROWS), name) for name in WITH_FIGURES), *((text_of(name), name) for name in EXAMPLES_WITH_FIGURES)]:
+        yield f"figures of {name}", partial(wrong_figures, program, text)
+    for workers in (2, 4):
+        yield f"figures of {WITH_THREADS}, {workers} workers", partial(wrong_threads, program, workers)
+
+
+def doubled_text():
+    """One, doubled again and again, by the rules of the example."""
+    rules = text_of("double").decode().rpartition("net (")[0]
+    lines = "".join(f"Dup(one{k}, other{k}) ~ n{k}; Add(other{k}, n{k + 1}) ~ one{k};\n" for k in range(DOUBLINGS))
+    return f"{rules}net (n{DOUBLINGS} : nat+) {{\nn0 ~ S(Z);\n{lines}}}\n".encode()
+
+
+def wrong_help(program, words, text, status, told):
+    """What is wrong with what a run tells on standard error, beside its status."""
+    answer = program.run(["run", "--no-net", *words], text)
+    return None if (answer.status, answer.errors) == (status, told) else f"{answer}, told: {answer.errors!r}; wanted: {status}, {told!r}"
+
+
+def helps(program):
+    for words, text, status, told in (
+        ([], text_of("sum"), ACCEPTED, b""),
+        (["--limit", "1"], text_of("sum"), LIMIT, MORE_INTERACTIONS),
+        (["--cells", "16"], text_of("fills_wide_cells", ROWS), FULL, MORE_CELLS),
+        (["--cells", "16"], text_of("more_wide_agents_than_cells", ROWS), FULL, MORE_CELLS),
+        (["--cells", str(MOST_CELLS), "--limit", "100000000"], doubled_text(), FULL, NO_MORE_CELLS),
+    ):
+        yield f"told of {' '.join(['run', *words])}, status {status}", partial(wrong_help, program, words, text, status, told)
+
+
 def cells(program):
+    yield from helps(program)
+    yield from figures(program)
     for number in (11, 12, 13, 14):
         text = sum_text(number)
         status, output = sum_answer(number)

@@ -1,7 +1,8 @@
 """The export: what `inet_export` writes on each example, and what the tools of `tools/` make of it.
 
 Each accepted example is reduced in random orders, and has to come to the net and the count of `inet run`; its steps have to be right, and
-no longer are once one of them is left out or changed, or a wire is. Of a few texts each request for memory, read and write is refused.
+no longer are once one of them is left out or changed, or a wire is. Of a few texts each request for memory, read and write is refused. A program
+in a file, and files and streams that fail, are as with `inet`.
 """
 import contextlib
 import copy
@@ -11,8 +12,10 @@ import subprocess
 import sys
 from functools import partial
 
-from harness.programs import ACCEPTED, EXAMPLES, HERE, LONGEST, Answer, Program, answering, differing, text_of
+from harness.files import unread
+from harness.programs import ACCEPTED, EXAMPLES, HERE, LONGEST, MOST_BYTES, REFUSED, Answer, Program, answering, differing, failing, text_of
 from harness.refusals import Refuser, target
+from harness.streams import TOO_LONG, from_folder, with_closed_output, with_closed_pipe, wrong_without_reader
 
 TOOLS = os.path.join(HERE, "..", "..", "tools")
 BUILT = os.path.join(HERE, "..", "..", "crates", "inet_export", "out", "inet_export")
@@ -85,6 +88,22 @@ def accepted(run, name, data):
         yield f"{name}: altered steps of item {number}", partial(wrong_certificate, program, item)
 
 
+def files_and_streams(exporter):
+    """A program in a file, or on `-`; one that is too long; a file that can't be had; standard streams that fail."""
+    for name in REFUSING:
+        text = text_of(name)
+        usual = exporter.run([], text)
+        for word in (exporter.file_of(text), "-"):
+            yield f"{name}: {'on -' if word == '-' else 'in a file'}", answering(partial(exporter.run, [word], text), usual.status, usual.output)
+        yield f"{name}: output closed", failing(partial(with_closed_output, exporter, [], text), "output")
+        yield f"{name}: output a pipe without a reader", partial(wrong_without_reader, partial(with_closed_pipe, exporter, [], text))
+    yield "a text that is too long", answering(partial(exporter.run, [], b" " * (MOST_BYTES + 1)), REFUSED, TOO_LONG)
+    yield "input a folder", failing(partial(from_folder, exporter, []), "input")
+    missing = os.path.join(exporter.room, "missing")
+    yield "no file", unread(partial(exporter.run, [missing]), missing, "opened", "No such file or directory (os error 2)")
+    yield "a folder", unread(partial(exporter.run, [exporter.room]), exporter.room, "read", "Is a directory (os error 21)")
+
+
 def export(program):
     if not os.access(BUILT, os.X_OK):
         raise FileNotFoundError(os.path.normpath(BUILT))
@@ -103,6 +122,7 @@ def export(program):
             yield from accepted(run, name, answer.output)
         else:
             yield f"{name}: refused", lambda answer=answer, checked=checked: differing(answer, checked.status, checked.output)
+    yield from files_and_streams(exporter)
     refuser = Refuser(exporter)
     for name in REFUSING:
         yield from target(refuser, name, [], text_of(name))

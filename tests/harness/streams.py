@@ -1,12 +1,15 @@
-"""Standard streams that are closed, full, cut off, endless or of the wrong kind."""
+"""Standard streams that are closed, full, cut off, endless or of the wrong kind; and a terminal, at which a long run shows how far it is."""
 import fcntl
 import itertools
 import os
+import re
+import select
 import subprocess
 import threading
+import time
 from functools import partial
 
-from harness.programs import COMMANDS, MOST_BYTES, REFUSED, ROWS, STREAM, WRONG_WORDS, answering, differing, failing, text_of
+from harness.programs import COMMANDS, LONGEST, MOST_BYTES, REFUSED, ROWS, STREAM, WRONG_WORDS, answering, differing, failing, text_of
 
 # A file descriptor command of Linux: how many bytes a pipe holds.
 SET_PIPE_SIZE = 1031
@@ -15,6 +18,13 @@ SMALL_PIPE = 4096
 EXAMPLES = ("sum", "waits_for_itself")
 TOO_LONG = b"refused E03 at 1:1\n"
 TOO_SHORT = b"refused E02 at 1:1\n"
+# The line that a long run shows each second, which takes back the one before, and how many interactions are done before it is looked whether
+# a second is over.
+SHOWN = re.compile(rb"\r\x1b\[Kinet: (\d+) interactions")
+SHOWN_TURN = 1 << 20
+COLOUR = re.compile(rb"\x1b\[[0-9;]*m")
+# What is told who starts the program at a terminal without a file.
+AT_TERMINAL = b"inet: reads the program from the terminal; end it with Ctrl-D on a line of its own\n"
 
 
 def closed_pipe():
@@ -131,6 +141,94 @@ def early_ends(program):
             )
 
 
+def long_text():
+    """The Ackermann function at three and ten, by the rules of the example: some 67 million interactions."""
+    rules = text_of("ackermann").decode().rpartition("net (")[0]
+    return f"{rules}net (all : nat+) {{ S(S(S(Z))) ~ Ack({'S(' * 10}Z{')' * 10}, all); }}\n".encode()
+
+
+def shown_at_terminal(program, words, text):
+    """Runs the program with a terminal for standard error until it has shown two lines there, and kills it: what the terminal got till then."""
+    terminal, writer = os.openpty()
+    got = b""
+    with open(program.file_of(text), "rb") as file:
+        process = subprocess.Popen([program.path, *words], stdin=file, stdout=subprocess.DEVNULL, stderr=writer)
+    os.close(writer)
+    try:
+        ends = time.monotonic() + LONGEST
+        while len(SHOWN.findall(got)) < 2 and select.select([terminal], [], [], max(0, ends - time.monotonic()))[0]:
+            got += os.read(terminal, SMALL_PIPE)
+    except OSError:
+        # So a terminal tells that nobody writes to it any more.
+        pass
+    finally:
+        process.kill()
+        process.wait()
+        os.close(terminal)
+    return got
+
+
+def wrong_progress(program):
+    """What is wrong with what a long run shows at a terminal: how far it is, each line in the place of the one before, not before a second is over."""
+    began = time.monotonic()
+    got = shown_at_terminal(program, ["run", "--no-net", "--limit", "100000000"], long_text())
+    lasted = time.monotonic() - began
+    shown = [int(number) for number in SHOWN.findall(got)]
+    is_so_far = len(shown) == 2 and 0 < shown[0] < shown[1] and all(number % SHOWN_TURN == 0 for number in shown)
+    lines = b"".join(b"\r\x1b[Kinet: %d interactions" % number for number in shown)
+    return None if is_so_far and got == lines and lasted >= 2 else f"{got!r} in {lasted:.1f} seconds"
+
+
+def told_at_terminal(program, words, text, environment):
+    """What a terminal for standard error gets of a run, in the lines of a text."""
+    terminal, writer = os.openpty()
+    try:
+        answer = program.run(words, text, environment, stderr=writer)
+    finally:
+        os.close(writer)
+    got = b""
+    try:
+        while part := os.read(terminal, SMALL_PIPE):
+            got += part
+    except OSError:
+        # So a terminal tells that nobody writes to it any more.
+        pass
+    finally:
+        os.close(terminal)
+    return answer, got.replace(b"\r\n", b"\n")
+
+
+def wrong_colours(program, text, environment, has_colours):
+    """What is wrong with the diagnosis at a terminal: in colours or not, its words are the usual ones."""
+    usual = program.run(["check"], text)
+    answer, told = told_at_terminal(program, ["check"], text, environment)
+    plain = COLOUR.sub(b"", told)
+    is_right = plain == usual.errors and (plain != told) == has_colours
+    return differing(answer, usual.status, usual.output) or (None if is_right else f"told: {told!r}")
+
+
+def wrong_from_terminal(program, text):
+    """What is wrong where the program's text comes from a terminal: it is said how it ends, and the rest is as usual."""
+    usual = program.run(["check"], text)
+    terminal, reader = os.openpty()
+    try:
+        # The end is told on a line of its own.
+        os.write(terminal, text + b"\n\x04")
+        answer = program.run(["check"], stdin=reader)
+    finally:
+        os.close(reader)
+        os.close(terminal)
+    return differing(answer, usual.status, usual.output) or (None if answer.errors == AT_TERMINAL + usual.errors else f"told: {answer.errors!r}")
+
+
+def terminals(program):
+    for environment, has_colours in (({"NO_COLOR": ""}, True), ({"NO_COLOR": "1"}, False)):
+        name = "in colours" if has_colours else "without colours"
+        yield f"a diagnosis at a terminal {name}", partial(wrong_colours, program, text_of(EXAMPLES[1]), environment, has_colours)
+    yield "a text from a terminal", partial(wrong_from_terminal, program, b"type nat;\nsymbol Z : nat+;\nnet (r : nat+) { r ~ Z; }\n")
+    yield "a long run at a terminal shows how far it is", partial(wrong_progress, program)
+
+
 def from_folder(program, words):
     folder = os.open(program.room, os.O_RDONLY)
     try:
@@ -233,5 +331,5 @@ def errors(program):
 
 
 def streams(program):
-    for group in (outputs, early_ends, inputs, errors):
+    for group in (outputs, early_ends, inputs, errors, terminals):
         yield from group(program)
