@@ -7,12 +7,12 @@ use Rattle.in_syntax.specs.Parsing.{IsOfText, Parses}
 use Rattle.in_symbols.specs.Tables.{Tabulates}
 use Rattle.in_net.specs.Built.{Builds}
 use Rattle.in_check.specs.declared.checking.Declared.{Declared}
-use Rattle.in_check.specs.Checking.{AreOfText, BuildsRules, ChecksNames, ChecksNet, ChecksRules, ChecksTypes, Declares, DeclaresText, IsChecked}
+use Rattle.in_check.specs.Checking.{AreOfText, BuildsRules, ChecksNames, ChecksNet, ChecksRules, ChecksTypes, DeclaresNames, DeclaresText, IsChecked}
 use Rattle.in_check.specs.Programs.{Program}
 use Rattle.in_check.proofs.Chain.{chain_of, then_rest}
 
 -- all that is declared is of one tree
-pub declared_of : (s : Source) (d : Declared) → IsOfText s → Declares s (Ok d) → AreOfText d.symbols d.rules d.net
+pub declared_of : (s : Source) (d : Declared) → IsOfText s → DeclaresNames s (Ok d) → AreOfText d.symbols d.rules d.net
 declared_of s d tree (t, tabulates, (rules, builds_rules, (n, builds, e))) =
     subst (λ (z : Declared). AreOfText z.symbols z.rules z.net) (sym e) (record {
       source = s;
@@ -23,7 +23,7 @@ declared_of s d tree (t, tabulates, (rules, builds_rules, (n, builds, e))) =
     })
 
 -- a tree that declares, and the passes over that
-pub names_checked : (s : Source) (d : Declared) (x : Result Program Fault) → Declares s (Ok d) → ChecksTypes d.symbols d.rules d.net x → ChecksNames s x
+pub names_checked : (s : Source) (d : Declared) (x : Result Program Fault) → DeclaresNames s (Ok d) → ChecksTypes d.symbols d.rules d.net x → ChecksNames s x
 names_checked s d x (t, tabulates, (rules, builds_rules, (n, builds, e))) h =
     let typed : ChecksTypes t rules n x = subst (λ (z : Declared). ChecksTypes z.symbols z.rules z.net x) e h in
     then_rest (Tabulates s) (ChecksRules s) t x tabulates
@@ -31,7 +31,7 @@ names_checked s d x (t, tabulates, (rules, builds_rules, (n, builds, e))) h =
     (then_rest (Builds s t) (ChecksTypes t rules) n x builds typed))
 
 -- a tree that doesn't declare
-pub names_refused : (s : Source) (e : Fault) → Declares s (Err e) → ChecksNames s (Err e)
+pub names_refused : (s : Source) (e : Fault) → DeclaresNames s (Err e) → ChecksNames s (Err e)
 names_refused s (Refused r) (inl h) = inl h
 names_refused s (Refused r) (inr (t, tabulates, inl h)) = inr (t, tabulates, inl h)
 names_refused s (Refused r) (inr (t, tabulates, inr (rules, builds_rules, inl h))) = inr (t, tabulates, inr (rules, builds_rules, inl h))

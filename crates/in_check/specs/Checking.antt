@@ -116,11 +116,11 @@ DeclaresNet s t rules = Then (Builds s t) (KeepsDeclared t rules)
 abbrev pub DeclaresRules : Source → Tables → Result Declared Fault → Type 0
 DeclaresRules s t = Then (BuildsRules s t) (DeclaresNet s t)
 
-abbrev pub Declares : Source → Result Declared Fault → Type 0
-Declares s = Then (Tabulates s) (DeclaresRules s)
+abbrev pub DeclaresNames : Source → Result Declared Fault → Type 0
+DeclaresNames s = Then (Tabulates s) (DeclaresRules s)
 
 abbrev pub DeclaresText : List ℕ → Result Declared Fault → Type 0
-DeclaresText text = Then (Parses text) Declares
+DeclaresText text = Then (Parses text) DeclaresNames
 
 -- ---- all passes
 

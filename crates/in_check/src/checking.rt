@@ -27,7 +27,7 @@ ghost use Rattle.in_check.specs.Certificates.{CertifiesRules};
 ghost use Rattle.in_check.specs.Programs.{Program};
 ghost use Rattle.in_check.specs.Promises.{ReachesAsPromised};
 ghost use Rattle.in_check.specs.Systems.{system_of};
-ghost use Rattle.in_check.specs.Checking.{AreOfText, BuildsRules, ChecksNames, ChecksNetSteps, ChecksPairs, ChecksRuleSteps, ChecksTypes, Declares, DeclaresNet, DeclaresRules, DeclaresText, IsChecked, TypePasses, TypesAll, TypesRules};
+ghost use Rattle.in_check.specs.Checking.{AreOfText, BuildsRules, ChecksNames, ChecksNetSteps, ChecksPairs, ChecksRuleSteps, ChecksTypes, DeclaresNames, DeclaresNet, DeclaresRules, DeclaresText, IsChecked, TypePasses, TypesAll, TypesRules};
 
 use crate::certifying::{Evidence, certify_net, certify_rules};
 use crate::checked::{Certificate, Checked, Passed};
@@ -268,7 +268,7 @@ fn declare_rules(alloc: Global, source: &Source, symbols: Symbols) -> Result<Dec
 /// The names, and then the rules and the net.
 fn declare(alloc: Global, source: &Source) -> Result<Declared, Fault>
     requires { IsOfText source.now }
-    ensures { Declares source.now result }
+    ensures { DeclaresNames source.now result }
 {
     match Symbols::build(alloc, source) {
         Ok(symbols) => declare_rules(alloc, source, symbols),
