@@ -86,7 +86,10 @@ def in_lanes(rt):
                     elif idle <= 0:
                         break
                     if running and needs > room:
-                        continue
+                        if is_proof[key]:
+                            continue
+                        # Smaller mutants wait too, else a large one would be the last.
+                        break
                     left.remove(key)
                     running[(proofs if is_proof[key] else mutants).submit(call, given, jobs)] = key, needs * (1 + 0.6 * (jobs - 1)), jobs
                 for ended in wait(running, return_when=FIRST_COMPLETED).done:
