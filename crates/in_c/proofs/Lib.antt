@@ -1,3 +1,4 @@
+mod AnsweredOnce
 mod Chosen
 mod Exported
 mod Given
