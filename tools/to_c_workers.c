@@ -1,13 +1,13 @@
 // ---- Several workers, each a thread. They give pairs to who has none, and letters about wires go between them (to_c_wires.c).
 
 #ifdef STRESS
-enum { FIRST_ALONE = 0, LEAST_ALONE = 40, MOST_ALONE = 400, WINDOW = 200, ACCOUNTED = 1, LOOKED_AT = 2, SPIN = 10, SPARE_WORDS = 1 };
+enum { FIRST_ALONE = 0, LEAST_ALONE = 40, MOST_ALONE = 400, WINDOW = 200, ACCOUNTED = 1, CLOCKED = 400, LOOKED_AT = 2, SPIN = 10, SPARE_WORDS = 1 };
 enum { LEAST_PAIRS = 1, MOST_GIVEN = 3, MOST_IN_GIFT = 9, FIRST_PAIRS = 4, REFUSED_TIMES = 1, MOST_PATIENCE = 2, MOST_REVERSED = 32 };
 enum { LASTS = 6, PAIR_LASTS = 3, AGENT_LASTS = 0, LASTS_LONG = 20 };
 #else
 // In interactions: a run begins with one worker; where within a window of all together it doesn't pay, one goes on alone, for three times as long
-// each time.
-enum { FIRST_ALONE = 400000, LEAST_ALONE = 2000000, MOST_ALONE = 64000000, WINDOW = 200000, ACCOUNTED = 8192 };
+// each time. The clock is looked at after so many.
+enum { FIRST_ALONE = 400000, LEAST_ALONE = 2000000, MOST_ALONE = 64000000, WINDOW = 200000, ACCOUNTED = 8192, CLOCKED = 2000000 };
 // Between two slices a worker looks at so many stubs. It gives pairs away where it has so many, and so many at a time at most, until so many
 // agents go with them.
 enum { LOOKED_AT = 64, LEAST_PAIRS = 2, MOST_GIVEN = 256, MOST_IN_GIFT = 4096 };
@@ -26,11 +26,17 @@ enum { SPIN = 500, SPARE_WORDS = 1 << 20 };
 // What it costs to wait, in interactions, of the first worker, who would have something to do if it were alone, before it ever paid and later, of
 // another, and of all at once, while a letter goes from one to another. All together have to do so many times as much as letters and waiting cost.
 enum { EARLY_WAITING_COSTS = 5000, FIRST_WAITING_COSTS = 1500, WAITING_COSTS = 200, ALL_WAITING_COSTS = 10000, PAYS = 4 };
+// Others that never paid yet have so many windows. They pay once they did one interaction of so many, and all are faster by so many hundredths.
+enum { WINDOWS = 3, SHARE = 8, FASTER = 110 };
+// What is left is laid out anew where all did so many interactions for each word of memory, of which there are at most so many.
+#ifdef STRESS
+enum { LAID_OUT = 0, MOST_LAID_OUT = 1 << 21 };
+#else
+enum { LAID_OUT = 2, MOST_LAID_OUT = 1 << 21 };
+#endif
 
 static struct {
   pthread_mutex_t lock;
-  // For who is parked, and for the first worker, who waits until all are.
-  pthread_cond_t parted;
   // The interactions that nobody has drawn.
   int64_t left;
   // Lists of free cells by arity.
@@ -41,7 +47,12 @@ static struct {
   // Since the last judgement interactions of all, those of all but the first worker, and what letters and waiting cost; and the number of those of
   // the first worker at which others begin, and for how many it is alone.
   int64_t done, by_others, cost, begin_at, alone_for;
-} team = {.lock = PTHREAD_MUTEX_INITIALIZER, .parted = PTHREAD_COND_INITIALIZER};
+  // How many windows others had before they paid; when the clock began, in microseconds, interactions of all since then, and since others
+  // began; and how many the first worker did in a microsecond when it was alone.
+  int windows;
+  int64_t clocked_at, clocked, together;
+  double alone_rate;
+} team = {.lock = PTHREAD_MUTEX_INITIALIZER};
 // What a worker looks at without the lock: how many lack pairs; whether all but the first are to park, and whether all have ended; whether there
 // are lists of free cells, and how often somebody looked for one.
 static _Atomic int hungry;
@@ -248,8 +259,27 @@ static void judge_gift(struct worker *w) {
   w->gift_tag = 0;
 }
 
+static int64_t microseconds(void) {
+  struct timespec now;
+  clock_gettime(CLOCK_MONOTONIC, &now);
+  return (int64_t)now.tv_sec * 1000000 + now.tv_nsec / 1000;
+}
+
+static void begin_clock(void) { // (locked)
+  team.clocked_at = microseconds();
+  team.clocked = 0;
+}
+
+// Interactions of all in a microsecond, since the clock began. (locked)
+static double rate(void) {
+  int64_t spent = microseconds() - team.clocked_at;
+  return (double)team.clocked / (double)(spent > 0 ? spent : 1);
+}
+
 static void account(struct worker *w) { // (locked)
   team.done += w->done - w->looked;
+  team.clocked += w->done - w->looked;
+  team.together += w->done - w->looked;
   if (w != workers) team.by_others += w->done - w->looked;
   team.cost += w->cost;
   w->looked = w->done;
@@ -263,7 +293,8 @@ static void begin(int count) {
   while (team.size < count && !pthread_create(&workers[team.size].thread, 0, work, &workers[team.size])) team.size++;
   team.active = count;
   SET(is_parting, false);
-  pthread_cond_broadcast(&team.parted);
+  // The others stay asleep.
+  for (int k = 1; k < team.size && k < count; k++) pthread_cond_signal(&workers[k].called);
 #ifdef STRESS
   // A small net would be reduced before they are there.
   int others = team.size > count ? team.size - count : 0;
@@ -278,14 +309,22 @@ static void begin(int count) {
 // Whether it pays that all work together; else all but the first are to park. (locked)
 static void judge(void) {
   // Where it never paid since the others began, little is enough to see that it doesn't.
-  if ((team.done < WINDOW && team.cost < (team.has_paid ? WINDOW / 2 : WINDOW / 20)) || LOOK_AT(is_parting)) return;
+  if (LOOK_AT(is_parting)) return;
+  if (team.has_paid ? team.done < WINDOW && team.cost < WINDOW / 2 : team.done < WINDOW / 2 && team.cost < WINDOW / 20) return;
   bool pays = team.done >= PAYS * team.cost;
+  if (!team.has_paid) {
+    team.has_paid = pays && team.by_others >= team.done / SHARE && 100 * rate() >= FASTER * team.alone_rate;
+    pays = team.has_paid || (pays && ++team.windows < WINDOWS);
+    if (team.has_paid) begin_clock();
+  } else if (team.clocked >= CLOCKED) {
+    pays = pays && rate() >= team.alone_rate;
+    if (pays) team.alone_for = LEAST_ALONE;
+    begin_clock();
+  }
 #ifdef STRESS
   static int judgements;
-  pays = ++judgements % 8 > 0;
-  team.by_others = team.done;
+  team.has_paid = pays = ++judgements % 8 > 0;
 #endif
-  team.has_paid = pays && (team.has_paid || team.by_others >= team.done / 8);
   if (pays) {
     // What was before counts too, by half: what is given costs at once, and is done for some while.
     team.done /= 2;
@@ -293,7 +332,6 @@ static void judge(void) {
     team.cost /= 2;
     if (!team.has_paid) return;
     team.paid_before = true;
-    team.alone_for = LEAST_ALONE;
     if (team.active < worker_count) begin(worker_count);
     return;
   }
@@ -351,13 +389,52 @@ static void come_together(struct worker *w) {
   w->is_alone = true;
 }
 
+static void empty_chunks(struct worker *w) {
+  while (w->chunks) {
+    word *chunk = w->chunks;
+    w->chunks = (word *)(uintptr_t)chunk[0];
+    chunk[0] = (word)(uintptr_t)w->empty;
+    w->empty = chunk;
+  }
+  w->chunk_words = 0;
+  w->bump = w->top = 0;
+}
+
+// All that is left is laid out anew, in the order in which it would be taken: where several worked, it lies here and there, and one alone takes
+// half as long again. It leaves as a letter does, and comes back; in between nobody has any cells. (locked)
+static void lay_out_anew(struct worker *w) {
+  size_t words = 0;
+  for (int k = 0; k < team.size; k++) words += workers[k].chunk_words;
+  if (words > MOST_LAID_OUT || team.together < LAID_OUT * (int64_t)words) return;
+  w->gift.count = 0;
+  for (word *pair = w->sp; pair > w->bottom;) put_pair(w, &w->gift, pair -= 2, SIZE_MAX);
+  for (size_t k = 0; k < free_count; k++)
+    if (AT(free_ends[k]) && TAG(free_ends[k])) put_agent(w, &w->gift, free_ends[k], free_ports[k], SIZE_MAX);
+  for (int k = 0; k < team.size; k++) {
+    struct worker *other = &workers[k];
+    memset(other->free, 0, sizeof other->free);
+    empty_chunks(other);
+  }
+  for (int size = 1; size <= MOST_ARITY; size++) team.cells[size].count = 0;
+  SET(lists, 0);
+  const word *at = w->gift.items;
+  for (word *pair = w->sp; pair > w->bottom;) {
+    pair -= 2;
+    at += 2;
+    pair[0] = take_agent(w, &at);
+    pair[1] = take_agent(w, &at);
+  }
+  for (size_t k = 0; k < free_count; k++)
+    if (AT(free_ends[k]) && TAG(free_ends[k])) free_ends[k] = take_agent(w, &at);
+}
+
 // What it has is left to the first worker, and it waits until it is to begin. (locked)
 static void park(struct worker *w) {
   account(w);
   give_back(w);
   team.parked++;
   pthread_cond_signal(&workers[0].called);
-  while ((LOOK_AT(is_parting) || w->number >= team.active) && !LOOK_AT(is_done)) pthread_cond_wait(&team.parted, &team.lock);
+  while ((LOOK_AT(is_parting) || w->number >= team.active) && !LOOK_AT(is_done)) pthread_cond_wait(&w->called, &team.lock);
   team.parked--;
   w->looked = w->done;
   w->cost = 0;
@@ -366,16 +443,19 @@ static void park(struct worker *w) {
 // The others begin: one of them, and where that pays, all.
 static void begin_others(struct worker *w) {
   enter();
+  account(w);
+  team.alone_rate = rate();
   begin(2);
   if (team.size == 1) team.begin_at = INT64_MAX;
   else {
+    begin_clock();
     team.left = w->fuel;
     w->fuel = 0;
     draw(w);
     w->is_alone = false;
-    w->looked = w->done;
-    w->cost = team.done = team.by_others = team.cost = 0;
+    w->cost = team.done = team.by_others = team.cost = team.together = 0;
     team.has_paid = team.paid_before = false;
+    team.windows = 0;
   }
   leave();
 }
@@ -383,6 +463,9 @@ static void begin_others(struct worker *w) {
 // The first worker goes on alone.
 static void begin_alone(struct worker *w) { // (locked)
   come_together(w);
+  account(w);
+  lay_out_anew(w);
+  begin_clock();
   // Where it never paid in this order, the next time it is the other one.
   if (!team.paid_before) SET(is_reversed, !LOOK_AT(is_reversed));
   team.begin_at = w->done + team.alone_for;
@@ -485,10 +568,8 @@ static bool find_work(struct worker *w) {
     team.idle--;
     tell_hungry();
   }
-  if (LOOK_AT(is_done)) {
+  if (LOOK_AT(is_done))
     for (int k = 0; k < team.size; k++) pthread_cond_signal(&workers[k].called);
-    pthread_cond_broadcast(&team.parted);
-  }
   leave();
   return found;
 }
@@ -545,6 +626,7 @@ static int64_t run(int64_t limit) {
   }
   w->fuel = limit;
   w->is_alone = true;
+  begin_clock();
   work(w);
   for (int k = 1; k < team.size; k++) pthread_join(workers[k].thread, 0);
   come_together(w);
