@@ -308,8 +308,8 @@ static void begin(int count) {
 
 // Whether it pays that all work together; else all but the first are to park. (locked)
 static void judge(void) {
-  // Where it never paid since the others began, little is enough to see that it doesn't.
   if (LOOK_AT(is_parting)) return;
+  // Where it never paid since the others began, little is enough to see that it doesn't.
   if (team.has_paid ? team.done < WINDOW && team.cost < WINDOW / 2 : team.done < WINDOW / 2 && team.cost < WINDOW / 20) return;
   bool pays = team.done >= PAYS * team.cost;
   if (!team.has_paid) {
@@ -389,6 +389,7 @@ static void come_together(struct worker *w) {
   w->is_alone = true;
 }
 
+// All chunks of a worker are there to be used from their beginnings.
 static void empty_chunks(struct worker *w) {
   while (w->chunks) {
     word *chunk = w->chunks;
@@ -401,7 +402,7 @@ static void empty_chunks(struct worker *w) {
 }
 
 // All that is left is laid out anew, in the order in which it would be taken: where several worked, it lies here and there, and one alone takes
-// half as long again. It leaves as a letter does, and comes back; in between nobody has any cells. (locked)
+// longer for it. It leaves as one letter and comes back; in between all cells are free. (locked)
 static void lay_out_anew(struct worker *w) {
   size_t words = 0;
   for (int k = 0; k < team.size; k++) words += workers[k].chunk_words;
