@@ -7,7 +7,7 @@ enum { LASTS = 6, PAIR_LASTS = 3, AGENT_LASTS = 0, LASTS_LONG = 20 };
 #else
 // In interactions: a run begins with one worker; where within a window of all together it doesn't pay, one goes on alone, for three times as long
 // each time. The clock is looked at after so many.
-enum { FIRST_ALONE = 400000, LEAST_ALONE = 2000000, MOST_ALONE = 64000000, WINDOW = 200000, ACCOUNTED = 8192, CLOCKED = 2000000 };
+enum { FIRST_ALONE = 400000, LEAST_ALONE = 2000000, MOST_ALONE = 64000000, WINDOW = 200000, ACCOUNTED = 8192, CLOCKED = 1000000 };
 // Between two slices a worker looks at so many stubs. It gives pairs away where it has so many, and so many at a time at most, until so many
 // agents go with them.
 enum { LOOKED_AT = 64, LEAST_PAIRS = 2, MOST_GIVEN = 256, MOST_IN_GIFT = 4096 };
@@ -26,8 +26,8 @@ enum { SPIN = 500, SPARE_WORDS = 1 << 20 };
 // What it costs to wait, in interactions, of the first worker, who would have something to do if it were alone, before it ever paid and later, of
 // another, and of all at once, while a letter goes from one to another. All together have to do so many times as much as letters and waiting cost.
 enum { EARLY_WAITING_COSTS = 5000, FIRST_WAITING_COSTS = 1500, WAITING_COSTS = 200, ALL_WAITING_COSTS = 10000, PAYS = 4 };
-// Others that never paid yet have so many windows. They pay once they did one interaction of so many, and all are faster by so many hundredths.
-enum { WINDOWS = 3, SHARE = 8, FASTER = 110 };
+// Others that never paid yet have so many half windows. They pay once they did one interaction of so many, and all are as fast as one alone.
+enum { WINDOWS = 3, SHARE = 8 };
 // What is left is laid out anew where all did so many interactions for each word of memory, of which there are at most so many.
 #ifdef STRESS
 enum { LAID_OUT = 0, MOST_LAID_OUT = 1 << 21 };
@@ -313,12 +313,12 @@ static void judge(void) {
   if (team.has_paid ? team.done < WINDOW && team.cost < WINDOW / 2 : team.done < WINDOW / 2 && team.cost < WINDOW / 20) return;
   bool pays = team.done >= PAYS * team.cost;
   if (!team.has_paid) {
-    team.has_paid = pays && team.by_others >= team.done / SHARE && 100 * rate() >= FASTER * team.alone_rate;
+    team.has_paid = pays && team.by_others >= team.done / SHARE && rate() >= team.alone_rate;
     pays = team.has_paid || (pays && ++team.windows < WINDOWS);
     if (team.has_paid) begin_clock();
   } else if (team.clocked >= CLOCKED) {
     pays = pays && rate() >= team.alone_rate;
-    if (pays) team.alone_for = LEAST_ALONE;
+    if (pays && team.together >= LEAST_ALONE) team.alone_for = LEAST_ALONE;
     begin_clock();
   }
 #ifdef STRESS
