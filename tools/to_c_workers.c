@@ -6,7 +6,7 @@ enum { LEAST_PAIRS = 1, MOST_GIVEN = 3, MOST_IN_GIFT = 9, FIRST_PAIRS = 4, REFUS
 enum { LASTS = 6, PAIR_LASTS = 3, AGENT_LASTS = 0, LASTS_LONG = 20 };
 #else
 // In interactions: a run begins with one worker; where within a window of all together it doesn't pay, one goes on alone, for three times as long
-// each time. The clock is looked at after so many.
+// each time. How fast all are is seen from the last CLOCKED, or half as many.
 enum { FIRST_ALONE = 400000, LEAST_ALONE = 2000000, MOST_ALONE = 64000000, WINDOW = 200000, ACCOUNTED = 8192, CLOCKED = 1000000 };
 // Between two slices a worker looks at so many stubs. It gives pairs away where it has so many, and so many at a time at most, until so many
 // agents go with them.
@@ -270,6 +270,13 @@ static void begin_clock(void) { // (locked)
   team.clocked = 0;
 }
 
+// What was before counts by half. (locked)
+static void halve_clock(void) {
+  int64_t now = microseconds();
+  team.clocked_at = now - (now - team.clocked_at) / 2;
+  team.clocked /= 2;
+}
+
 // Interactions of all in a microsecond, since the clock began. (locked)
 static double rate(void) {
   int64_t spent = microseconds() - team.clocked_at;
@@ -312,14 +319,14 @@ static void judge(void) {
   // Where it never paid since the others began, little is enough to see that it doesn't.
   if (team.has_paid ? team.done < WINDOW && team.cost < WINDOW / 2 : team.done < WINDOW / 2 && team.cost < WINDOW / 20) return;
   bool pays = team.done >= PAYS * team.cost;
-  if (!team.has_paid) {
-    team.has_paid = pays && team.by_others >= team.done / SHARE && rate() >= team.alone_rate;
-    pays = team.has_paid || (pays && ++team.windows < WINDOWS);
-    if (team.has_paid) begin_clock();
-  } else if (team.clocked >= CLOCKED) {
-    pays = pays && rate() >= team.alone_rate;
+  const bool is_fast = rate() >= team.alone_rate;
+  if (team.has_paid) {
+    pays = pays && is_fast;
     if (pays && team.together >= LEAST_ALONE) team.alone_for = LEAST_ALONE;
-    begin_clock();
+    if (team.clocked >= CLOCKED) halve_clock();
+  } else {
+    team.has_paid = pays && is_fast && team.by_others >= team.done / SHARE;
+    pays = team.has_paid || (pays && ++team.windows < WINDOWS);
   }
 #ifdef STRESS
   static int judgements;
