@@ -6,8 +6,8 @@ use Rattle.in_base.specs.Lists.{IsAmong}
 use Rattle.in_net.specs.Interactions.{Redex, Side, Outer, Inner, other, Alternates, stands_for, InnerWire, wire_of, IsOfPair}
 use Rattle.in_net.specs.Nets.{Point, Port, Free, Signature, Net, IsPoint}
 use Rattle.in_net.proofs.Public.{end_of, end_of_pair, stands_one, first_wire, not_pair}
-use Rattle.in_interaction.proofs.Public.{has_value, outer_next, outer_at, not_principal, pt_same}
-use Rattle.in_gluing.proofs.Points.{same_free, port_free}
+use Rattle.in_interaction.proofs.Public.{has_value, outer_next, outer_at, not_principal, pt_same, same_free}
+use Rattle.in_gluing.proofs.Points.{port_free}
 use Rattle.in_gluing.specs.Gluing.{Cuts, IsJointEndAt, IsJointEnd, glue_wire, AreLinked}
 use Rattle.in_gluing.specs.AsGluing.{boundary_port, IsInRest, IsRestOf, two_parts, old_and_new, across_at, boundary, CanStep}
 

@@ -6,9 +6,10 @@ use Rattle.std.proofs.lemmas.Option.{same_Some}
 use Rattle.in_net.specs.Interactions.{Redex, Side, Outer, Inner, of_first, end_place, Alternates, stands_for, InnerWire, wire_of, IsOfPair, AreJoined, IsNaming, IsStep}
 use Rattle.in_net.specs.Nets.{Point, Port, Free, Signature, Net}
 use Rattle.in_net.proofs.Public.{port_agent, port_place}
+use Rattle.in_interaction.proofs.Public.{same_free}
 use Rattle.in_gluing.specs.Gluing.{Cuts, IsJointEndAt, IsJointEnd, glue_wire, AreLinked, IsPlaced, AreAllApart, IsGlued, placed_pair, AreOthers}
 use Rattle.in_gluing.specs.Laws.{FramesStep, FramesGlue}
-use Rattle.in_gluing.proofs.Points.{same_free, turned}
+use Rattle.in_gluing.proofs.Points.{turned}
 use Rattle.in_gluing.proofs.Commute.{Way, AreIndependent, After_x, Then_y, AtOnce, join, split}
 use Rattle.in_gluing.proofs.AtNets.{to_way, from_way, way_map}
 

@@ -4,6 +4,7 @@ pub use Rattle.in_interaction.proofs.Interactions.Alternating.{has_value, one_wi
 pub use Rattle.in_interaction.proofs.Interactions.ClosedPath.{no_closed_path}
 pub use Rattle.in_interaction.proofs.Interactions.Names.{class_discrete}
 pub use Rattle.in_interaction.proofs.Interactions.NoNewCircle.{no_new_circle}
+pub use Rattle.in_interaction.proofs.Interactions.OneResult.{one_result, same_free, same_net, same_point}
 pub use Rattle.in_interaction.proofs.Interactions.PathEnds.{not_principal, outer_at, outer_next}
 pub use Rattle.in_interaction.proofs.Interactions.StaysNet.{is_net}
 pub use Rattle.in_interaction.proofs.Interactions.StepExists.{step_exists}

@@ -6,9 +6,8 @@ use Rattle.in_net.specs.Nets.{Point, Port, Free, Signature, Net, IsNet}
 use Rattle.in_net.specs.Interactions.{Redex, IsRedex, Side, Outer, Inner, stands_for, InnerWire, wire_of, IsOfPair, AreJoined, IsNaming, IsStep, end_agent, end_place}
 use Rattle.in_base.proofs.Options.{none_of}
 use Rattle.in_net.proofs.Public.{end_of_pair, first_wire}
-use Rattle.in_interaction.proofs.Public.{has_value, is_net, outer_at, outer_next, same_option, step_exists}
+use Rattle.in_interaction.proofs.Public.{has_value, is_net, outer_at, outer_next, same_option, step_exists, one_result}
 use Rattle.in_interaction.proofs.Public.Through as through
-use Rattle.in_gluing.proofs.Public.{one_result}
 use Rattle.in_overwriting.specs.Overwriting.{CanOverwrite, IsSideAt, AreSides, IsSide, IsOverwritten, StepsAreOverwritten, OverwrittenExists, OverwrittenIsOne, OverwrittenLeadsNoneBack}
 use Rattle.in_overwriting.proofs.Overwriting.Sides as sides
 

@@ -16,8 +16,7 @@ use Rattle.in_net.specs.Interactions.{IsOfPair, end_agent, end_place}
 use Rattle.in_net.specs.Nets.{Point, Port, Free, Signature, Net, IsPoint, signature_of}
 use Rattle.in_net.proofs.Public.{symbol_of}
 use Rattle.in_interaction.specs.Queues.{agents_at, numbers_of}
-use Rattle.in_interaction.proofs.Public.{has_value}
-use Rattle.in_gluing.proofs.Public.{same_point}
+use Rattle.in_interaction.proofs.Public.{has_value, same_point}
 use Rattle.in_cells.specs.Between.{Interaction, before, redex_of, IsDone}
 use Rattle.in_cells.specs.Cells.{KeepsCells}
 use Rattle.in_cells.specs.Pairs.{IsNoPair, IsPrincipal}
