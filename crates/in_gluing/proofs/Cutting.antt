@@ -3,8 +3,7 @@ use Rattle.std.proofs.Common.{◌≡◌, ◌≢◌, ◌⊎◌, ℕ, Option, Some
 use native.Mathlib.Decide.{ℕ_discrete}
 use Rattle.std.proofs.lemmas.Option.{same_Some}
 use Rattle.in_net.specs.Nets.{Point, Port, Free, Net}
-use Rattle.in_net.proofs.Public.{port_agent, port_place}
-use Rattle.in_interaction.proofs.Public.{same_free}
+use Rattle.in_interaction.proofs.Public.{same_free, same_point}
 use Rattle.in_gluing.specs.Joining.{ArePartnersAfter, IsNeither, JoinsEnds, WiresLeadBack, JoinExists, CutsWire, CutsAreJoined}
 use Rattle.in_gluing.proofs.Points.{none_some}
 use Rattle.in_gluing.proofs.Helpers.{pick, pick_yes, pick_no}
