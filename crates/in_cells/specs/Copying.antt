@@ -18,7 +18,7 @@ name_in names n = (slice_index_or names n (record { 0 = 0 })).0
 abbrev pub number_in : List ℕ → ℕ → ℕ
 number_in ends k = slice_index_or ends k 0
 
--- an end, and what stands in a cell, where cells and free ends have these numbers
+-- an end, and the content of a cell, where cells and free ends have these numbers
 abbrev pub moved_end : (ℕ → ℕ) → (ℕ → ℕ) → End → End
 moved_end name number (Cell c i) = Cell (record { 0 = name c.0 }) i
 moved_end name number (Free k) = Free (number k)

@@ -14,7 +14,7 @@ use Rattle.in_reducer.specs.Reserved.{IsReserved}
 
 -- ---- lists
 
--- `many` elements, each what stands at its place in the other list, or what this makes of it
+-- `many` elements, each that of its place in the other list, or its image under this map
 pub record ArePicked {X Y : Type 0} (f : X → Y) (place : ℕ → ℕ) (many : ℕ) (all : List X) (picked : List Y) : Type 0 where
   pub count : length picked ≡ many
   pub each : (e : ℕ) → e < many → slice_get picked e ≡ option_map f (slice_get all (place e))

@@ -119,7 +119,7 @@ pub record HasPortsFor (a : ArenaView) (c : CellNo) (first to points : ℕ) : Ty
   pub ports : to < first + places (state_at a c.0)
   pub room : to ≤ points
 
--- at the points from `first` to before `to` stands what the agent's auxiliary ports lead to, in their order. All other points are as they were
+-- the points from `first` to before `to` have what the agent's auxiliary ports lead to, in their order. All other points are as they were
 pub record HasPortsIn (a : ArenaView) (c : CellNo) (first to : ℕ) (old new : List End) : Type 0 where
   pub read : (e : ℕ) → first ≤ e → e < to → slice_get new e ≡ end_at (state_at a c.0) (suc (e - first))
   pub others : (k : ℕ) → (k < first) ⊎ (to ≤ k) → slice_get new k ≡ slice_get old k
@@ -130,7 +130,7 @@ abbrev pub AddsInOrder : Bool → End → End → List (ℕ × ℕ) → List (�
 AddsInOrder input x y old new =
     (IsNoPair x y × (new ≡ old)) ⊎ ((c : ℕ) × (d : ℕ) × IsPrincipal c x × IsPrincipal d y × (new ≡ old ++ cond input (d, c) (c, d) ∷ []))
 
--- at the points of the boundary ends stand their sides
+-- the points of the boundary ends have their sides
 pub record AreSidesIn (t : Tables) (x : Interaction) (ns : List CellNo) (points : List End) : Type 0 where
   pub ends : (e : ℕ) (u : Point ℕ) → e < length (redex_of x).member.free → IsSideOf t x (Free e) u → slice_get points e ≡ Some (end_of u)
   pub agents : AreAtAgents ns points

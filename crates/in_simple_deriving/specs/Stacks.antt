@@ -75,7 +75,7 @@ AreLast count old new = (gone : List ℕ) × (old ≡ new ++ gone) × ((length g
 abbrev pub MakesStep : StackStep → List Step → List ℕ → List Step → List ℕ → Type 0
 MakesStep j steps roots steps' roots' = (below names : List ℕ) → roots ≡ below ++ names → length names ≡ count_of j → (steps' ≡ steps ++ step_of j names ∷ []) × (roots' ≡ below ++ length steps ∷ [])
 
--- a step over these parts builds y, wherever it stands
+-- a step over these parts builds y, wherever it is in the list
 pub record BuildsOver (o : OpenNet) (step : Step) (names : List ℕ) (from : List Part) (y : Part) : Type 0 where
   pub names_are : named step ≡ names
   pub own_once : (n : ℕ) → times n (own_nodes step) ≡ cond (is_among n (own_nodes step)) 1 0

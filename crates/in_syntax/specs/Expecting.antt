@@ -126,7 +126,7 @@ IsAt _ s = Unit {0}
 
 -- ---- what is expected
 
--- after these signs: just the tokens that are expected continue with some program, wherever they stand, and names are of the sort of this section
+-- after these signs: just the tokens that are expected continue with some program, wherever they are, and names are of the sort of this section
 pub record IsExpected (text : List ℕ) (front : List Sign) (e : Expected) : Type 0 where
   pub tokens : (t : Token) → IsTrue (takes e (sign_of text t)) ↔ Begins (front ++ sign_of text t ∷ [])
   pub sort : IsAt e (section front)

@@ -169,7 +169,7 @@ spell_net n =
     ++ plain kind.CloseParenthesis ∷ plain kind.OpenBrace ∷ flat_map spell_equation n.equations
     ++ plain kind.CloseBrace ∷ []
 
--- what stands before the net, in any order
+-- the declarations and rules before the net, in any order
 pub data Item : Type 0 where
   types : List Name → Item
   symbol : SourceSymbol → Item
