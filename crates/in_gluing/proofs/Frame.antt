@@ -33,14 +33,18 @@ map_some (x ∷ xs) (y ∷ ys) e =
     cc
 
 module _ {A B C : Type 0} (sig : Signature) (parts : ℕ → Net A) (name : ℕ → A → C) (cuts : Cuts) (i : ℕ) (x : Redex A B) (new : B → A) where
+  -- what joins points of the parts
+  abbrev Joined : Type 1
+  Joined = ℕ × Point A → ℕ × Point A → Type 0
+
   -- the wires of the parts and of the right member, and the joints
-  abbrev W : ℕ × Point A → ℕ × Point A → Type 0
+  abbrev W : Joined
   W p q = glue_wire parts cuts Outer p q
 
-  abbrev X : ℕ × Point A → ℕ × Point A → Type 0
+  abbrev X : Joined
   X p q = (p.0 ≡ i) × (q.0 ≡ i) × InnerWire sig x new p.1 q.1
 
-  abbrev Y : ℕ × Point A → ℕ × Point A → Type 0
+  abbrev Y : Joined
   Y p q = glue_wire parts cuts Inner p q
 
   -- the ports of the pair, and the joined free ends
@@ -149,7 +153,7 @@ module _ {A B C : Type 0} (sig : Signature) (parts : ℕ → Net A) (name : ℕ 
         (l.0, l.1, (l.2.0, l.2.1, from_way (glue_wire after cuts) (IsJointEnd cuts) l.2.0 p l.2.1 l.2.2 q (way_map (After_x W X Y EX EY SX SY) (glue_wire after cuts Outer) Y EY wire_after l.2.0 p l.2.1 l.2.2 q l.2.3)))
 
     -- joints first and then the interaction
-    abbrev G : ℕ × Point A → ℕ × Point A → Type 0
+    abbrev G : Joined
     G = After_x W Y X EY EX SY SX
 
     joints_first : (p q : ℕ × Point A) → AreLinked after cuts p q → Then_y W Y X EY EX SY SX p q

@@ -18,6 +18,7 @@ pub use Rattle.in_interaction.proofs.Stepping.Halves.{few}
 pub use Rattle.in_interaction.proofs.Stepping.KeptOrMade.{has_symbol, kept_or_made, least_are_names, not_made, stays_after, symbol_after}
 pub use Rattle.in_interaction.proofs.Stepping.KeptOrMade.{symbol_is, symbol_number}
 pub use Rattle.in_interaction.proofs.Stepping.Making.{agent_same, end_once, stays_as}
+pub use Rattle.in_interaction.proofs.Stepping.OnePair.{pair_once, symbol_once}
 pub use Rattle.in_interaction.proofs.Stepping.Outcome.{cell_of_symbol}
 pub use Rattle.in_interaction.proofs.Stepping.OneOutcome.{one_made_over_ends, one_outcome, same_option}
 pub use Rattle.in_interaction.proofs.Stepping.Partners.{net_wire}

@@ -31,6 +31,10 @@ pub record RuleParts : Type 0 where
   pub head_places : Place × Place
   pub member : Parts
 
+-- what holds of rules over tables
+abbrev pub RulesProperty : Type 1
+RulesProperty = Tables → List RuleParts → Type 0
+
 -- the place of the first head's name, which is number 0, or of the second one's
 abbrev pub place_of_head : RuleParts → ℕ → Place
 place_of_head r zero = r.head_places.0
