@@ -11,19 +11,20 @@ use Rattle.in_arena.specs.declared.content.End.{End}
 use Rattle.in_arena.specs.declared.content.End.TheVariants.{Cell, Free}
 use Rattle.in_cells.specs.Copying.{is_for, moved}
 
--- each of these agents is in a cell of the class for its places
-abbrev pub AreClassed : ArenaView → List CellNo → Type 0
-AreClassed a agents = (k : ℕ) (c : CellNo) (d : CellClass) → slice_get agents k ≡ Some c → IsNumberOf a.cells d c.0 → Holds d (places (state_at a c.0))
+module _ (a : ArenaView) (agents : List CellNo) where
+  -- each of these agents is in a cell of the class for its places
+  abbrev pub AreClassed : Type 0
+  AreClassed = (k : ℕ) (c : CellNo) (d : CellClass) → slice_get agents k ≡ Some c → IsNumberOf a.cells d c.0 → Holds d (places (state_at a c.0))
 
--- of each class as many cells more are free as these agents took
-abbrev pub FreesCellsOf : List CellNo → ArenaView → ArenaView → Type 0
-FreesCellsOf agents old new = (d : CellClass) → free_of new d ≡ free_of old d + count_by (is_for old d) agents
+  -- in the other arena as many cells more are free of each class as these agents took
+  abbrev pub FreesCellsOf : ArenaView → Type 0
+  FreesCellsOf b = (d : CellClass) → free_of b d ≡ free_of a d + count_by (is_for a d) agents
 
 -- the cells of these agents are free, and all others are as they were
 pub record AreRetired (agents : List CellNo) (old new : ArenaView) : Type 0 where
   pub gone : (k : ℕ) (c : CellNo) → slice_get agents k ≡ Some c → state_at new c.0 ≡ Vacant
   pub others : UnlistedStay agents old new
-  pub free : FreesCellsOf agents old new
+  pub free : FreesCellsOf old agents new
   pub memory : new.memory ≡ old.memory
   pub cells : new.cells ≡ old.cells
   pub many : length new.states ≡ length old.states

@@ -48,7 +48,7 @@ pub record AreListsFor (own cuts : ℕ) (l : SplitLists) : Type 0 where
 -- the agents are taken out, their cells are free, and the free ends have these numbers
 pub record LosesPart (agents : List CellNo) (own : ℕ → ℕ) (old new : ArenaView) : Type 0 where
   pub out : AreTakenOut agents own old new
-  pub free : FreesCellsOf agents old new
+  pub free : FreesCellsOf old agents new
   pub memory : new.memory ≡ old.memory
   pub cells : new.cells ≡ old.cells
   pub many : length new.states ≡ length old.states
