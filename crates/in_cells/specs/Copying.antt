@@ -2,6 +2,7 @@
 -- project's own choice.
 use Rattle.std.specs.Prelude.{◌≡◌, ◌<◌, ◌≤◌, ◌+◌, ℕ, Bool, List, length, map, count_by, Some, slice_get, slice_index_or}
 use Rattle.in_arena.specs.Arenas.{ArenaView, free_of, state_at}
+use Rattle.in_arena.specs.Changes.{AreListedOnce}
 use Rattle.in_arena.specs.Classes.{Holds, holds, IsNumberOf}
 use Rattle.in_arena.specs.States.{State, Vacant, Leased, Live, IsLive, end_at, places, word_of}
 use Rattle.in_arena.specs.declared.content.CellClass.{CellClass}
@@ -37,7 +38,7 @@ LooksLike x y = (word_of y ≡ word_of x) × (places y ≡ places x)
 -- live cells, each once
 pub record ArePart (a : ArenaView) (agents : List CellNo) : Type 0 where
   pub live : (k : ℕ) (c : CellNo) → slice_get agents k ≡ Some c → IsLive (state_at a c.0)
-  pub once : (j k : ℕ) (c : CellNo) → slice_get agents j ≡ Some c → slice_get agents k ≡ Some c → j ≡ k
+  pub once : AreListedOnce agents
 
 -- the live cells are these
 abbrev pub AreAllLive : ArenaView → List CellNo → Type 0

@@ -3,7 +3,7 @@
 -- ends. That an interaction is done so where no wire leads back to its pair is this project's own choice.
 use Rattle.std.specs.Prelude.{◌≡◌, ◌≢◌, ◌⊎◌, IsTrue, ◌↔◌, ◌≤◌, ◌<◌, ◌+◌, ◌-◌, ◌++◌, ℕ, suc, Bool, cond, List, [], ◌∷◌, length, map, take, slice_get, slice_index_or, Some, None}
 use Rattle.in_arena.specs.Arenas.{ArenaView, changed, free_of, state_at}
-use Rattle.in_arena.specs.Changes.{HasAllCells}
+use Rattle.in_arena.specs.Changes.{AreListedOnce, HasAllCells, UnlistedStay}
 use Rattle.in_arena.specs.Classes.{IsNumberOf}
 use Rattle.in_arena.specs.States.{Vacant, IsBegun, IsLive, word_of, end_at, places}
 use Rattle.in_arena.specs.declared.content.CellNo.{CellNo}
@@ -43,8 +43,8 @@ pub record HasBegun (m : MemberParts) (ns : List CellNo) (old new : ArenaView) :
   pub count : length ns ≡ length m.agents
   pub each : (k : ℕ) (a : AgentParts) (n : CellNo) → slice_get m.agents k ≡ Some a → slice_get ns k ≡ Some n
       → IsNumberOf new.cells a.class n.0 × (word_of (state_at old n.0) ≡ None) × IsBegun a.symbol.0 (length a.ends) (state_at new n.0)
-  pub once : (j k : ℕ) (n : CellNo) → slice_get ns j ≡ Some n → slice_get ns k ≡ Some n → j ≡ k
-  pub others : (n : ℕ) → ((k : ℕ) → slice_get ns k ≡ Some (record { 0 = n }) → ⊥) → state_at new n ≡ state_at old n
+  pub once : AreListedOnce ns
+  pub others : UnlistedStay ns old new
   pub memory : new.memory ≡ old.memory
   pub cells : new.cells ≡ old.cells
   pub many : length new.states ≡ length old.states
