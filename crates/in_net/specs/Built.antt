@@ -11,8 +11,8 @@ use Rattle.in_syntax.specs.declared.tree.Source.{Source}
 use Rattle.in_syntax.specs.Grammar.{max_free, max_ports}
 use Rattle.in_net.specs.declared.reading.Reading.{Reading}
 use Rattle.in_net.specs.declared.reading.Agent.{Agent}
-use Rattle.in_net.specs.declared.reading.Spot.{Spot}
-use Rattle.in_net.specs.declared.reading.Spot.TheVariants as spot
+use Rattle.in_net.specs.declared.reading.TextSpot.{TextSpot}
+use Rattle.in_net.specs.declared.reading.TextSpot.TheVariants as spot
 use Rattle.in_net.specs.declared.joining.Link.{Link}
 use Rattle.in_net.specs.declared.nets.Cell.{Cell}
 use Rattle.in_net.specs.declared.nets.Wire.{Wire}
@@ -35,11 +35,11 @@ pub record IsReadableNet (source : Source) (t : Tables) : Type 0 where
   pub faultless : IsFaultless source
 
 -- n spots from `first` on are points
-abbrev pub ArePointsAt : List Spot → ℕ → ℕ → Type 0
+abbrev pub ArePointsAt : List TextSpot → ℕ → ℕ → Type 0
 ArePointsAt spots first n = (j : ℕ) → j < n → (first + j < length spots) × IsPointSpot (nth_spot spots (first + j))
 
 -- an agent's symbol is declared, and its ports are among the spots
-abbrev pub AgentsOf : Tables → List Spot → List Agent → Type 0
+abbrev pub AgentsOf : Tables → List TextSpot → List Agent → Type 0
 AgentsOf t spots = AllByRecursion (λ a. (a.symbol.0 < length t.names) × ArePointsAt spots a.first (arity_of t a.symbol.0 + 1))
 
 -- a port is a place of an agent that is read, at its number among the spots
@@ -50,7 +50,7 @@ pub record IsPortOf (t : Tables) (r : Reading) (k a i : ℕ) (p : Place) : Type 
   pub name : p ≡ (nth_agent r.agents a).place
 
 -- the spot is the free or boundary end of that number
-abbrev pub IsEnd : Spot → ℕ → Type 0
+abbrev pub IsEnd : TextSpot → ℕ → Type 0
 IsEnd (spot.Port a i p) j = ⊥
 IsEnd (spot.Free k m) j = k ≡ j
 IsEnd (spot.End k) j = k ≡ j
@@ -86,7 +86,7 @@ pub record AreListedOf (found listed : List Wire) : Type 0 where
   pub by_place : IsNonDecreasingBy (λ w. w.place.from) listed
 
 -- the free ends are joined to what the first spots are joined to
-abbrev pub AreJoinedTo : List Spot → List Link → List FreeEnd → Type 0
+abbrev pub AreJoinedTo : List TextSpot → List Link → List FreeEnd → Type 0
 AreJoinedTo spots links free = map (λ f. f.end) free ≡ ends_from spots links 0 (length free)
 
 -- the net has the agents and wires that were read and joined, and these free ends

@@ -3,7 +3,7 @@ use Rattle.std.specs.Prelude.{ℕ, zero, suc, cond, nat_lt, ◌==◌, ◌+◌, �
 use Rattle.std.specs.List.{AllByRecursion}
 use Rattle.in_syntax.specs.declared.places.Place.{Place}
 use Rattle.in_syntax.specs.Refusals.{earlier}
-use Rattle.in_net.specs.declared.reading.Spot.{Spot}
+use Rattle.in_net.specs.declared.reading.TextSpot.{TextSpot}
 use Rattle.in_net.specs.declared.reading.TextJoint.{TextJoint}
 use Rattle.in_net.specs.declared.reading.Reading.{Reading}
 use Rattle.in_net.specs.declared.joining.Link.{Link}
@@ -66,11 +66,11 @@ joins_named j at (Some m) =
     let there = met j.links seen at in
     record { links = there.0; seen = slice_set j.seen m (seen_again seen at); closed = earlier j.closed there.1 }
 
-abbrev pub joins : Joining → ℕ → Spot → Joining
+abbrev pub joins : Joining → ℕ → TextSpot → Joining
 joins j at s = joins_named j at (name_of s)
 
 -- these spots, of which the first has that number
-abbrev pub joins_from : ℕ → List Spot → Joining → Joining
+abbrev pub joins_from : ℕ → List TextSpot → Joining → Joining
 joins_from at [] j = j
 joins_from at (s ∷ ss) j = joins_from (at + 1) ss (joins j at s)
 

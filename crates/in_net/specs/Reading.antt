@@ -8,8 +8,8 @@ use Rattle.in_syntax.specs.declared.tree.Term.TheFolds.{fold-Term}
 use Rattle.in_syntax.specs.declared.tree.Equation.{Equation}
 use Rattle.in_syntax.specs.declared.tree.SourceFree.{SourceFree}
 use Rattle.in_symbols.specs.declared.symbols.SymbolNo.{SymbolNo}
-use Rattle.in_net.specs.declared.reading.Spot.{Spot}
-use Rattle.in_net.specs.declared.reading.Spot.TheVariants.{Port, Free, End, Occurrence}
+use Rattle.in_net.specs.declared.reading.TextSpot.{TextSpot}
+use Rattle.in_net.specs.declared.reading.TextSpot.TheVariants.{Port, Free, End, Occurrence}
 use Rattle.in_net.specs.declared.reading.Reading.{Reading}
 use Rattle.in_net.specs.declared.reading.NetReader.{NetReader}
 use Rattle.in_net.specs.declared.reading.ReadTerm.{ReadTerm}
@@ -22,7 +22,7 @@ abbrev pub nothing_read : Reading
 nothing_read = record { spots = []; agents = []; joints = []; names = [] }
 
 -- the ports of an agent at a given number of places from a place on
-abbrev pub ports_from : ℕ → Place → ℕ → ℕ → List Spot
+abbrev pub ports_from : ℕ → Place → ℕ → ℕ → List TextSpot
 ports_from agent at place zero = []
 ports_from agent at place (suc n) = Port agent place at ∷ ports_from agent at (place + 1) n
 
@@ -102,7 +102,7 @@ abbrev pub reads_free : List SourceFree → Reading
 reads_free fs = reads_free_from 0 fs nothing_read
 
 -- a given number of boundary ends, from number k on
-abbrev pub boundary_spots : ℕ → ℕ → List Spot
+abbrev pub boundary_spots : ℕ → ℕ → List TextSpot
 boundary_spots k zero = []
 boundary_spots k (suc n) = End k ∷ boundary_spots (k + 1) n
 

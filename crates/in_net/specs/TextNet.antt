@@ -67,59 +67,59 @@ IsVariable t u = number_in (name_of u) t.names ≡ None
 
 -- what is joined in a text: a port of the agent whose name is at a place, a free or boundary end by its number, the occurrence
 -- of a variable or free name at a place
-pub data Spot : Type 0 where
-  port_at : Place → ℕ → Spot
-  free_end : ℕ → Spot
-  occurrence : Place → Spot
+pub data TextSpot : Type 0 where
+  port_at : Place → ℕ → TextSpot
+  free_end : ℕ → TextSpot
+  occurrence : Place → TextSpot
 
-abbrev pub spot_by : Option ℕ → Place → Spot
+abbrev pub spot_by : Option ℕ → Place → TextSpot
 spot_by None place = occurrence place
 spot_by (Some s) place = port_at place 0
 
 -- the spot that a term stands for: an agent's principal port, or the occurrence
-abbrev pub spot_of : Tables → Term → Spot
+abbrev pub spot_of : Tables → Term → TextSpot
 spot_of t u = spot_by (number_in (name_of u) t.names) (place_of u)
 
 -- the joints that are at a place: of the two terms of an equation at its ~, of an agent's place and the argument there and of a
 -- boundary end and the term there at that term's first token
-pub data PlacedJoint (t : Tables) (b : Body) : Spot → Spot → Place → Type 0 where
+pub data PlacedJoint (t : Tables) (b : Body) : TextSpot → TextSpot → Place → Type 0 where
   of_equation : (e : Equation) → IsAmong e b.equations → PlacedJoint t b (spot_of t e.left) (spot_of t e.right) e.tilde
   of_argument : (u v : Term) (i : ℕ) → IsTermOf b u → IsSome (number_in (name_of u) t.names) → slice_get (out-Term u).args i ≡ Some v →
       PlacedJoint t b (port_at (place_of u) (suc i)) (spot_of t v) (place_of v)
   of_head : (h : LeftHead) (v : Term) (i : ℕ) → IsAmong h b.heads → slice_get h.head.terms i ≡ Some v → PlacedJoint t b (free_end (h.first + i)) (spot_of t v) (place_of v)
-  turned : (x y : Spot) (p : Place) → PlacedJoint t b x y p → PlacedJoint t b y x p
+  turned : (x y : TextSpot) (p : Place) → PlacedJoint t b x y p → PlacedJoint t b y x p
 
 -- the joints of names: of the two occurrences of a variable, of a free end and the occurrence of its name
-pub data NameJoint (t : Tables) (b : Body) : Spot → Spot → Type 0 where
+pub data NameJoint (t : Tables) (b : Body) : TextSpot → TextSpot → Type 0 where
   of_variable : (u v : Term) → IsTermOf b u → IsTermOf b v → IsVariable t u → name_of u ≡ name_of v → place_of u ≢ place_of v →
       NameJoint t b (occurrence (place_of u)) (occurrence (place_of v))
   of_free : (k : ℕ) (f : SourceFree) (u : Term) → slice_get b.free k ≡ Some f → IsTermOf b u → IsVariable t u → name_of u ≡ f.name.text →
       NameJoint t b (free_end k) (occurrence (place_of u))
-  turned_name : (x y : Spot) → NameJoint t b x y → NameJoint t b y x
+  turned_name : (x y : TextSpot) → NameJoint t b x y → NameJoint t b y x
 
 pub data Kind : Type 0 where
   placed : Kind
   of_name : Kind
 
-abbrev pub IsOccurrence : Spot → Type 0
+abbrev pub IsOccurrence : TextSpot → Type 0
 IsOccurrence (port_at p i) = ⊥
 IsOccurrence (free_end k) = ⊥
 IsOccurrence (occurrence p) = Unit {0}
 
 -- a chain of joints, of either kind in turn, that continues only through occurrences: the kind of its first joint, that of its
 -- last one, its two ends, and the places of its placed joints
-pub data Chain (t : Tables) (b : Body) : Kind → Kind → Spot → Spot → List Place → Type 0 where
-  one_placed : (x y : Spot) (p : Place) → PlacedJoint t b x y p → Chain t b placed placed x y (p ∷ [])
-  one_name : (x y : Spot) → NameJoint t b x y → Chain t b of_name of_name x y []
-  then_name : (k : Kind) (x o y : Spot) (p : Place) (ps : List Place) → PlacedJoint t b x o p → IsOccurrence o → Chain t b of_name k o y ps → Chain t b placed k x y (p ∷ ps)
-  then_placed : (k : Kind) (x o y : Spot) (ps : List Place) → NameJoint t b x o → IsOccurrence o → Chain t b placed k o y ps → Chain t b of_name k x y ps
+pub data Chain (t : Tables) (b : Body) : Kind → Kind → TextSpot → TextSpot → List Place → Type 0 where
+  one_placed : (x y : TextSpot) (p : Place) → PlacedJoint t b x y p → Chain t b placed placed x y (p ∷ [])
+  one_name : (x y : TextSpot) → NameJoint t b x y → Chain t b of_name of_name x y []
+  then_name : (k : Kind) (x o y : TextSpot) (p : Place) (ps : List Place) → PlacedJoint t b x o p → IsOccurrence o → Chain t b of_name k o y ps → Chain t b placed k x y (p ∷ ps)
+  then_placed : (k : Kind) (x o y : TextSpot) (ps : List Place) → NameJoint t b x o → IsOccurrence o → Chain t b placed k o y ps → Chain t b of_name k x y ps
 
 -- the last in the text of these places
 abbrev pub IsLastOf : Place → List Place → Type 0
 IsLastOf p ps = IsAmong p ps × AllByRecursion (λ q. q.from ≤ p.from) ps
 
 -- a wire joins two spots that are points, by a chain that can't be longer, and is at the last of the chain's places
-pub record IsWireOf (t : Tables) (b : Body) (x y : Spot) (p : Place) : Type 0 where
+pub record IsWireOf (t : Tables) (b : Body) (x y : TextSpot) (p : Place) : Type 0 where
   pub one : IsOccurrence x → ⊥
   pub other : IsOccurrence y → ⊥
   pub first : Kind
@@ -130,14 +130,14 @@ pub record IsWireOf (t : Tables) (b : Body) (x y : Spot) (p : Place) : Type 0 wh
 
 -- a closed wire is a chain without an end, and is at the last of its places
 pub record IsClosedWireOf (t : Tables) (b : Body) (p : Place) : Type 0 where
-  pub through : Spot
+  pub through : TextSpot
   pub occurs : IsOccurrence through
   pub places : List Place
   pub chain : Chain t b placed of_name through through places
   pub place : IsLastOf p places
 
 -- the spot of a point: agents are numbered by their places
-abbrev pub spot_at : Parts → Point → Spot
+abbrev pub spot_at : Parts → Point → TextSpot
 spot_at m (Port x i) = port_at (slice_index_or m.places x.0 (record { from = 0; to = 0; line = 0; col = 0 })) i
 spot_at m (Free k) = free_end k
 
@@ -210,7 +210,7 @@ EndsInOrder m = (w : ℕ) (x y : Point) → wire_in m w ≡ Some (x, y) → Come
 -- wires are at the places of theirs, no two at one, in the order of these places, each with the point first that comes first
 pub record HasWiresOf (t : Tables) (b : Body) (m : Parts) : Type 0 where
   pub partners : (x y : Point) → partner_in m x ≡ Some y → (p : Place) × IsWireOf t b (spot_at m x) (spot_at m y) p
-  pub only : (x y : Point) (s : Spot) (p : Place) → partner_in m x ≡ Some y → IsWireOf t b (spot_at m x) s p → s ≡ spot_at m y
+  pub only : (x y : Point) (s : TextSpot) (p : Place) → partner_in m x ≡ Some y → IsWireOf t b (spot_at m x) s p → s ≡ spot_at m y
   pub wires : (w : ℕ) (x y : Point) (p : Place) → wire_in m w ≡ Some (x, y) → wire_place_in m w ≡ Some p → IsWireOf t b (spot_at m x) (spot_at m y) p
   pub by_place : Rises (map (λ w. w.place) m.wires)
   pub turned : EndsInOrder m

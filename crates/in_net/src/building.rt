@@ -11,27 +11,27 @@ ghost use Rattle.in_net.specs.Built.{closed_at, IsReadableNet, Builds, Assembles
 use crate::faults::first_fault;
 use crate::joining::{Link, join_all};
 use crate::nets::{AgentNo, Cell, FreeEnd, Net, Point, Wire};
-use crate::reading::{Agent, Reading, Spot, read_net};
+use crate::reading::{Agent, Reading, TextSpot, read_net};
 use in_symbols::Symbols;
 use in_syntax::{Code, Fault, Place, Refusal, Source, SourceFree, Text, with_room};
 use sqlite_items::Items;
 use std::alloc::{AllocError, Global};
 
 /// The point of a spot; an occurrence has none.
-fn point_of(spot: Spot) -> Option<Point>
+fn point_of(spot: TextSpot) -> Option<Point>
     requires { IsSmall spot }
     ensures { result ≡ point_of spot }
 {
     match spot {
-        Spot::Port(agent, place, _) => Some(Point::Port(AgentNo(agent as u32), place)),
-        Spot::Free(number, _) => Some(Point::Free(number as u32)),
-        Spot::End(number) => Some(Point::Free(number as u32)),
-        Spot::Occurrence(..) => None,
+        TextSpot::Port(agent, place, _) => Some(Point::Port(AgentNo(agent as u32), place)),
+        TextSpot::Free(number, _) => Some(Point::Free(number as u32)),
+        TextSpot::End(number) => Some(Point::Free(number as u32)),
+        TextSpot::Occurrence(..) => None,
     }
 }
 
 /// The point that a spot is joined to: once all is joined, no spot is joined to an occurrence.
-pub(crate) fn partner(spots: &[Spot], links: &[Link], at: usize) -> Point
+pub(crate) fn partner(spots: &[TextSpot], links: &[Link], at: usize) -> Point
     requires at { at < length spots.now }
     requires point { IsPointSpot (nth_spot spots.now at) }
     requires joined { IsJoined spots.now links.now }
@@ -48,7 +48,7 @@ pub(crate) fn partner(spots: &[Spot], links: &[Link], at: usize) -> Point
 /// The agent with the partners of its places.
 fn cell(
     alloc: Global,
-    spots: &[Spot],
+    spots: &[TextSpot],
     links: &[Link],
     agent: &Agent,
     arity: u8,
@@ -72,7 +72,7 @@ fn cell(
 fn cells(
     alloc: Global,
     symbols: &Symbols,
-    spots: &[Spot],
+    spots: &[TextSpot],
     links: &[Link],
     agents: &[Agent],
 ) -> Result<Items<Option<Cell>>, AllocError>
@@ -93,7 +93,7 @@ fn cells(
 fn free_ends(
     alloc: Global,
     symbols: &Symbols,
-    spots: &[Spot],
+    spots: &[TextSpot],
     links: &[Link],
     free: &[SourceFree],
 ) -> Result<Vec<FreeEnd>, AllocError>
@@ -115,7 +115,7 @@ fn free_ends(
 }
 
 /// The wire that begins at a spot, where the spot is joined to a later one.
-fn wire_from(spots: &[Spot], links: &[Link], at: usize) -> Option<Wire>
+fn wire_from(spots: &[TextSpot], links: &[Link], at: usize) -> Option<Wire>
     requires at { at < length spots.now }
     requires joined { IsJoined spots.now links.now }
     requires small { AreSmallSpots spots.now }
@@ -147,7 +147,7 @@ fn add_wire(wires: &mut Vec<Wire>, wire: Option<Wire>) -> Result<(), AllocError>
 }
 
 /// The wires, in the order of their places.
-fn wires(alloc: Global, spots: &[Spot], links: &[Link]) -> Result<Items<Wire>, AllocError>
+fn wires(alloc: Global, spots: &[TextSpot], links: &[Link]) -> Result<Items<Wire>, AllocError>
     requires joined { IsJoined spots.now links.now }
     requires small { AreSmallSpots spots.now }
     ensures { IfOk result (AreListedOf (wires_from spots.now links.now 0 (length spots.now))) }

@@ -1,7 +1,7 @@
 ghost use Rattle.std.specs.Prelude.{◌≡◌, length, IfOk};
 ghost use Rattle.in_net.specs.Counting.{name_of, seen_again, none_seen, third_time, counts_spot, counts_from, nothing_counted, lonely_place, lonely, miscounted, IsNameInside, NamesInside};
 
-use crate::reading::Spot;
+use crate::reading::TextSpot;
 use in_syntax::{Place, SourceFree, with_room};
 use sqlite_items::Items;
 use std::alloc::{AllocError, Global};
@@ -16,13 +16,13 @@ pub(crate) enum Seen {
 }
 
 /// The number of a spot's name, where it has one.
-pub(crate) fn name_of(spot: Spot) -> Option<usize>
+pub(crate) fn name_of(spot: TextSpot) -> Option<usize>
     ensures { result ≡ name_of spot }
 {
     match spot {
-        Spot::Port(..) | Spot::End(_) => None,
-        Spot::Free(_, name) => Some(name),
-        Spot::Occurrence(name, _) => Some(name),
+        TextSpot::Port(..) | TextSpot::End(_) => None,
+        TextSpot::Free(_, name) => Some(name),
+        TextSpot::Occurrence(name, _) => Some(name),
     }
 }
 
@@ -56,17 +56,17 @@ struct Counting {
 }
 
 /// The place of the spot, if it is the third one of its name.
-fn third_time(seen: Seen, spot: Spot) -> Option<Place>
+fn third_time(seen: Seen, spot: TextSpot) -> Option<Place>
     ensures { result ≡ third_time seen spot }
 {
     match (seen, spot) {
-        (Seen::Twice, Spot::Occurrence(_, place)) => Some(place),
+        (Seen::Twice, TextSpot::Occurrence(_, place)) => Some(place),
         _ => None,
     }
 }
 
 /// Counts a spot at its name.
-fn count(counting: &mut Counting, at: usize, spot: Spot)
+fn count(counting: &mut Counting, at: usize, spot: TextSpot)
     requires { IsNameInside (length counting.old.seen) spot }
     ensures { counting.new ≡ counts_spot counting.old at spot }
 {
@@ -78,7 +78,7 @@ fn count(counting: &mut Counting, at: usize, spot: Spot)
 }
 
 /// Counts how often each name occurs.
-fn counts(alloc: Global, names: usize, spots: &[Spot]) -> Result<Counting, AllocError>
+fn counts(alloc: Global, names: usize, spots: &[TextSpot]) -> Result<Counting, AllocError>
     requires { NamesInside names spots.now }
     ensures { IfOk result (λ counting. counting ≡ counts_from 0 spots.now (nothing_counted names)) }
 {
@@ -93,15 +93,15 @@ fn counts(alloc: Global, names: usize, spots: &[Spot]) -> Result<Counting, Alloc
 }
 
 /// The place of the only spot of a name, if it occurs once: a variable's occurrence, or the declaration of a free name.
-fn lonely_place(seen: Seen, spots: &[Spot], free: &[SourceFree]) -> Option<Place>
+fn lonely_place(seen: Seen, spots: &[TextSpot], free: &[SourceFree]) -> Option<Place>
     ensures { result ≡ lonely_place spots.now free.now seen }
 {
     let Seen::Once(at) = seen else {
         return None;
     };
     match spots.get(at) {
-        Some(Spot::Occurrence(_, place)) => Some(*place),
-        Some(Spot::Free(number, _)) => match free.get(*number) {
+        Some(TextSpot::Occurrence(_, place)) => Some(*place),
+        Some(TextSpot::Free(number, _)) => match free.get(*number) {
             Some(end) => Some(end.name.place),
             None => None,
         },
@@ -110,7 +110,7 @@ fn lonely_place(seen: Seen, spots: &[Spot], free: &[SourceFree]) -> Option<Place
 }
 
 /// The first of these places.
-fn lonely(seen: &[Seen], spots: &[Spot], free: &[SourceFree]) -> Option<Place>
+fn lonely(seen: &[Seen], spots: &[TextSpot], free: &[SourceFree]) -> Option<Place>
     ensures { result ≡ lonely spots.now free.now seen.now }
 {
     let mut found = None;
@@ -125,7 +125,7 @@ fn lonely(seen: &[Seen], spots: &[Spot], free: &[SourceFree]) -> Option<Place>
 pub(crate) fn miscounted(
     alloc: Global,
     names: usize,
-    spots: &[Spot],
+    spots: &[TextSpot],
     free: &[SourceFree],
 ) -> Result<Option<Place>, AllocError>
     requires { NamesInside names spots.now }

@@ -3,7 +3,7 @@ ghost use Rattle.in_net.specs.Counting.{IsNameInside, NamesInside, IsSeenInside}
 ghost use Rattle.in_net.specs.Joining.{self_links, with_link, with_joints, merged, met, later_of, not_named, joins, joins_from, joined_spots, JointsInside, LinksInside, IsJoiningInside};
 
 use crate::counting::{Seen, name_of, once_more, unseen};
-use crate::reading::{Reading, Spot, TextJoint};
+use crate::reading::{Reading, TextJoint, TextSpot};
 use in_syntax::{Place, with_room};
 use sqlite_items::Items;
 use std::alloc::{AllocError, Global};
@@ -126,7 +126,7 @@ fn begun(alloc: Global, links: Items<Link>, names: usize) -> Result<Joining, All
 }
 
 /// Adds the next spot, and joins it if it is the second one of a name.
-fn step(joining: &mut Joining, at: usize, spot: Spot)
+fn step(joining: &mut Joining, at: usize, spot: TextSpot)
     requires at { at < length joining.old.links }
     requires name { IsNameInside (length joining.old.seen) spot }
     requires inside { IsJoiningInside joining.old }
@@ -141,7 +141,7 @@ fn step(joining: &mut Joining, at: usize, spot: Spot)
 }
 
 /// Joins the spots of each name.
-fn join_names(joining: &mut Joining, spots: &[Spot])
+fn join_names(joining: &mut Joining, spots: &[TextSpot])
     requires count { length joining.old.links ≡ length spots.now }
     requires names { NamesInside (length joining.old.seen) spots.now }
     requires inside { IsJoiningInside joining.old }

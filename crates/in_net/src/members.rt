@@ -14,7 +14,7 @@ use crate::building::{assemble, closed_at, partner};
 use crate::faults::first_rule_fault;
 use crate::joining::{Link, join_all};
 use crate::nets::FreeEnd;
-use crate::reading::{Reading, Spot, read_rule};
+use crate::reading::{Reading, TextSpot, read_rule};
 use crate::rules::Rule;
 use in_symbols::{SymbolNo, Symbols};
 use in_syntax::{Fault, Head, Source, SourceRule, Text};
@@ -77,7 +77,7 @@ fn read(
 fn add_boundary(
     alloc: Global,
     symbols: &Symbols,
-    spots: &[Spot],
+    spots: &[TextSpot],
     links: &[Link],
     symbol: SymbolNo,
     ends: &mut Vec<FreeEnd>,
@@ -104,7 +104,7 @@ fn add_boundary(
 fn boundary(
     alloc: Global,
     symbols: &Symbols,
-    spots: &[Spot],
+    spots: &[TextSpot],
     links: &[Link],
     heads: (SymbolNo, SymbolNo),
 ) -> Result<Vec<FreeEnd>, AllocError>

@@ -14,7 +14,7 @@ use std::alloc::{AllocError, Global};
 /// A spot of a text: a port of an agent, by its place, with the place in the text of the agent's name; a free end, with the
 /// number of its name; a boundary end; or the occurrence of the name of that number at a place.
 #[derive(Clone, Copy)]
-pub(crate) enum Spot {
+pub(crate) enum TextSpot {
     Port(usize, u8, Place),
     Free(usize, usize),
     End(usize),
@@ -43,7 +43,7 @@ pub(crate) struct TextJoint {
 /// The reading of a net or a rule so far. Spots and agents are in the order of the text; free or boundary ends are the first
 /// spots.
 pub(crate) struct Reading {
-    pub(crate) spots: Items<Spot>,
+    pub(crate) spots: Items<TextSpot>,
     pub(crate) agents: Items<Agent>,
     pub(crate) joints: Items<TextJoint>,
     pub(crate) names: Names,
@@ -114,7 +114,7 @@ fn add_agent(
     let first = reading.spots.len();
     let agent = reading.agents.len();
     for port in 0..=arity {
-        reading.spots.push(Spot::Port(agent, port, place))?;
+        reading.spots.push(TextSpot::Port(agent, port, place))?;
     }
     reading.agents.push(Agent {
         symbol,
@@ -142,7 +142,9 @@ fn add_occurrence(alloc: Global, reading: &mut Reading, name: &Name) -> Result<u
 {
     let spot = reading.spots.len();
     let number = number_of(alloc, &mut reading.names, name.text.as_str())?;
-    reading.spots.push(Spot::Occurrence(number, name.place))?;
+    reading
+        .spots
+        .push(TextSpot::Occurrence(number, name.place))?;
     Ok(spot)
 }
 
@@ -225,7 +227,7 @@ fn read_free(alloc: Global, free: &[SourceFree], terms: usize) -> Result<Reading
     let mut reading = Reading::with_room(alloc, free.len(), terms)?;
     for (number, end) in free.iter().enumerate() {
         let name = number_of(alloc, &mut reading.names, end.name.text.as_str())?;
-        reading.spots.push(Spot::Free(number, name))?;
+        reading.spots.push(TextSpot::Free(number, name))?;
     }
     Ok(reading)
 }
@@ -255,7 +257,7 @@ fn read_ends(alloc: Global, count: usize, terms: usize) -> Result<Reading, Alloc
 {
     let mut reading = Reading::with_room(alloc, count, terms)?;
     for number in 0..count {
-        reading.spots.push(Spot::End(number))?;
+        reading.spots.push(TextSpot::End(number))?;
     }
     Ok(reading)
 }

@@ -30,8 +30,8 @@ use Rattle.in_syntax.specs.declared.states.HeadOf.TheVariants.{First, Second}
 use Rattle.in_syntax.specs.declared.states.TermOf.{TermOf}
 use Rattle.in_syntax.specs.declared.states.TermOf.TheVariants.{Left, Right, Inside}
 use Rattle.in_syntax.specs.declared.states.Nest.{Nest}
-use Rattle.in_syntax.specs.declared.states.Body.{Body}
-use Rattle.in_syntax.specs.declared.states.Body.TheVariants as body
+use Rattle.in_syntax.specs.declared.states.EquationsOf.{EquationsOf}
+use Rattle.in_syntax.specs.declared.states.EquationsOf.TheVariants as body
 use Rattle.in_syntax.specs.declared.expecting.Expected.{Expected}
 use Rattle.in_syntax.specs.declared.expecting.Expected.TheVariants as expected
 use Rattle.in_syntax.specs.declared.expecting.PartOf.{PartOf}
@@ -173,11 +173,11 @@ at_body_open fs (Plain kind.OpenBrace) = on (state.Equation (body.Net (record { 
 at_body_open fs _ = stuck
 
 -- after the `}` of the equations
-abbrev pub after_equations : Body → State
+abbrev pub after_equations : EquationsOf → State
 after_equations (body.Net n) = state.Done n
 after_equations (body.Rule y p) = state.RuleClose y p
 
-abbrev pub at_equation : Body → Sign → Step
+abbrev pub at_equation : EquationsOf → Sign → Step
 at_equation b (Named m) = on (state.TermOpen (record { of = Left b; around = [] }) m)
 at_equation b (Plain kind.CloseBrace) = on (after_equations b)
 at_equation b _ = stuck
@@ -193,16 +193,16 @@ after_argument o around outer t (Plain kind.CloseParenthesis) =
     on (state.TermEnd (record { of = o; around = around }) (with_argument outer t))
 after_argument o around outer t _ = stuck
 
-abbrev pub after_left : Body → Term → Sign → Step
+abbrev pub after_left : EquationsOf → Term → Sign → Step
 after_left b t (Tilde p) = on (state.TermName (record { of = Right b t p; around = [] }))
 after_left b t _ = stuck
 
 -- one more equation
-abbrev pub body_with : Body → Equation → Body
+abbrev pub body_with : EquationsOf → Equation → EquationsOf
 body_with (body.Net n) e = body.Net (with_equation n e)
 body_with (body.Rule y p) e = body.Rule (rule_with_equation y e) p
 
-abbrev pub after_right : Body → Term → Place → Term → Sign → Step
+abbrev pub after_right : EquationsOf → Term → Place → Term → Sign → Step
 after_right b l p t (Plain kind.Semicolon) = on (state.Equation (body_with b (record { left = l; tilde = p; right = t })))
 after_right b l p t _ = stuck
 

@@ -11,7 +11,7 @@ use crate::places::Place;
 use crate::signs::Sign;
 use crate::stack::Stack;
 use crate::states::{
-    Body, HeadOf, Nest, PortOf, State, TermOf, put_away, put_away_body, put_away_head,
+    EquationsOf, HeadOf, Nest, PortOf, State, TermOf, put_away, put_away_body, put_away_head,
     put_away_nest, put_away_port, put_away_term,
 };
 use crate::tree::{
@@ -435,7 +435,7 @@ fn at_rule_open(
     match sign {
         Sign::Plain(TokenKind::OpenBrace) => {
             let rule = bare_rule_of(alloc, first, second)?;
-            Ok(goes(state, State::Equation(Body::Rule(rule, word))))
+            Ok(goes(state, State::Equation(EquationsOf::Rule(rule, word))))
         }
         _ => Ok(Event::Refuses(Code::E02)),
     }
@@ -522,7 +522,7 @@ fn at_body_open(state: &mut State, alloc: Global, free: SourceFrees, sign: Sign)
             let equations = Equations::new(alloc);
             goes(
                 state,
-                State::Equation(Body::Net(SourceNet { free, equations })),
+                State::Equation(EquationsOf::Net(SourceNet { free, equations })),
             )
         }
         _ => Event::Refuses(Code::E02),
@@ -532,7 +532,7 @@ fn at_body_open(state: &mut State, alloc: Global, free: SourceFrees, sign: Sign)
 fn at_equation(
     state: &mut State,
     alloc: Global,
-    body: Body,
+    body: EquationsOf,
     sign: Sign,
 ) -> Result<Event, AllocError>
     ensures { IfOk result (λ m. led m state.new ≡ move_of (steps.at_equation body sign)) }
@@ -552,12 +552,12 @@ fn at_equation(
 }
 
 // After the `}` of the equations.
-fn after_equations(body: Body) -> State
+fn after_equations(body: EquationsOf) -> State
     ensures { result ≡ steps.after_equations body }
 {
     match body {
-        Body::Net(net) => State::Done(net),
-        Body::Rule(rule, word) => State::RuleClose(rule, word),
+        EquationsOf::Net(net) => State::Done(net),
+        EquationsOf::Rule(rule, word) => State::RuleClose(rule, word),
     }
 }
 
@@ -692,7 +692,7 @@ fn after_outermost(
 fn after_left(
     state: &mut State,
     alloc: Global,
-    body: Body,
+    body: EquationsOf,
     around: Stack,
     term: Term,
     sign: Sign,
@@ -715,7 +715,7 @@ fn after_left(
 fn after_right(
     state: &mut State,
     alloc: Global,
-    body: Body,
+    body: EquationsOf,
     left: Term,
     tilde: Place,
     right: Term,
@@ -736,14 +736,18 @@ fn after_right(
 }
 
 // The equations with one more.
-fn body_with(alloc: Global, body: Body, equation: Equation) -> Result<Body, AllocError>
+fn body_with(
+    alloc: Global,
+    body: EquationsOf,
+    equation: Equation,
+) -> Result<EquationsOf, AllocError>
     ensures { IfOk result (λ b. b ≡ steps.body_with body equation) }
 {
     match body {
-        Body::Net(net) => Ok(Body::Net(net.with_equation(equation)?)),
-        Body::Rule(rule, word) => {
+        EquationsOf::Net(net) => Ok(EquationsOf::Net(net.with_equation(equation)?)),
+        EquationsOf::Rule(rule, word) => {
             let rule = rule.into_inner().with_equation(equation)?;
-            Ok(Body::Rule(Boxed::new(alloc, rule)?, word))
+            Ok(EquationsOf::Rule(Boxed::new(alloc, rule)?, word))
         }
     }
 }

@@ -29,7 +29,7 @@ pub enum HeadOf {
 
 /// The item that equations belong to, with those so far.
 #[derive(Drop)]
-pub enum Body {
+pub enum EquationsOf {
     /// The net.
     Net(SourceNet),
     /// A rule, with the place of its word `with`.
@@ -40,9 +40,9 @@ pub enum Body {
 #[derive(Drop)]
 pub enum TermOf {
     /// The left side of an equation, after those so far.
-    Left(Body),
+    Left(EquationsOf),
     /// The right side of an equation, after those so far, the left side and the `~`.
-    Right(Body, Term, Place),
+    Right(EquationsOf, Term, Place),
     /// A head, after its terms so far.
     Inside(HeadOf, Head),
 }
@@ -100,7 +100,7 @@ pub enum State {
     /// After the `)` of the free names.
     BodyOpen(SourceFrees),
     /// An equation begins, or there are no more.
-    Equation(Body),
+    Equation(EquationsOf),
     /// A term comes.
     TermName(Nest),
     /// After a term's name.
@@ -117,7 +117,7 @@ pub fn put_away_port(_of: PortOf) {}
 
 pub fn put_away_head(_of: HeadOf) {}
 
-pub fn put_away_body(_body: Body) {}
+pub fn put_away_body(_body: EquationsOf) {}
 
 pub fn put_away_term(of: TermOf) {
     match of {

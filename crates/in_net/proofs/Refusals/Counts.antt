@@ -2,7 +2,7 @@
 use Rattle.std.proofs.Common.{◌≡◌, ◌≢◌, ◌⊎◌, inl, inr, ℕ, zero, suc, ◌+◌, ◌<◌, ◌≤◌, List, [], ◌∷◌, length, Option, Some, None, refl, sym, ◌∙◌, ap, arith}
 use Rattle.std.proofs.lemmas.List.{get_or-set_other}
 use Rattle.std.proofs.lemmas.Bool.{cases_eq, cases_lt}
-use Rattle.in_net.specs.declared.reading.Spot.{Spot}
+use Rattle.in_net.specs.declared.reading.TextSpot.{TextSpot}
 use Rattle.in_net.specs.declared.counting.Seen.{Seen}
 use Rattle.in_net.specs.declared.counting.Seen.TheVariants.{Never, Once, Twice, Often}
 use Rattle.in_net.specs.Counting.{name_of, seen_again, none_seen, count_name, counted, counted_from}
@@ -23,7 +23,7 @@ other_named seen at m None e = refl
 other_named seen at m (Some n) e = get_or-set_other seen n m (seen_again (nth_seen seen n) at) Never (λ f. e (ap Some (sym f)))
 
 -- two more: then it is seen too often
-two_more : (at : ℕ) (ss : List Spot) (seen : List Seen) (m a i j : ℕ) → m < length seen → nth_seen seen m ≡ Once a → i < j → j < length ss → name_of (nth_spot ss i) ≡ Some m → name_of (nth_spot ss j) ≡ Some m →
+two_more : (at : ℕ) (ss : List TextSpot) (seen : List Seen) (m a i j : ℕ) → m < length seen → nth_seen seen m ≡ Once a → i < j → j < length ss → name_of (nth_spot ss i) ≡ Some m → name_of (nth_spot ss j) ≡ Some m →
     nth_seen (counted_from at ss seen) m ≡ Often
 two_more at [] seen m a i j lt is less in_ e f = absurd (omega (arith, in_))
 two_more at (s ∷ ss) seen m a zero zero lt is less in_ e f = absurd (omega (arith, less))
@@ -40,7 +40,7 @@ two_more at (s ∷ ss) seen m a (suc i) (suc j) lt is less in_ e f =
         third_time (at + 1) ss (counted seen at s) m i (omega (arith, lt, count)) (second_named seen at m a (name_of s) lt is x) (omega (arith, less, in_)) e
     by_name next (inr x) = next (other_named seen at m (name_of s) x ∙ is)
 
-three_more : (at : ℕ) (ss : List Spot) (seen : List Seen) (m i j k : ℕ) → m < length seen → nth_seen seen m ≡ Never → i < j → j < k → k < length ss → name_of (nth_spot ss i) ≡ Some m → name_of (nth_spot ss j) ≡ Some m →
+three_more : (at : ℕ) (ss : List TextSpot) (seen : List Seen) (m i j k : ℕ) → m < length seen → nth_seen seen m ≡ Never → i < j → j < k → k < length ss → name_of (nth_spot ss i) ≡ Some m → name_of (nth_spot ss j) ≡ Some m →
     name_of (nth_spot ss k) ≡ Some m → nth_seen (counted_from at ss seen) m ≡ Often
 three_more at [] seen m i j k lt is less more in_ e f g = absurd (omega (arith, in_))
 three_more at (s ∷ ss) seen m zero zero k lt is less more in_ e f g = absurd (omega (arith, less))
@@ -59,7 +59,7 @@ three_more at (s ∷ ss) seen m (suc i) (suc j) (suc k) lt is less more in_ e f 
         two_more (at + 1) ss (counted seen at s) m at i j (omega (arith, lt, count)) (first_named seen at m (name_of s) lt is x) (omega (arith, less)) (omega (arith, more, in_)) e f
     by_name next (inr x) = next (other_named seen at m (name_of s) x ∙ is)
 
-module _ (spots : List Spot) (names : ℕ) (twice : AreTwice spots (counted_from 0 spots (none_seen names))) where
+module _ (spots : List TextSpot) (names : ℕ) (twice : AreTwice spots (counted_from 0 spots (none_seen names))) where
   no_three : (m i j k : ℕ) → m < names → i < j → j < k → k < length spots → name_of (nth_spot spots i) ≡ Some m → name_of (nth_spot spots j) ≡ Some m → name_of (nth_spot spots k) ≡ Some m → ⊥
   no_three m i j k lt less more in_ e f g =
       let size = length-none_seen names in

@@ -9,8 +9,8 @@ use Rattle.in_syntax.specs.Order.{Rises}
 use Rattle.in_symbols.specs.Names.{name_in}
 use Rattle.in_symbols.specs.Tables.{Tables}
 use Rattle.in_syntax.proofs.Public.{IsLeast, least_same}
-use Rattle.in_net.specs.declared.reading.Spot.{Spot}
-use Rattle.in_net.specs.declared.reading.Spot.TheVariants.{Free, Occurrence}
+use Rattle.in_net.specs.declared.reading.TextSpot.{TextSpot}
+use Rattle.in_net.specs.declared.reading.TextSpot.TheVariants.{Free, Occurrence}
 use Rattle.in_net.specs.declared.reading.Reading.{Reading}
 use Rattle.in_net.specs.Counting as counting
 use Rattle.in_net.specs.Counting.{none_seen, counted_from, nothing_counted, counts_from, place_at, miscounted}
@@ -42,7 +42,7 @@ at_among (x ∷ fs) (suc k) f e = inr (at_among fs k f e)
 module _ (t : Tables) (body : Body) (r : Reading) (names : AreNamesRead t body r) (up : Rises (root_places r.spots))
     (apart : (m k : ℕ) → m < length r.names → k < length r.names → name_in m r.names ≡ name_in k r.names → m ≡ k)
     (differ : (k l : ℕ) (f g : SourceFree) → slice_get body.free k ≡ Some f → slice_get body.free l ≡ Some g → f.name.text ≡ g.name.text → k ≡ l) where
-  abbrev spots : List Spot
+  abbrev spots : List TextSpot
   spots = r.spots
 
   fact : (i : ℕ) → i < length r.spots → IsNamed t body r.names (nth_spot r.spots i)

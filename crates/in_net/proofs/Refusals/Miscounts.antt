@@ -7,8 +7,8 @@ use Rattle.in_syntax.specs.declared.tree.SourceFree.{SourceFree}
 use Rattle.in_base.specs.Lists.{AnyByRecursion}
 use Rattle.in_syntax.specs.Refusals.{earlier}
 use Rattle.in_syntax.proofs.Public.{IsLeast, least_same, least_earlier, least_of_all}
-use Rattle.in_net.specs.declared.reading.Spot.{Spot}
-use Rattle.in_net.specs.declared.reading.Spot.TheVariants.{Port, Free, End, Occurrence}
+use Rattle.in_net.specs.declared.reading.TextSpot.{TextSpot}
+use Rattle.in_net.specs.declared.reading.TextSpot.TheVariants.{Port, Free, End, Occurrence}
 use Rattle.in_net.specs.declared.counting.Seen.{Seen}
 use Rattle.in_net.specs.declared.counting.Seen.TheVariants.{Never, Once, Twice, Often}
 use Rattle.in_net.specs.declared.counting.Counting.{Counting}
@@ -20,7 +20,7 @@ use Rattle.in_net.proofs.Wiring.Ways.{nth_seen}
 use Rattle.in_net.proofs.Wiring.Joined.{nth_none}
 
 -- the third spot of a name is an occurrence at the place
-pub record IsThirdAt (spots : List Spot) (at : ℕ) (q : Place) : Type 0 where
+pub record IsThirdAt (spots : List TextSpot) (at : ℕ) (q : Place) : Type 0 where
   pub name : ℕ
   pub one : ℕ
   pub two : ℕ
@@ -33,18 +33,18 @@ pub record IsThirdAt (spots : List Spot) (at : ℕ) (q : Place) : Type 0 where
   pub stands : nth_spot spots three ≡ Occurrence name q
   pub only : (i : ℕ) → i < three → Has spots name i → (i ≡ one) ⊎ (i ≡ two)
 
-pub record IsCountedAt (spots : List Spot) (names at : ℕ) (c : Counting) : Type 0 where
+pub record IsCountedAt (spots : List TextSpot) (names at : ℕ) (c : Counting) : Type 0 where
   pub count : length c.seen ≡ names
   pub seen : (m : ℕ) → m < names → IsStanding spots at m (nth_seen c.seen m)
   pub third : IsLeast (IsThirdAt spots at) c.third
 
-same_name : (spots : List Spot) (i m n : ℕ) → Has spots m i → Has spots n i → m ≡ n
+same_name : (spots : List TextSpot) (i m n : ℕ) → Has spots m i → Has spots n i → m ≡ n
 same_name spots i m n e f = some_is (sym e ∙ f)
   where
     some_is : Some m ≡ Some n → m ≡ n
     some_is e = cc
 
-third_weaker : (spots : List Spot) (at : ℕ) (q : Place) → IsThirdAt spots at q → IsThirdAt spots (at + 1) q
+third_weaker : (spots : List TextSpot) (at : ℕ) (q : Place) → IsThirdAt spots at q → IsThirdAt spots (at + 1) q
 third_weaker spots at q h = record {
   name = h.name;
   one = h.one;
@@ -60,7 +60,7 @@ third_weaker spots at q h = record {
 }
 
 -- a third one at the next spot is the third one of its name
-third_here : (spots : List Spot) (at m : ℕ) (q : Place) (s : Seen) → IsStanding spots at m s → nth_spot spots at ≡ Occurrence m q → (h : IsThirdAt spots (at + 1) q) → h.three ≡ at → h.name ≡ m → s ≡ Twice
+third_here : (spots : List TextSpot) (at m : ℕ) (q : Place) (s : Seen) → IsStanding spots at m s → nth_spot spots at ≡ Occurrence m q → (h : IsThirdAt spots (at + 1) q) → h.three ≡ at → h.name ≡ m → s ≡ Twice
 third_here spots at m q Never stand is h e n = absurd (let l = h.first in let k = h.next in stand h.one (omega (arith, l, k, e)) (subst (λ n. Has spots n h.one) n h.has_one))
 third_here spots at m q (Once a) stand is h e n =
     let l = h.first in
@@ -82,17 +82,17 @@ third_here spots at m q Often (a, b, c, less, next, in_, f, g, i, all) is h e n 
     pigeon (inr x) (inl y) (inl z) = absurd (omega (arith, y, z, next))
     pigeon (inr x) (inl y) (inr z) = absurd (omega (arith, x, z, less, next))
 
-occurrence_name : (spots : List Spot) (at m n : ℕ) (q : Place) → nth_spot spots at ≡ Occurrence n q → Has spots m at → m ≡ n
+occurrence_name : (spots : List TextSpot) (at m n : ℕ) (q : Place) → nth_spot spots at ≡ Occurrence n q → Has spots m at → m ≡ n
 occurrence_name spots at m n q is e = some_is (sym e ∙ ap name_of is)
   where
     some_is : Some m ≡ Some n → m ≡ n
     some_is e = cc
 
 -- what a third one at this very spot is
-abbrev IsHere : List Spot → ℕ → ℕ → Seen → Place → Type 0
+abbrev IsHere : List TextSpot → ℕ → ℕ → Seen → Place → Type 0
 IsHere spots at m s q = (s ≡ Twice) × (nth_spot spots at ≡ Occurrence m q)
 
-third_least : (spots : List Spot) (at m : ℕ) (s : Seen) (u : Spot) → nth_spot spots at ≡ u → Has spots m at → IsLeast (IsHere spots at m s) (third_time s u)
+third_least : (spots : List TextSpot) (at m : ℕ) (s : Seen) (u : TextSpot) → nth_spot spots at ≡ u → Has spots m at → IsLeast (IsHere spots at m s) (third_time s u)
 third_least spots at m Never u is e = λ q h. absurd (let wrong : Never ≡ Twice = h.0 in cc)
 third_least spots at m (Once a) u is e = λ q h. absurd (let wrong : Once a ≡ Twice = h.0 in cc)
 third_least spots at m Twice (Port a i p) is e = λ q h. absurd (let wrong : Port a i p ≡ Occurrence m q = sym is ∙ h.1 in cc)
@@ -105,7 +105,7 @@ third_least spots at m Twice (Occurrence n p) is e =
     )
 third_least spots at m Often u is e = λ q h. absurd (let wrong : Often ≡ Twice = h.0 in cc)
 
-third_step : (spots : List Spot) (at m : ℕ) (s : Seen) (found : Option Place) → Has spots m at → IsStanding spots at m s → IsLeast (IsThirdAt spots at) found → IsLeast (IsThirdAt spots (at + 1)) (earlier found (third_time s (nth_spot spots at)))
+third_step : (spots : List TextSpot) (at m : ℕ) (s : Seen) (found : Option Place) → Has spots m at → IsStanding spots at m s → IsLeast (IsThirdAt spots at) found → IsLeast (IsThirdAt spots (at + 1)) (earlier found (third_time s (nth_spot spots at)))
 third_step spots at m s found here stand least =
     least_same (λ q. IsThirdAt spots at q ⊎ IsHere spots at m s q) (IsThirdAt spots (at + 1)) (earlier found (third_time s (nth_spot spots at))) to back
     (least_earlier (IsThirdAt spots at) (IsHere spots at m s) found (third_time s (nth_spot spots at)) least (third_least spots at m s (nth_spot spots at) refl here))
@@ -133,7 +133,7 @@ third_step spots at m s found here stand least =
             inr (third_here spots at m q s stand is_m h e (sym name), is_m)
 
 -- a spot without a name is no third one
-third_none : (spots : List Spot) (at : ℕ) (found : Option Place) → name_of (nth_spot spots at) ≡ None → IsLeast (IsThirdAt spots at) found → IsLeast (IsThirdAt spots (at + 1)) found
+third_none : (spots : List TextSpot) (at : ℕ) (found : Option Place) → name_of (nth_spot spots at) ≡ None → IsLeast (IsThirdAt spots at) found → IsLeast (IsThirdAt spots (at + 1)) found
 third_none spots at found none least = least_same (IsThirdAt spots at) (IsThirdAt spots (at + 1)) found (third_weaker spots at) back least
   where
     back : (q : Place) → IsThirdAt spots (at + 1) q → IsThirdAt spots at q
@@ -145,7 +145,7 @@ third_none spots at found none least = least_same (IsThirdAt spots at) (IsThirdA
             let e : h.three ≡ at = let l = h.inside in omega (arith, le, l) in
             absurd (let wrong : None ≡ Some h.name = sym none ∙ ap (λ i. name_of (nth_spot spots i)) (sym e) ∙ ap name_of h.stands in cc)
 
-module _ (spots : List Spot) (names : ℕ) (inside : (i m : ℕ) → i < length spots → Has spots m i → m < names) where
+module _ (spots : List TextSpot) (names : ℕ) (inside : (i m : ℕ) → i < length spots → Has spots m i → m < names) where
   step_by : (at : ℕ) (c : Counting) → at < length spots → IsCountedAt spots names at c → (o : Option ℕ) → name_of (nth_spot spots at) ≡ o → IsCountedAt spots names (at + 1) (counts_named c at (nth_spot spots at) o)
   step_by at c lt h None is = record {
     count = h.count;
@@ -168,7 +168,7 @@ module _ (spots : List Spot) (names : ℕ) (inside : (i m : ℕ) → i < length 
           subst (IsStanding spots (at + 1) k) (sym (get_or-set_other c.seen m k (seen_again (nth_seen c.seen m) at) Never e))
           (standing_on spots at k (nth_seen c.seen k) (λ f. e (same_name spots at k m f is)) (h.seen k k_in))
 
-  all_counted : (at : ℕ) (ss : List Spot) (c : Counting) → at + length ss ≡ length spots → ((i : ℕ) → i < length ss → nth_spot ss i ≡ nth_spot spots (at + i)) → IsCountedAt spots names at c → IsCountedAt spots names (length spots) (counts_from at ss c)
+  all_counted : (at : ℕ) (ss : List TextSpot) (c : Counting) → at + length ss ≡ length spots → ((i : ℕ) → i < length ss → nth_spot ss i ≡ nth_spot spots (at + i)) → IsCountedAt spots names at c → IsCountedAt spots names (length spots) (counts_from at ss c)
   all_counted at [] c count same h = subst (λ n. IsCountedAt spots names n c) (let e : at ≡ length spots = omega (arith, count) in e) h
   all_counted at (s ∷ ss) c count same h =
       let zero_on : at + 0 ≡ at = omega arith in
@@ -189,7 +189,7 @@ module _ (spots : List Spot) (names : ℕ) (inside : (i m : ℕ) → i < length 
 -- ---- a name's only spot
 
 -- the spot of that number is the only one of its name, and is at the place
-pub record IsOnlyAt (spots : List Spot) (free : List SourceFree) (q : Place) : Type 0 where
+pub record IsOnlyAt (spots : List TextSpot) (free : List SourceFree) (q : Place) : Type 0 where
   pub name : ℕ
   pub one : ℕ
   pub inside : one < length spots
@@ -197,10 +197,10 @@ pub record IsOnlyAt (spots : List Spot) (free : List SourceFree) (q : Place) : T
   pub only : (i : ℕ) → i < length spots → Has spots name i → i ≡ one
   pub stands : place_at free (slice_get spots one) ≡ Some q
 
-abbrev IsOnce : List Spot → List SourceFree → Seen → Place → Type 0
+abbrev IsOnce : List TextSpot → List SourceFree → Seen → Place → Type 0
 IsOnce spots free s q = (a : ℕ) × (s ≡ Once a) × (place_at free (slice_get spots a) ≡ Some q)
 
-once_by : (spots : List Spot) (free : List SourceFree) (a : ℕ) (o : Option Place) → place_at free (slice_get spots a) ≡ o → IsLeast (IsOnce spots free (Once a)) o
+once_by : (spots : List TextSpot) (free : List SourceFree) (a : ℕ) (o : Option Place) → place_at free (slice_get spots a) ≡ o → IsLeast (IsOnce spots free (Once a)) o
 once_by spots free a None is = λ q h. let same : a ≡ h.0 = cc in absurd (let wrong : None ≡ Some q = sym is ∙ ap (λ a. place_at free (slice_get spots a)) same ∙ h.2 in cc)
 once_by spots free a (Some p) is = ((a, refl, is), λ q h. least q h)
   where
@@ -211,30 +211,30 @@ once_by spots free a (Some p) is = ((a, refl, is), λ q h. least q h)
         let equal : p ≡ q = cc in
         omega (arith, ap (λ (x : Place). x.from) equal)
 
-once_least : (spots : List Spot) (free : List SourceFree) (s : Seen) → IsLeast (IsOnce spots free s) (lonely_place spots free s)
+once_least : (spots : List TextSpot) (free : List SourceFree) (s : Seen) → IsLeast (IsOnce spots free s) (lonely_place spots free s)
 once_least spots free Never = λ q h. absurd (let wrong : Never ≡ Once h.0 = h.1 in cc)
 once_least spots free (Once a) = once_by spots free a (place_at free (slice_get spots a)) refl
 once_least spots free Twice = λ q h. absurd (let wrong : Twice ≡ Once h.0 = h.1 in cc)
 once_least spots free Often = λ q h. absurd (let wrong : Often ≡ Once h.0 = h.1 in cc)
 
-any_at : (spots : List Spot) (free : List SourceFree) (seen : List Seen) (q : Place) → AnyByRecursion (λ s. IsOnce spots free s q) seen → (m : ℕ) × (m < length seen) × IsOnce spots free (nth_seen seen m) q
+any_at : (spots : List TextSpot) (free : List SourceFree) (seen : List Seen) (q : Place) → AnyByRecursion (λ s. IsOnce spots free s q) seen → (m : ℕ) × (m < length seen) × IsOnce spots free (nth_seen seen m) q
 any_at spots free [] q h = absurd h
 any_at spots free (s ∷ seen) q (inl h) = (0, omega arith, h)
 any_at spots free (s ∷ seen) q (inr h) = let there = any_at spots free seen q h in (suc there.0, omega (arith, there.1), there.2)
 
-at_any : (spots : List Spot) (free : List SourceFree) (seen : List Seen) (q : Place) (m : ℕ) → m < length seen → IsOnce spots free (nth_seen seen m) q → AnyByRecursion (λ s. IsOnce spots free s q) seen
+at_any : (spots : List TextSpot) (free : List SourceFree) (seen : List Seen) (q : Place) (m : ℕ) → m < length seen → IsOnce spots free (nth_seen seen m) q → AnyByRecursion (λ s. IsOnce spots free s q) seen
 at_any spots free [] q m lt h = absurd (omega (arith, lt))
 at_any spots free (s ∷ seen) q zero lt h = inl h
 at_any spots free (s ∷ seen) q (suc m) lt h = inr (at_any spots free seen q m (omega (arith, lt)) h)
 
 -- the name that a spot has, seen once
-seen_once : (spots : List Spot) (at m i : ℕ) (s : Seen) → IsStanding spots at m s → i < at → Has spots m i → ((j : ℕ) → j < at → Has spots m j → j ≡ i) → s ≡ Once i
+seen_once : (spots : List TextSpot) (at m i : ℕ) (s : Seen) → IsStanding spots at m s → i < at → Has spots m i → ((j : ℕ) → j < at → Has spots m j → j ≡ i) → s ≡ Once i
 seen_once spots at m i Never h lt e only = absurd (h i lt e)
 seen_once spots at m i (Once a) h lt e only = ap Once (only a h.0 h.1)
 seen_once spots at m i Twice (a, b, less, in_, f, g, all) lt e only = absurd (omega (arith, only a (omega (arith, less, in_)) f, only b in_ g, less))
 seen_once spots at m i Often (a, b, c, less, next, in_, f, g, k, all) lt e only = absurd (omega (arith, only a (omega (arith, less, next, in_)) f, only b (omega (arith, next, in_)) g, less))
 
-module _ (spots : List Spot) (names : ℕ) (free : List SourceFree) (inside : (i m : ℕ) → i < length spots → Has spots m i → m < names) where
+module _ (spots : List TextSpot) (names : ℕ) (free : List SourceFree) (inside : (i m : ℕ) → i < length spots → Has spots m i → m < names) where
   abbrev all : Counting
   all = counts_from 0 spots (nothing_counted names)
 
@@ -259,11 +259,11 @@ module _ (spots : List Spot) (names : ℕ) (free : List SourceFree) (inside : (i
       (least_same (λ q. AnyByRecursion (λ s. IsOnce spots free s q) all.seen) (IsOnlyAt spots free) (lonely spots free all.seen) only_of of_only
       (least_of_all (lonely_place spots free) (λ s q. IsOnce spots free s q) (once_least spots free) all.seen))
 
-seen_counted : (c : Counting) (at : ℕ) (o : Option ℕ) (s : Spot) → (counts_named c at s o).seen ≡ count_name c.seen at o
+seen_counted : (c : Counting) (at : ℕ) (o : Option ℕ) (s : TextSpot) → (counts_named c at s o).seen ≡ count_name c.seen at o
 seen_counted c at None s = refl
 seen_counted c at (Some m) s = refl
 
 -- both ways of counting see the same
-pub same_seen : (at : ℕ) (ss : List Spot) (c : Counting) → (counts_from at ss c).seen ≡ counted_from at ss c.seen
+pub same_seen : (at : ℕ) (ss : List TextSpot) (c : Counting) → (counts_from at ss c).seen ≡ counted_from at ss c.seen
 same_seen at [] c = refl
 same_seen at (s ∷ ss) c = same_seen (at + 1) ss (counts_spot c at s) ∙ ap (counted_from (at + 1) ss) (seen_counted c at (name_of s) s)

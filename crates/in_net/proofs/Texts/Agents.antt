@@ -9,7 +9,7 @@ use Rattle.in_syntax.specs.declared.tree.Equation.{Equation}
 use Rattle.in_syntax.specs.declared.tree.Name.{Name}
 use Rattle.in_net.specs.declared.nets.Cell.{Cell}
 use Rattle.in_syntax.specs.declared.tree.SourceFree.{SourceFree}
-use Rattle.in_net.specs.declared.reading.Spot.{Spot}
+use Rattle.in_net.specs.declared.reading.TextSpot.{TextSpot}
 use Rattle.in_net.specs.declared.joining.Link.{Link}
 use Rattle.in_net.specs.declared.reading.Agent.{Agent}
 use Rattle.in_net.specs.declared.reading.Reading.{Reading}
@@ -22,7 +22,7 @@ use Rattle.in_net.specs.TextNet.{Body, LeftHead, Written, written_by, agents_of,
 use Rattle.in_net.proofs.Texts.Folds.{read_named}
 use Rattle.in_syntax.proofs.Public.{term_by_arguments, terms_by_arguments}
 
-pub length-ends : (spots : List Spot) (links : List Link) (first n : ℕ) → length (ends_from spots links first n) ≡ n
+pub length-ends : (spots : List TextSpot) (links : List Link) (first n : ℕ) → length (ends_from spots links first n) ≡ n
 length-ends spots links first zero = refl
 length-ends spots links first (suc n) = ap suc (length-ends spots links (first + 1) n)
 
@@ -99,7 +99,7 @@ body_agents t b =
     equations_read t b.equations (reads_heads t b.heads ends)
     ∙ ap (λ z. z ++ agents_of_equations t b.equations) (heads_read t b.heads ends ∙ ap (λ z. as_written z ++ agents_of_heads t b.heads) (ends_agents (reads_free b.free) (ends_of t b.heads) ∙ free_agents 0 b.free nothing_read))
 
-cells_written : (t : Tables) (spots : List Spot) (links : List Link) (as_ : List Agent) → AreCellsFor t (as_written as_) (cells_of t spots links as_)
+cells_written : (t : Tables) (spots : List TextSpot) (links : List Link) (as_ : List Agent) → AreCellsFor t (as_written as_) (cells_of t spots links as_)
 cells_written t spots links [] = tt
 cells_written t spots links (a ∷ as_) = (record { symbol = refl; ends = length-ends spots links a.first (arity_of t a.symbol.0 + 1) }, cells_written t spots links as_)
 
@@ -107,11 +107,11 @@ pub cells_for : (t : Tables) (b : Body) (r : Reading) (links : List Link) (cs : 
 cells_for t b r links cs is all =
     subst (λ ws. AreCellsFor t ws cs) (ap (λ (q : Reading). as_written q.agents) is ∙ body_agents t b) (subst (AreCellsFor t (as_written r.agents)) (sym all) (cells_written t r.spots links r.agents))
 
-pub cells_over : (t : Tables) (spots : List Spot) (links : List Link) (as_ : List Agent) → AllByRecursion (λ a. a.symbol.0 < length t.names) as_ → AllByRecursion (IsCellOver t) (cells_of t spots links as_)
+pub cells_over : (t : Tables) (spots : List TextSpot) (links : List Link) (as_ : List Agent) → AllByRecursion (λ a. a.symbol.0 < length t.names) as_ → AllByRecursion (IsCellOver t) (cells_of t spots links as_)
 cells_over t spots links [] h = tt
 cells_over t spots links (a ∷ as_) h = ((h.0, length-ends spots links a.first (arity_of t a.symbol.0 + 1)), cells_over t spots links as_ h.1)
 
-pub free_for : (t : Tables) (spots : List Spot) (links : List Link) (k : ℕ) (fs : List SourceFree) → AreFreeOf t fs (free_ends_from t spots links k fs)
+pub free_for : (t : Tables) (spots : List TextSpot) (links : List Link) (k : ℕ) (fs : List SourceFree) → AreFreeOf t fs (free_ends_from t spots links k fs)
 free_for t spots links k [] = tt
 free_for t spots links k (f ∷ fs) = ((refl, refl), free_for t spots links (k + 1) fs)
 

@@ -4,8 +4,8 @@ use Rattle.in_syntax.specs.declared.places.Place.{Place}
 use Rattle.in_syntax.specs.declared.tree.Term.{Term}
 use Rattle.in_symbols.specs.Names.{name_in}
 use Rattle.in_net.specs.declared.joining.Link.{Link}
-use Rattle.in_net.specs.declared.reading.Spot.{Spot}
-use Rattle.in_net.specs.declared.reading.Spot.TheVariants.{Occurrence}
+use Rattle.in_net.specs.declared.reading.TextSpot.{TextSpot}
+use Rattle.in_net.specs.declared.reading.TextSpot.TheVariants.{Occurrence}
 use Rattle.in_net.specs.declared.reading.Reading.{Reading}
 use Rattle.in_net.specs.Building.{nth_link, nth_spot, no_spot}
 use Rattle.in_net.specs.Joining.{links_of}
@@ -16,7 +16,7 @@ use Rattle.in_net.proofs.Wiring.Linked.{at_front, at_first, at_third, links_join
 use Rattle.in_net.proofs.Wiring.Sound.{named}
 
 -- two spots are joined, at that place
-pub record IsSettled (r : Reading) (x y : text.Spot) (p : Place) : Type 0 where
+pub record IsSettled (r : Reading) (x y : text.TextSpot) (p : Place) : Type 0 where
   pub spot : ℕ
   pub inside : spot < length r.spots
   pub linked : (nth_link (links_of r) spot).to ≢ spot
@@ -35,7 +35,7 @@ pub record IsHeldAt (r : Reading) (v : Term) : Type 0 where
   pub name : name_in number r.names ≡ name_of v
 
 pub record Keeps (before after : Reading) : Type 0 where
-  pub settled : (x y : text.Spot) (p : Place) → IsSettled before x y p → IsSettled after x y p
+  pub settled : (x y : text.TextSpot) (p : Place) → IsSettled before x y p → IsSettled after x y p
   pub held : (v : Term) → IsHeldAt before v → IsHeldAt after v
 
 pub keeps_both : (a b c : Reading) → Keeps a b → Keeps b c → Keeps a c
@@ -45,7 +45,7 @@ pub keeps_itself : (r : Reading) → Keeps r r
 keeps_itself r = record { settled = λ x y p s. s; held = λ v s. s }
 
 -- spots and names that are added
-pub keeps_more : (before after : Reading) (more : List Spot) (names : List (List ℕ)) → after.spots ≡ before.spots ++ more → after.names ≡ before.names ++ names →
+pub keeps_more : (before after : Reading) (more : List TextSpot) (names : List (List ℕ)) → after.spots ≡ before.spots ++ more → after.names ≡ before.names ++ names →
     ((i : ℕ) → i < length before.spots → nth_link (links_of after) i ≡ nth_link (links_of before) i) → Keeps before after
 keeps_more before after more names grown named_on links = record {
   settled = λ x y p s.

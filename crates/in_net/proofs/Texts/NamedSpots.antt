@@ -8,8 +8,8 @@ use Rattle.in_syntax.specs.declared.tree.SourceFree.{SourceFree}
 use Rattle.in_symbols.specs.declared.symbols.SymbolNo.{SymbolNo}
 use Rattle.in_symbols.specs.Names.{number_in, name_in}
 use Rattle.in_symbols.specs.Tables.{Tables, arity_of}
-use Rattle.in_net.specs.declared.reading.Spot.{Spot}
-use Rattle.in_net.specs.declared.reading.Spot.TheVariants.{Port, Free, End, Occurrence}
+use Rattle.in_net.specs.declared.reading.TextSpot.{TextSpot}
+use Rattle.in_net.specs.declared.reading.TextSpot.TheVariants.{Port, Free, End, Occurrence}
 use Rattle.in_net.specs.declared.reading.Reading.{Reading}
 use Rattle.in_net.specs.Reading.{with_agent, with_joint, with_named, with_occurrence, number_with, ports_from, reader_of, reads_arguments, reads_equation, reads_equations, reads_heads, with_ends, boundary_spots, ends_of, reads_free, reads_free_from, reads_free_end, nothing_read, reading_of}
 use Rattle.in_net.specs.Building.{no_spot, nth_spot}
@@ -25,13 +25,13 @@ use Rattle.in_net.proofs.Texts.Read.{IsNamed, name_there, grows_by, all_still_na
 use Rattle.in_base.proofs.Each.{all_append}
 use Rattle.in_syntax.proofs.Public.{term_by_arguments, terms_by_arguments}
 
-abbrev pub IsBound : Spot → Type 0
+abbrev pub IsBound : TextSpot → Type 0
 IsBound (Port a i p) = Unit {0}
 IsBound (Free k m) = ⊥
 IsBound (End k) = Unit {0}
 IsBound (Occurrence m p) = Unit {0}
 
-abbrev IsFreeSpot : Spot → Type 0
+abbrev IsFreeSpot : TextSpot → Type 0
 IsFreeSpot (Port a i p) = ⊥
 IsFreeSpot (Free k m) = Unit {0}
 IsFreeSpot (End k) = ⊥
@@ -43,7 +43,7 @@ free_spots k (f ∷ fs) r all = free_spots (k + 1) fs (reads_free_end k f r) (al
 
 -- what reading on adds
 pub record Adds (t : Tables) (b : Body) (before after : Reading) : Type 0 where
-  pub more : List Spot
+  pub more : List TextSpot
   pub spots : after.spots ≡ before.spots ++ more
   pub more_names : List (List ℕ)
   pub names_on : after.names ≡ before.names ++ more_names
@@ -128,7 +128,7 @@ arguments_add t b (u ∷ us) all first port r terms =
 
 -- a name that is no symbol's
 module _ (t : Tables) (b : Body) (u : Term) (r : Reading) (is : number_in (out-Term u).name.text t.names ≡ None) where
-  abbrev spot : Spot
+  abbrev spot : TextSpot
   spot = Occurrence (number_with r.names (out-Term u).name.text) (out-Term u).name.place
 
   adds_occurrence : IsTermOf b u → Adds t b r (with_occurrence r (out-Term u).name)
@@ -269,7 +269,7 @@ pub record AreNamesRead (t : Tables) (b : Body) (r : Reading) : Type 0 where
   pub ends : (k : ℕ) → k < length b.free → (k < length r.spots) × ((m : ℕ) × (nth_spot r.spots k ≡ Free k m))
   pub end : (i k m : ℕ) → i < length r.spots → nth_spot r.spots i ≡ Free k m → (k ≡ i) × (i < length b.free)
 
-free_spot : (t : Tables) (b : Body) (names : List (List ℕ)) (s : Spot) (k : ℕ) → IsEnd s k → IsFreeSpot s → (m : ℕ) × (s ≡ Free k m)
+free_spot : (t : Tables) (b : Body) (names : List (List ℕ)) (s : TextSpot) (k : ℕ) → IsEnd s k → IsFreeSpot s → (m : ℕ) × (s ≡ Free k m)
 free_spot t b names (Port a i p) k h f = absurd f
 free_spot t b names (Free j m) k h f = (m, ap (λ j. Free j m) h)
 free_spot t b names (End j) k h f = absurd f
@@ -304,7 +304,7 @@ names_read t b =
     by_term u (IsTermOf.in_right e among part) variable heads adds held = held e u among (inr part) variable
     by_term u (IsTermOf.in_head h v among inside part) variable heads adds held = held_on t b (reads_heads t b.heads (with_ends (reads_free b.free) (ends_of t b.heads))) (reading_of t b) u adds (heads h v u among inside part variable)
 
-    by_side : (i k m : ℕ) → i < length (reading_of t b).spots → nth_spot (reading_of t b).spots i ≡ Free k m → (more : List Spot) → (reading_of t b).spots ≡ (reads_free b.free).spots ++ more → AllByRecursion IsBound more →
+    by_side : (i k m : ℕ) → i < length (reading_of t b).spots → nth_spot (reading_of t b).spots i ≡ Free k m → (more : List TextSpot) → (reading_of t b).spots ≡ (reads_free b.free).spots ++ more → AllByRecursion IsBound more →
         ((i k : ℕ) → i < length (reads_free b.free).spots → IsEnd (nth_spot (reads_free b.free).spots i) k → (k ≡ i) × (k < length b.free)) → length (reads_free b.free).spots ≡ length b.free →
         (i < length (reads_free b.free).spots) ⊎ ((j : ℕ) × (i ≡ length (reads_free b.free).spots + j)) → (k ≡ i) × (i < length b.free)
     by_side i k m lt is more grown bound old size (inl front) =

@@ -7,8 +7,8 @@ use Rattle.in_syntax.specs.declared.tree.Equation.{Equation}
 use Rattle.in_syntax.specs.declared.tree.SourceFree.{SourceFree}
 use Rattle.in_syntax.specs.Sizes.{total, names_in, names_in_equation, names_in_equations}
 use Rattle.in_net.specs.declared.joining.Link.{Link}
-use Rattle.in_net.specs.declared.reading.Spot.{Spot}
-use Rattle.in_net.specs.declared.reading.Spot.TheVariants.{Port, Free, End, Occurrence}
+use Rattle.in_net.specs.declared.reading.TextSpot.{TextSpot}
+use Rattle.in_net.specs.declared.reading.TextSpot.TheVariants.{Port, Free, End, Occurrence}
 use Rattle.in_net.specs.declared.reading.Reading.{Reading}
 use Rattle.in_symbols.specs.Tables.{Tables, heads_known, HeadsKnown}
 use Rattle.in_symbols.specs.Names.{number_in}
@@ -195,7 +195,7 @@ pub record IsPlaceRead (t : Tables) (b : Body) (free count : ℕ) (waits : ℕ �
   pub settled : IsSettled after (text.free_end at) (spot_of t v) (place_of v)
   pub held : IsHeldIn t v after
 
-end_named : (u : Spot) (k : ℕ) → IsEnd u k → named u ≡ text.free_end k
+end_named : (u : TextSpot) (k : ℕ) → IsEnd u k → named u ≡ text.free_end k
 end_named (Port a i p) k h = absurd h
 end_named (Free j m) k h = ap text.free_end h
 end_named (End j) k h = ap text.free_end h
@@ -498,7 +498,7 @@ free_read t b done [] r all h = let same : length done ≡ length b.free = ap le
 free_read t b done (f ∷ fs) r all h =
     let here : slice_get b.free (length done) ≡ Some f = subst (λ z. slice_get z (length done) ≡ Some f) all (middle done fs f) in
     let count : length (done ++ f ∷ []) ≡ length done + 1 = length-append done (f ∷ []) in
-    let spot : Spot = Free (length done) (number_with r.names f.name.text) in
+    let spot : TextSpot = Free (length done) (number_with r.names f.name.text) in
     let grown = length-append r.spots (spot ∷ []) in
     let one : AreFreeRead t b (length done + 1) (reads_free_end (length done) f r) = record {
       read = free_end_read t b (length done) r f here h.size h.agents h.joints h.read;
@@ -509,7 +509,7 @@ free_read t b done (f ∷ fs) r all h =
     subst (λ n. AreFreeRead t b (length b.free) (reads_free_from n fs (reads_free_end (length done) f r))) count
     (free_read t b (done ++ f ∷ []) fs (reads_free_end (length done) f r) (append_assoc done (f ∷ []) fs ∙ all) (subst (λ n. AreFreeRead t b n (reads_free_end (length done) f r)) (sym count) one))
 
-ends_apart : (k n : ℕ) (spots : List Spot) → spots ++ boundary_spots k (suc n) ≡ (spots ++ End k ∷ []) ++ boundary_spots (k + 1) n
+ends_apart : (k n : ℕ) (spots : List TextSpot) → spots ++ boundary_spots k (suc n) ≡ (spots ++ End k ∷ []) ++ boundary_spots (k + 1) n
 ends_apart k n spots = sym (append_assoc spots (End k ∷ []) (boundary_spots (k + 1) n))
 
 pub ends_read : (t : Tables) (b : Body) (k n : ℕ) (r : Reading) → AreFreeRead t b k r → AreFreeRead t b (k + n) (record r { spots = r.spots ++ boundary_spots k n })

@@ -10,8 +10,8 @@ use Rattle.in_syntax.specs.declared.tree.SourceRule.{SourceRule}
 use Rattle.in_syntax.specs.declared.tree.SourceNet.{SourceNet}
 use Rattle.in_syntax.proofs.Public.{places_out, back_rises, term_by_arguments, terms_by_arguments}
 use Rattle.in_syntax.specs.Order.{Rises, term_places, equation_places, IsInOrder, IsRuleInOrder, head_places}
-use Rattle.in_net.specs.declared.reading.Spot.{Spot}
-use Rattle.in_net.specs.declared.reading.Spot.TheVariants.{Port, Free, End, Occurrence}
+use Rattle.in_net.specs.declared.reading.TextSpot.{TextSpot}
+use Rattle.in_net.specs.declared.reading.TextSpot.TheVariants.{Port, Free, End, Occurrence}
 use Rattle.in_net.specs.declared.reading.Reading.{Reading}
 use Rattle.in_symbols.specs.Names.{number_in}
 use Rattle.in_symbols.specs.Tables.{Tables, arity_of}
@@ -23,17 +23,17 @@ use Rattle.std.proofs.lemmas.Bool.{cases_eq, cases_lt}
 use Rattle.in_base.proofs.Each.{all_left, all_right, all_append}
 
 -- the place of a name, at the spot of its occurrence or of its agent's principal port
-abbrev pub root_place : Spot → List Place
+abbrev pub root_place : TextSpot → List Place
 root_place (Port a zero p) = p ∷ []
 root_place (Port a (suc i) p) = []
 root_place (Free k m) = []
 root_place (End k) = []
 root_place (Occurrence m p) = p ∷ []
 
-abbrev pub root_places : List Spot → List Place
+abbrev pub root_places : List TextSpot → List Place
 root_places = flat_map root_place
 
-roots_append : (xs ys : List Spot) → root_places (xs ++ ys) ≡ root_places xs ++ root_places ys
+roots_append : (xs ys : List TextSpot) → root_places (xs ++ ys) ≡ root_places xs ++ root_places ys
 roots_append [] ys = refl
 roots_append (x ∷ xs) ys = ap (λ z. root_place x ++ z) (roots_append xs ys) ∙ sym (append_assoc (root_place x) (root_places xs) (root_places ys))
 
@@ -184,14 +184,14 @@ rule_order r order =
 
 -- ---- and so two names have different places
 
-later_place : (P : Place → Type 0) (spots : List Spot) (j : ℕ) (q : Place) → AllByRecursion P (root_places spots) → j < length spots → root_place (nth_spot spots j) ≡ q ∷ [] → P q
+later_place : (P : Place → Type 0) (spots : List TextSpot) (j : ℕ) (q : Place) → AllByRecursion P (root_places spots) → j < length spots → root_place (nth_spot spots j) ≡ q ∷ [] → P q
 later_place P [] j q all lt is = absurd (omega (arith, lt))
 later_place P (s ∷ spots) zero q all lt is =
     let here : AllByRecursion P (root_place s) = all_left P (root_place s) (root_places spots) all in
     (subst (AllByRecursion P) is here).0
 later_place P (s ∷ spots) (suc j) q all lt is = later_place P spots j q (all_right P (root_place s) (root_places spots) all) (omega (arith, lt)) is
 
-pub place_before : (spots : List Spot) (i j : ℕ) (p q : Place) → Rises (root_places spots) → i < j → j < length spots → root_place (nth_spot spots i) ≡ p ∷ [] → root_place (nth_spot spots j) ≡ q ∷ [] → p.from < q.from
+pub place_before : (spots : List TextSpot) (i j : ℕ) (p q : Place) → Rises (root_places spots) → i < j → j < length spots → root_place (nth_spot spots i) ≡ p ∷ [] → root_place (nth_spot spots j) ≡ q ∷ [] → p.from < q.from
 place_before [] i j p q up lt in_ is at = absurd (omega (arith, in_))
 place_before (s ∷ spots) zero zero p q up lt in_ is at = absurd (omega (arith, lt))
 place_before (s ∷ spots) zero (suc j) p q up lt in_ is at =
@@ -200,11 +200,11 @@ place_before (s ∷ spots) zero (suc j) p q up lt in_ is at =
 place_before (s ∷ spots) (suc i) zero p q up lt in_ is at = absurd (omega (arith, lt))
 place_before (s ∷ spots) (suc i) (suc j) p q up lt in_ is at = place_before spots i j p q (back_rises (root_place s) (root_places spots) up) (omega (arith, lt)) (omega (arith, in_)) is at
 
-pub root_before : (spots : List Spot) (i j m n : ℕ) (p q : Place) → Rises (root_places spots) → i < j → j < length spots → nth_spot spots i ≡ Occurrence m p → nth_spot spots j ≡ Occurrence n q → p.from < q.from
+pub root_before : (spots : List TextSpot) (i j m n : ℕ) (p q : Place) → Rises (root_places spots) → i < j → j < length spots → nth_spot spots i ≡ Occurrence m p → nth_spot spots j ≡ Occurrence n q → p.from < q.from
 root_before spots i j m n p q up lt in_ is at = place_before spots i j p q up lt in_ (ap root_place is) (ap root_place at)
 
 -- one place, one spot
-pub same_root : (spots : List Spot) (i j : ℕ) (p : Place) → Rises (root_places spots) → i < length spots → j < length spots → root_place (nth_spot spots i) ≡ p ∷ [] → root_place (nth_spot spots j) ≡ p ∷ [] → i ≡ j
+pub same_root : (spots : List TextSpot) (i j : ℕ) (p : Place) → Rises (root_places spots) → i < length spots → j < length spots → root_place (nth_spot spots i) ≡ p ∷ [] → root_place (nth_spot spots j) ≡ p ∷ [] → i ≡ j
 same_root spots i j p up i_in j_in is at = by_order (cases_eq i j) (cases_lt i j)
   where
     by_order : (i ≡ j) ⊎ (i ≢ j) → (i < j) ⊎ (j ≤ i) → i ≡ j

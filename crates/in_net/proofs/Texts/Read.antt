@@ -8,8 +8,8 @@ use Rattle.in_syntax.specs.declared.places.Place.{Place}
 use Rattle.in_syntax.specs.declared.tree.Term.{Term, out-Term}
 use Rattle.in_syntax.specs.declared.tree.SourceFree.{SourceFree}
 use Rattle.in_symbols.specs.declared.symbols.SymbolNo.{SymbolNo}
-use Rattle.in_net.specs.declared.reading.Spot.{Spot}
-use Rattle.in_net.specs.declared.reading.Spot.TheVariants.{Port, Free, End, Occurrence}
+use Rattle.in_net.specs.declared.reading.TextSpot.{TextSpot}
+use Rattle.in_net.specs.declared.reading.TextSpot.TheVariants.{Port, Free, End, Occurrence}
 use Rattle.in_net.specs.declared.reading.Agent.{Agent}
 use Rattle.in_net.specs.declared.reading.Reading.{Reading}
 use Rattle.in_symbols.specs.Names.{number_in, name_in}
@@ -43,7 +43,7 @@ pub record IsFreeAt (b : Body) (names : List (List ℕ)) (k m : ℕ) : Type 0 wh
   pub inside : m < length names
 
 -- the names of the spots, in the text
-abbrev pub IsNamed : Tables → Body → List (List ℕ) → Spot → Type 0
+abbrev pub IsNamed : Tables → Body → List (List ℕ) → TextSpot → Type 0
 IsNamed t b names (Port a i p) = Unit {0}
 IsNamed t b names (Free k m) = IsFreeAt b names k m
 IsNamed t b names (End k) = Unit {0}
@@ -82,7 +82,7 @@ grows_by names name None is = (name ∷ [], ap (λ (o : Option ℕ). cond (is_so
 grows_by names name (Some n) is = ([], ap (λ (o : Option ℕ). cond (is_some o) names (names ++ name ∷ [])) is ∙ sym (append-nil names))
 
 -- names that are added leave those before them
-pub still_named : (t : Tables) (b : Body) (names more : List (List ℕ)) (s : Spot) → IsNamed t b names s → IsNamed t b (names ++ more) s
+pub still_named : (t : Tables) (b : Body) (names more : List (List ℕ)) (s : TextSpot) → IsNamed t b names s → IsNamed t b (names ++ more) s
 still_named t b names more (Port a i p) h = tt
 still_named t b names more (End k) h = tt
 still_named t b names more (Free k m) h = record {
@@ -100,18 +100,18 @@ still_named t b names more (Occurrence m p) h = record {
   inside = omega (arith, h.inside, length-append names more);
 }
 
-pub all_still_named : (t : Tables) (b : Body) (names : List (List ℕ)) (name : List ℕ) (spots : List Spot) → AllByRecursion (IsNamed t b names) spots → AllByRecursion (IsNamed t b (with_name names name)) spots
+pub all_still_named : (t : Tables) (b : Body) (names : List (List ℕ)) (name : List ℕ) (spots : List TextSpot) → AllByRecursion (IsNamed t b names) spots → AllByRecursion (IsNamed t b (with_name names name)) spots
 all_still_named t b names name spots all =
     let grown = grows_by names name (number_in name names) refl in
     all_map _ _ (λ s h. subst (λ z. IsNamed t b z s) (sym grown.1) (still_named t b names grown.0 s h)) spots all
 
-pub name_inside : (t : Tables) (b : Body) (names : List (List ℕ)) (s : Spot) → IsNamed t b names s → IsNameInside (length names) s
+pub name_inside : (t : Tables) (b : Body) (names : List (List ℕ)) (s : TextSpot) → IsNamed t b names s → IsNameInside (length names) s
 name_inside t b names (Port a i p) h = tt
 name_inside t b names (End k) h = tt
 name_inside t b names (Free k m) h = h.inside
 name_inside t b names (Occurrence m p) h = h.inside
 
-pub name_known : (t : Tables) (b : Body) (names : List (List ℕ)) (s : Spot) (m : ℕ) → IsNamed t b names s → counting.name_of s ≡ Some m → m < length names
+pub name_known : (t : Tables) (b : Body) (names : List (List ℕ)) (s : TextSpot) (m : ℕ) → IsNamed t b names s → counting.name_of s ≡ Some m → m < length names
 name_known t b names (Port a i p) m h e = cc
 name_known t b names (End k) m h e = cc
 name_known t b names (Free k n) m h e = let same : n ≡ m = cc in omega (arith, same, h.inside)
@@ -136,7 +136,7 @@ module _ (t : Tables) (free : ℕ) (r : Reading) (numbered : IsNumbered t free r
   abbrev arity : ℕ
   arity = arity_of t s.0
 
-  abbrev ports : List Spot
+  abbrev ports : List TextSpot
   ports = ports_from (length r.agents) place 0 (arity_of t s.0 + 1)
 
   abbrev then_ : Reading
@@ -259,16 +259,16 @@ with_agent_read t b free names r s place read known few =
 
 -- ---- one spot that is no agent's: the occurrence of a name, or a free end
 
-before_it : (spots : List Spot) (s : Spot) (k : ℕ) → k < length spots → nth_spot (spots ++ s ∷ []) k ≡ nth_spot spots k
+before_it : (spots : List TextSpot) (s : TextSpot) (k : ℕ) → k < length spots → nth_spot (spots ++ s ∷ []) k ≡ nth_spot spots k
 before_it spots s k lt = at_front spots (s ∷ []) k no_spot lt
 
-is_it : (spots : List Spot) (s : Spot) (k j : ℕ) → k < length (spots ++ s ∷ []) → k ≡ length spots + j → nth_spot (spots ++ s ∷ []) k ≡ s
+is_it : (spots : List TextSpot) (s : TextSpot) (k j : ℕ) → k < length (spots ++ s ∷ []) → k ≡ length spots + j → nth_spot (spots ++ s ∷ []) k ≡ s
 is_it spots s k j lt e =
     let none : j ≡ 0 = omega (arith, lt, e, length-append spots (s ∷ [])) in
     ap (nth_spot (spots ++ s ∷ [])) (e ∙ ap (λ i. length spots + i) none) ∙ at_back spots (s ∷ []) 0 no_spot
 
 -- a spot that isn't a port or a free end keeps the numbering, and so does the next free end
-module _ (t : Tables) (free : ℕ) (r : Reading) (numbered : IsNumbered t free r) (s : Spot) (names : List (List ℕ)) where
+module _ (t : Tables) (free : ℕ) (r : Reading) (numbered : IsNumbered t free r) (s : TextSpot) (names : List (List ℕ)) where
   abbrev and_one : Reading
   and_one = record r { spots = r.spots ++ s ∷ []; names = names }
 
@@ -297,7 +297,7 @@ module _ (t : Tables) (free : ℕ) (r : Reading) (numbered : IsNumbered t free r
 pub with_occurrence_read : (t : Tables) (b : Body) (free names : ℕ) (r : Reading) (u : Term) → IsTermOf b u → IsVariable t u → IsRead t b free names r → IsRead t b free (names + 1) (with_occurrence r (out-Term u).name)
 with_occurrence_read t b free names r u there variable read =
     let name : List ℕ = (out-Term u).name.text in
-    let spot : Spot = Occurrence (number_with r.names name) (out-Term u).name.place in
+    let spot : TextSpot = Occurrence (number_with r.names name) (out-Term u).name.place in
     let count : length (r.spots ++ Occurrence (number_with r.names (out-Term u).name.text) (out-Term u).name.place ∷ []) ≡ length r.spots + 1 = length-append r.spots (spot ∷ []) in
     let at = name_there r.names name (number_in name r.names) refl in
     record {
@@ -342,17 +342,17 @@ more_names t b free names most r le read = record {
 
 -- where only ends are read so far, the next one is added
 module _ (t : Tables) (b : Body) (k : ℕ) (r : Reading) (count : length r.spots ≡ k) (no_agents : r.agents ≡ []) (no_joints : r.joints ≡ []) (read : IsRead t b k 0 r)
-    (s : Spot) (is_end : IsEnd s k) (names : List (List ℕ)) (all : AllByRecursion (IsNamed t b names) r.spots) (named_end : IsNamed t b names s) where
+    (s : TextSpot) (is_end : IsEnd s k) (names : List (List ℕ)) (all : AllByRecursion (IsNamed t b names) r.spots) (named_end : IsNamed t b names s) where
   abbrev and_end : Reading
   and_end = record r { spots = r.spots ++ s ∷ []; names = names }
 
   grown : length (r.spots ++ s ∷ []) ≡ length r.spots + 1
   grown = length-append r.spots (s ∷ [])
 
-  end_no_port : (u : Spot) (a i j : ℕ) (p : Place) → IsEnd u j → u ≢ Port a i p
+  end_no_port : (u : TextSpot) (a i j : ℕ) (p : Place) → IsEnd u j → u ≢ Port a i p
   end_no_port u a i j p h e = subst (λ u. IsEnd u j) e h
 
-  one_number : (u : Spot) (i j : ℕ) → IsEnd u i → IsEnd u j → i ≡ j
+  one_number : (u : TextSpot) (i j : ℕ) → IsEnd u i → IsEnd u j → i ≡ j
   one_number (Port a x p) i j h g = absurd h
   one_number (Free x m) i j h g = sym h ∙ g
   one_number (End x) i j h g = sym h ∙ g

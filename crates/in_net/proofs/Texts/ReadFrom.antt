@@ -3,8 +3,8 @@ use Rattle.std.proofs.Common.{◌≡◌, ℕ, suc, ◌+◌, ◌<◌, ◌≤◌, 
 use Rattle.std.specs.List.{AllByRecursion}
 use Rattle.in_syntax.specs.Grammar.{max_free}
 use Rattle.in_symbols.specs.Tables.{Tables, arity_of}
-use Rattle.in_net.specs.declared.reading.Spot.{Spot}
-use Rattle.in_net.specs.declared.reading.Spot.TheVariants.{Port, Free, End, Occurrence}
+use Rattle.in_net.specs.declared.reading.TextSpot.{TextSpot}
+use Rattle.in_net.specs.declared.reading.TextSpot.TheVariants.{Port, Free, End, Occurrence}
 use Rattle.in_net.specs.declared.reading.Reading.{Reading}
 use Rattle.in_net.specs.Joining.{JointsInside}
 use Rattle.in_net.specs.Reading.{reading_of}
@@ -37,13 +37,13 @@ module _ (t : Tables) (b : Body) (read : IsBodyRead t b (reading_of t b)) where
     λ j less. let port = read.net.read.numbered.ports i j lt (omega (arith, less)) in (port.0, subst IsPointSpot (sym port.1) tt),
   )
 
-  end_point : (s : Spot) (k : ℕ) → IsEnd s k → IsPointSpot s
+  end_point : (s : TextSpot) (k : ℕ) → IsEnd s k → IsPointSpot s
   end_point (Port a i p) k h = absurd h
   end_point (Free j m) k h = tt
   end_point (End j) k h = tt
   end_point (Occurrence m p) k h = absurd h
 
-  small_at : IsFew t b → (i : ℕ) (s : Spot) → i < length r.spots → nth_spot r.spots i ≡ s → IsSmall s
+  small_at : IsFew t b → (i : ℕ) (s : TextSpot) → i < length r.spots → nth_spot r.spots i ≡ s → IsSmall s
   small_at few i (Port a j p) lt is = let port = read.net.read.numbered.port i a j p lt is in let n = few.1 in let m = read.net.read.few_agents in let less = port.agent in omega (arith, less, m, n)
   small_at few i (Free k m) lt is = let end = read.net.read.numbered.end i k lt (subst (λ s. IsEnd s k) (sym is) refl) in let n = few.0 in let less = end.1 in omega (arith, less, n)
   small_at few i (End k) lt is = let end = read.net.read.numbered.end i k lt (subst (λ s. IsEnd s k) (sym is) refl) in let n = few.0 in let less = end.1 in omega (arith, less, n)

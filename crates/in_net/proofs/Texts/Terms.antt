@@ -8,8 +8,8 @@ use Rattle.in_syntax.specs.declared.tree.Term.{Term, out-Term}
 use Rattle.in_syntax.specs.Sizes.{total, names_in}
 use Rattle.in_symbols.specs.declared.symbols.SymbolNo.{SymbolNo}
 use Rattle.in_net.specs.declared.joining.Link.{Link}
-use Rattle.in_net.specs.declared.reading.Spot.{Spot}
-use Rattle.in_net.specs.declared.reading.Spot.TheVariants.{Port, Occurrence}
+use Rattle.in_net.specs.declared.reading.TextSpot.{TextSpot}
+use Rattle.in_net.specs.declared.reading.TextSpot.TheVariants.{Port, Occurrence}
 use Rattle.in_net.specs.declared.reading.Reading.{Reading}
 use Rattle.in_symbols.specs.Names.{number_in}
 use Rattle.in_symbols.specs.Tables.{Tables, arity_of, all_true, heads_known}
@@ -41,7 +41,7 @@ held_stays t u r q keeps h = record { arguments = λ v w i part symbol is. keeps
 -- what reading a term does
 pub record IsReadOn (t : Tables) (b : Body) (free count : ℕ) (u : Term) (before after : Reading) (root : ℕ) : Type 0 where
   pub read : IsRead t b free count after
-  pub more : List Spot
+  pub more : List TextSpot
   pub spots : after.spots ≡ before.spots ++ more
   pub root_is : root ≡ length before.spots
   pub there : root < length after.spots
@@ -63,7 +63,7 @@ pub record IsPast (first arity port : ℕ) (q : Reading) : Type 0 where
 -- what reading the rest of the arguments does
 pub record AreReadOn (t : Tables) (b : Body) (free count first port : ℕ) (u : Term) (args : List Term) (before after : Reading) : Type 0 where
   pub read : IsRead t b free count after
-  pub more : List Spot
+  pub more : List TextSpot
   pub spots : after.spots ≡ before.spots ++ more
   pub links : (i : ℕ) → i < first → nth_link (links_of after) i ≡ nth_link (links_of before) i
   pub root : (nth_link (links_of after) first).to ≡ first
@@ -270,7 +270,7 @@ reads_term : (t : Tables) (b : Body) (free : ℕ) → HaveFewPorts t → (u : Te
     (o : Option ℕ) → number_in (out-Term u).name.text t.names ≡ o → IsReadOn t b free (count + names_in u) u r ((reader_of t u).reads r).0 ((reader_of t u).reads r).1
 reads_term t b free small u each count r fits heads terms read None is =
     let out = names_out u in
-    let spot : Spot = Occurrence (number_with r.names (out-Term u).name.text) (out-Term u).name.place in
+    let spot : TextSpot = Occurrence (number_with r.names (out-Term u).name.text) (out-Term u).name.place in
     let grown = length-append r.spots (spot ∷ []) in
     let stands : spot_by (number_in (name_of u) t.names) (place_of u) ≡ text.occurrence (place_of u) = ap (λ o. spot_by o (place_of u)) is in
     let zero_on : length r.spots ≡ length r.spots + 0 = omega arith in
@@ -319,7 +319,7 @@ reads_term t b free small u each count r fits heads terms read (Some s) is =
     let out = names_out u in
     let known = position-Some (bytes_eq (out-Term u).name.text) t.names s [] is in
     let fit = fits_agent t u symbol is fits in
-    let more : List Spot = ports_from (length r.agents) (out-Term u).name.place 0 (arity_of t s + 1) in
+    let more : List TextSpot = ports_from (length r.agents) (out-Term u).name.place 0 (arity_of t s + 1) in
     let begun : Reading = with_agent r symbol (arity_of t s) (out-Term u).name.place in
     let grown = wider_agent t free r read.numbered symbol place in
     let ready = with_agent_read t b free count r symbol place read known.0 (small s) in

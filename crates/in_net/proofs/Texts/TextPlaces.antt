@@ -44,13 +44,13 @@ argument_of b u v (in_left e among part) h = in_left e among (part_on v u e.left
 argument_of b u v (in_right e among part) h = in_right e among (part_on v u e.right (deeper v v u h (itself v)) part)
 argument_of b u v (in_head g w among inside part) h = in_head g w among inside (part_on v u w (deeper v v u h (itself v)) part)
 
-pub joint_place : (t : Tables) (b : Body) (x y : text.Spot) (p : Place) → PlacedJoint t b x y p → IsAmong p (text_places b)
+pub joint_place : (t : Tables) (b : Body) (x y : text.TextSpot) (p : Place) → PlacedJoint t b x y p → IsAmong p (text_places b)
 joint_place t b _ _ _ (of_equation e among) = equation_place b e e.tilde among (among_right e.tilde (term_places e.left) (e.tilde ∷ term_places e.right) (inl refl))
 joint_place t b _ _ _ (of_argument u v i there symbol is) = term_place b v (argument_of b u v there (among_at (out-Term u).args i v is))
 joint_place t b _ _ _ (of_head h v i among is) = term_place b v (in_head h v among (among_at h.head.terms i v is) (itself v))
 joint_place t b _ _ _ (turned x y p joint) = joint_place t b x y p joint
 
-pub chain_place : (t : Tables) (b : Body) (k l : Kind) (x y : text.Spot) (ps : List Place) (p : Place) → Chain t b k l x y ps → IsAmong p ps → IsAmong p (text_places b)
+pub chain_place : (t : Tables) (b : Body) (k l : Kind) (x y : text.TextSpot) (ps : List Place) (p : Place) → Chain t b k l x y ps → IsAmong p ps → IsAmong p (text_places b)
 chain_place t b _ _ _ _ _ p (one_placed x y q joint) (inl e) = subst (λ p. IsAmong p (text_places b)) e (joint_place t b x y q joint)
 chain_place t b _ _ _ _ _ p (one_placed x y q joint) (inr h) = absurd h
 chain_place t b _ _ _ _ _ p (one_name x y joint) h = absurd h

@@ -4,7 +4,7 @@ use Rattle.std.proofs.lemmas.List.{map-append}
 use Rattle.std.specs.List.{AllByRecursion}
 use Rattle.in_syntax.specs.declared.tree.SourceFree.{SourceFree}
 use Rattle.in_symbols.specs.Tables.{Tables, arity_of, port_at}
-use Rattle.in_net.specs.declared.reading.Spot.{Spot}
+use Rattle.in_net.specs.declared.reading.TextSpot.{TextSpot}
 use Rattle.in_net.specs.declared.joining.Link.{Link}
 use Rattle.in_net.specs.declared.nets.FreeEnd.{FreeEnd}
 use Rattle.in_net.specs.declared.nets.Point.{Point}
@@ -16,7 +16,7 @@ use Rattle.in_base.proofs.Each.{all_append}
 end_of : FreeEnd → Point
 end_of f = f.end
 
-module _ (t : Tables) (spots : List Spot) (links : List Link) where
+module _ (t : Tables) (spots : List TextSpot) (links : List Link) where
   pub length-free : (k : ℕ) (fs : List SourceFree) → length (free_ends_from t spots links k fs) ≡ length fs
   length-free k [] = refl
   length-free k (f ∷ fs) = ap suc (length-free (k + 1) fs)

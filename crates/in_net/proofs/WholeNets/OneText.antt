@@ -22,7 +22,7 @@ use Rattle.in_syntax.specs.Sizes.{IsSized, names_in}
 use Rattle.in_symbols.specs.Names.{number_in}
 use Rattle.in_symbols.specs.Tables.{Tables, Tabulates}
 use Rattle.in_net.specs.declared.reading.Agent.{Agent}
-use Rattle.in_net.specs.declared.reading.Spot.TheVariants as spot
+use Rattle.in_net.specs.declared.reading.TextSpot.TheVariants as spot
 use Rattle.in_syntax.specs.Answers.{IsOne}
 use Rattle.in_net.specs.Built.{Builds}
 use Rattle.in_net.specs.Building.{nth_agent, nth_spot}

@@ -11,8 +11,8 @@ use Rattle.in_net.specs.declared.joining.Link.{Link}
 use Rattle.in_net.specs.declared.counting.Seen.{Seen}
 use Rattle.in_net.specs.declared.counting.Seen.TheVariants.{Never, Once, Twice, Often}
 use Rattle.in_net.specs.declared.nets.Wire.{Wire}
-use Rattle.in_net.specs.declared.reading.Spot.{Spot}
-use Rattle.in_net.specs.declared.reading.Spot.TheVariants.{Free, Occurrence}
+use Rattle.in_net.specs.declared.reading.TextSpot.{TextSpot}
+use Rattle.in_net.specs.declared.reading.TextSpot.TheVariants.{Free, Occurrence}
 use Rattle.in_net.specs.Building.{AreTwice, nth_link, nth_spot}
 use Rattle.in_net.specs.Counting as counting
 use Rattle.in_net.specs.Counting.{counted_from}
@@ -135,7 +135,7 @@ module _ (n a b : ℕ) (links new : List Link) (closed : Option Place) (a_in : a
 
 -- ---- all names are joined
 
-module _ (t : Tables) (b : Body) (names : List (List ℕ)) (spots : List Spot) (of : AreOfText t b names spots) where
+module _ (t : Tables) (b : Body) (names : List (List ℕ)) (spots : List TextSpot) (of : AreOfText t b names spots) where
   -- the second spot of a name
   merged_apart : (at m a : ℕ) (j : Joining) (h : IsJoiningAt t b spots (length names) at j) (at_in : at < length spots) (name : counting.name_of (nth_spot spots at) ≡ Some m) (seen_is : nth_seen j.seen m ≡ Once a)
       (only : (i : ℕ) → at < i → i < length spots → counting.name_of (nth_spot spots i) ≢ Some m) → AreApart (length spots) j.links → AreApart (length spots) (merged j.links a at).0
@@ -174,7 +174,7 @@ module _ (t : Tables) (b : Body) (names : List (List ℕ)) (spots : List Spot) (
   step_by at (Some m) j h at_in last is apart = named_apart at m (nth_seen j.seen m) j h at_in last is refl apart
 
   -- all spots from one on
-  pub all_apart : (at : ℕ) (ss : List Spot) (j : Joining) → at + length ss ≡ length spots → ((i : ℕ) → i < length ss → nth_spot ss i ≡ nth_spot spots (at + i)) → AreTwice spots (counted_from at ss j.seen) →
+  pub all_apart : (at : ℕ) (ss : List TextSpot) (j : Joining) → at + length ss ≡ length spots → ((i : ℕ) → i < length ss → nth_spot ss i ≡ nth_spot spots (at + i)) → AreTwice spots (counted_from at ss j.seen) →
       IsJoiningAt t b spots (length names) at j → AreApart (length spots) j.links → AreApart (length spots) (joins_from at ss j).links
   all_apart at [] j count same twice h apart = apart
   all_apart at (s ∷ ss) j count same twice h apart =

@@ -3,8 +3,8 @@ use Rattle.std.proofs.Common.{◌≡◌, ◌≢◌, ◌⊎◌, inl, inr, ℕ, ze
 use Rattle.std.proofs.lemmas.Option.{slice_get-map, same_Some}
 use Rattle.in_syntax.specs.declared.places.Place.{Place}
 use Rattle.in_symbols.specs.Tables.{Tables, arity_of}
-use Rattle.in_net.specs.declared.reading.Spot.{Spot}
-use Rattle.in_net.specs.declared.reading.Spot.TheVariants as spot
+use Rattle.in_net.specs.declared.reading.TextSpot.{TextSpot}
+use Rattle.in_net.specs.declared.reading.TextSpot.TheVariants as spot
 use Rattle.in_net.specs.declared.reading.Agent.{Agent}
 use Rattle.in_net.specs.declared.reading.Reading.{Reading}
 use Rattle.in_net.specs.declared.joining.Link.{Link}
@@ -19,18 +19,18 @@ use Rattle.in_net.specs.Built.{IsEnd, IsNumbered, AreJoinedTo}
 use Rattle.in_net.specs.Parts.{Parts, as_built, cell_in, partner_in}
 
 -- the point is at the spot of that number
-pub record Stands (spots : List Spot) (p : Point) (k : ℕ) : Type 0 where
+pub record Stands (spots : List TextSpot) (p : Point) (k : ℕ) : Type 0 where
   pub inside : k < length spots
   pub point : IsPointSpot (nth_spot spots k)
   pub is : point_in (nth_spot spots k) ≡ p
 
-is_point_or_not : (s : Spot) → IsPointSpot s ⊎ (IsPointSpot s → ⊥)
+is_point_or_not : (s : TextSpot) → IsPointSpot s ⊎ (IsPointSpot s → ⊥)
 is_point_or_not (spot.Port a i p) = inl tt
 is_point_or_not (spot.Free k m) = inl tt
 is_point_or_not (spot.End k) = inl tt
 is_point_or_not (spot.Occurrence m p) = inr (λ x. x)
 
-module _ (spots : List Spot) (links : List Link) (joined : IsJoined spots links) where
+module _ (spots : List TextSpot) (links : List Link) (joined : IsJoined spots links) where
   -- a point is joined to a point
   pub point_to : (i : ℕ) → i < length spots → IsPointSpot (nth_spot spots i) → IsPointSpot (nth_spot spots (nth_link links i).to)
   point_to i lt h = either (is_point_or_not (nth_spot spots (nth_link links i).to))
@@ -56,27 +56,27 @@ module _ (spots : List Spot) (links : List Link) (joined : IsJoined spots links)
       either (inl x) = x
       either (inr x) = absurd (apart (joined.alone i lt x))
 
-nth_end : (spots : List Spot) (links : List Link) (first n i : ℕ) → i < n → slice_get (ends_from spots links first n) i ≡ Some (partner_of spots links (first + i))
+nth_end : (spots : List TextSpot) (links : List Link) (first n i : ℕ) → i < n → slice_get (ends_from spots links first n) i ≡ Some (partner_of spots links (first + i))
 nth_end spots links first zero i lt = absurd (omega (arith, lt))
 nth_end spots links first (suc n) zero lt = let e : first ≡ first + 0 = omega arith in ap (λ k. Some (partner_of spots links k)) e
 nth_end spots links first (suc n) (suc i) lt = let e : first + 1 + i ≡ first + suc i = omega arith in nth_end spots links (first + 1) n i (omega (arith, lt)) ∙ ap (λ k. Some (partner_of spots links k)) e
 
-no_end : (spots : List Spot) (links : List Link) (first n i : ℕ) (q : Point) → slice_get (ends_from spots links first n) i ≡ Some q → i < n
+no_end : (spots : List TextSpot) (links : List Link) (first n i : ℕ) (q : Point) → slice_get (ends_from spots links first n) i ≡ Some q → i < n
 no_end spots links first zero i q e = cc
 no_end spots links first (suc n) zero q e = omega arith
 no_end spots links first (suc n) (suc i) q e = let less = no_end spots links (first + 1) n i q e in omega (arith, less)
 
-nth_cell : (t : Tables) (spots : List Spot) (links : List Link) (agents : List Agent) (a : ℕ) → a < length agents → slice_get (cells_of t spots links agents) a ≡ Some (Some (cell_of t spots links (nth_agent agents a)))
+nth_cell : (t : Tables) (spots : List TextSpot) (links : List Link) (agents : List Agent) (a : ℕ) → a < length agents → slice_get (cells_of t spots links agents) a ≡ Some (Some (cell_of t spots links (nth_agent agents a)))
 nth_cell t spots links [] a lt = absurd (omega (arith, lt))
 nth_cell t spots links (x ∷ agents) zero lt = refl
 nth_cell t spots links (x ∷ agents) (suc a) lt = nth_cell t spots links agents a (omega (arith, lt))
 
-no_cell : (t : Tables) (spots : List Spot) (links : List Link) (agents : List Agent) (a : ℕ) (c : Cell) → option_and_then (λ c. c) (slice_get (cells_of t spots links agents) a) ≡ Some c → a < length agents
+no_cell : (t : Tables) (spots : List TextSpot) (links : List Link) (agents : List Agent) (a : ℕ) (c : Cell) → option_and_then (λ c. c) (slice_get (cells_of t spots links agents) a) ≡ Some c → a < length agents
 no_cell t spots links [] a c e = cc
 no_cell t spots links (x ∷ agents) zero c e = omega arith
 no_cell t spots links (x ∷ agents) (suc a) c e = let less = no_cell t spots links agents a c e in omega (arith, less)
 
-nth_free : (spots : List Spot) (links : List Link) (free : List FreeEnd) → AreJoinedTo spots links free → (k : ℕ) → k < length free → option_map (λ (f : FreeEnd). f.end) (slice_get free k) ≡ Some (partner_of spots links k)
+nth_free : (spots : List TextSpot) (links : List Link) (free : List FreeEnd) → AreJoinedTo spots links free → (k : ℕ) → k < length free → option_map (λ (f : FreeEnd). f.end) (slice_get free k) ≡ Some (partner_of spots links k)
 nth_free spots links free same k lt =
     let zero_on : 0 + k ≡ k = omega arith in
     sym (slice_get-map (λ (f : FreeEnd). f.end) free k) ∙ ap (λ z. slice_get z k) same ∙ nth_end spots links 0 (length free) k lt ∙ ap (λ k. Some (partner_of spots links k)) zero_on
@@ -104,7 +104,7 @@ module _ (t : Tables) (free : List FreeEnd) (r : Reading) (links : List Link) (n
       one_end : (a c : ℕ) → IsEnd (nth_spot r.spots k) a → IsEnd (nth_spot r.spots l) c → a ≡ c → k ≡ l
       one_end a c x y same = let one = numbered.end k a h.inside x in let other = numbered.end l c g.inside y in omega (arith, one.0, other.0, same)
 
-      by_spots : (s u : Spot) → nth_spot r.spots k ≡ s → nth_spot r.spots l ≡ u → IsPointSpot s → IsPointSpot u → point_in s ≡ point_in u → k ≡ l
+      by_spots : (s u : TextSpot) → nth_spot r.spots k ≡ s → nth_spot r.spots l ≡ u → IsPointSpot s → IsPointSpot u → point_in s ≡ point_in u → k ≡ l
       by_spots (spot.Port a i x) (spot.Port c j y) e f m n same =
           let one = numbered.port k a i x h.inside e in
           let other = numbered.port l c j y g.inside f in
@@ -132,7 +132,7 @@ module _ (t : Tables) (free : List FreeEnd) (r : Reading) (links : List Link) (n
       at_end : (j : ℕ) → IsEnd (nth_spot r.spots k) j → partner_in net (Free j) ≡ Some (partner_of r.spots links k)
       at_end j e = let end = numbered.end k j h.inside e in nth_free r.spots links free ends j end.1 ∙ ap (λ z. Some (partner_of r.spots links z)) end.0
 
-      by_spot : (s : Spot) → nth_spot r.spots k ≡ s → IsPointSpot s → partner_in net (point_in s) ≡ Some (partner_of r.spots links k)
+      by_spot : (s : TextSpot) → nth_spot r.spots k ≡ s → IsPointSpot s → partner_in net (point_in s) ≡ Some (partner_of r.spots links k)
       by_spot (spot.Port a i x) e m =
           let port = numbered.port k a i x h.inside e in
           ap (option_and_then {T = Cell} {U = Point} (λ c. slice_get c.ends i)) (cell_here a port.agent)
@@ -162,7 +162,7 @@ module _ (t : Tables) (free : List FreeEnd) (r : Reading) (links : List Link) (n
       let stands : Stands r.spots (Free k) k = by_end k (nth_spot r.spots k) end.0 refl end.1 in
       (k, stands, same_Some q (partner_of r.spots links k) (sym e ∙ partner_at (Free k) k stands))
     where
-      by_end : (k : ℕ) (s : Spot) → k < length r.spots → nth_spot r.spots k ≡ s → IsEnd s k → Stands r.spots (Free k) k
+      by_end : (k : ℕ) (s : TextSpot) → k < length r.spots → nth_spot r.spots k ≡ s → IsEnd s k → Stands r.spots (Free k) k
       by_end k (spot.Port a i p) lt is h = absurd h
       by_end k (spot.Free j m) lt is h = record { inside = lt; point = subst IsPointSpot (sym is) tt; is = ap point_in is ∙ ap Free h }
       by_end k (spot.End j) lt is h = record { inside = lt; point = subst IsPointSpot (sym is) tt; is = ap point_in is ∙ ap Free h }

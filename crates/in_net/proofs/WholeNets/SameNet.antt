@@ -16,14 +16,14 @@ use Rattle.in_net.specs.declared.nets.Point.{Point}
 use Rattle.in_net.specs.declared.nets.Point.TheVariants.{Port, Free}
 use Rattle.in_net.specs.Parts.{Parts, IsWhole, IsPointOf, IsWireBetween, cell_in, partner_in, wire_in}
 use Rattle.in_net.specs.Rules.{IsRightMemberOf, body_of_rule}
-use Rattle.in_net.specs.TextNet.{Body, Spot, Written, AreCellsFor, AreFreeOf, agents_of_body, body_of, ComesBefore, HasAgentsOf, HasWiresOf, IsNetOf, IsWireOf, port_at, free_end, spot_at}
+use Rattle.in_net.specs.TextNet.{Body, TextSpot, Written, AreCellsFor, AreFreeOf, agents_of_body, body_of, ComesBefore, HasAgentsOf, HasWiresOf, IsNetOf, IsWireOf, port_at, free_end, spot_at}
 use Rattle.std.proofs.lemmas.Option.{same_Some, slice_get_within}
 use Rattle.in_net.proofs.WholeNets.WireAt.{has_partner}
 use Rattle.in_base.proofs.Each.{at_index}
 
 -- a wire of the text from a spot is one wire: it leads to one spot, and is at one place
 abbrev pub AreSingle : Tables → Body → Type 0
-AreSingle t b = (x y z : Spot) (p q : Place) → IsWireOf t b x y p → IsWireOf t b x z q → (y ≡ z) × (p ≡ q)
+AreSingle t b = (x y z : TextSpot) (p q : Place) → IsWireOf t b x y p → IsWireOf t b x z q → (y ≡ z) × (p ≡ q)
 
 -- by the order of a text its agents have different places
 abbrev pub StandApart : List Place → Type 0

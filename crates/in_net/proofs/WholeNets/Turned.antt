@@ -3,8 +3,8 @@ use Rattle.std.proofs.Common.{◌≡◌, ◌≢◌, ◌⊎◌, inl, inr, ℕ, �
 use Rattle.std.proofs.lemmas.Bool.{cases_eq, cases_lt}
 use Rattle.in_syntax.specs.declared.places.Place.{Place}
 use Rattle.in_symbols.specs.Tables.{Tables}
-use Rattle.in_net.specs.declared.reading.Spot.{Spot}
-use Rattle.in_net.specs.declared.reading.Spot.TheVariants as spot
+use Rattle.in_net.specs.declared.reading.TextSpot.{TextSpot}
+use Rattle.in_net.specs.declared.reading.TextSpot.TheVariants as spot
 use Rattle.in_net.specs.declared.reading.Reading.{Reading}
 use Rattle.in_net.specs.declared.nets.Point.{Point}
 use Rattle.in_net.specs.Building.{nth_spot, nth_agent, IsPointSpot, point_in}
@@ -55,10 +55,10 @@ module _ (t : Tables) (free : ℕ) (r : Reading) (numbered : IsNumbered t free r
   comes_before x y k l h g lt =
       subst (λ x. ComesBefore x y) h.is (subst (ComesBefore (point_in (nth_spot r.spots k))) g.is (by_spots (nth_spot r.spots k) (nth_spot r.spots l) refl refl h.point g.point))
     where
-      end_of : (s : Spot) (n a : ℕ) → nth_spot r.spots n ≡ s → IsEnd s a → IsEnd (nth_spot r.spots n) a
+      end_of : (s : TextSpot) (n a : ℕ) → nth_spot r.spots n ≡ s → IsEnd s a → IsEnd (nth_spot r.spots n) a
       end_of s n a e is = subst (λ s. IsEnd s a) (sym e) is
 
-      by_spots : (s u : Spot) → nth_spot r.spots k ≡ s → nth_spot r.spots l ≡ u → IsPointSpot s → IsPointSpot u → ComesBefore (point_in s) (point_in u)
+      by_spots : (s u : TextSpot) → nth_spot r.spots k ≡ s → nth_spot r.spots l ≡ u → IsPointSpot s → IsPointSpot u → ComesBefore (point_in s) (point_in u)
       by_spots (spot.Port a i p) (spot.Port c j q) e f m n = ports_before k l a c i j p q h.inside g.inside e f lt
       by_spots (spot.Port a i p) (spot.Free c m_) e f m n = absurd (no_port k l a i c p g.inside e (end_of (spot.Free c m_) l c f refl) lt)
       by_spots (spot.Port a i p) (spot.End c) e f m n = absurd (no_port k l a i c p g.inside e (end_of (spot.End c) l c f refl) lt)

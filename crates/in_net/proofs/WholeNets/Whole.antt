@@ -13,7 +13,7 @@ use Rattle.std.proofs.lemmas.Option.{slice_get-get_or}
 use Rattle.in_syntax.specs.declared.places.Place.{Place}
 use Rattle.in_syntax.specs.Grammar.{max_ports}
 use Rattle.in_symbols.specs.Tables.{Tables, arity_of}
-use Rattle.in_net.specs.declared.reading.Spot.{Spot}
+use Rattle.in_net.specs.declared.reading.TextSpot.{TextSpot}
 use Rattle.in_net.specs.declared.reading.Reading.{Reading}
 use Rattle.in_net.specs.declared.joining.Link.{Link}
 use Rattle.in_net.specs.declared.nets.Cell.{Cell}
@@ -33,24 +33,24 @@ use Rattle.in_base.proofs.Each.{all_append}
 -- ---- the wires that are found, one for each spot that is joined to a later one
 
 -- the wire was found at that spot
-pub record IsFoundAt (spots : List Spot) (links : List Link) (from k : ℕ) (w : Wire) : Type 0 where
+pub record IsFoundAt (spots : List TextSpot) (links : List Link) (from k : ℕ) (w : Wire) : Type 0 where
   pub after : from ≤ k
   pub inside : k < length spots
   pub later : k < (nth_link links k).to
   pub is : w ≡ record { one = point_in (nth_spot spots k); other = partner_of spots links k; place = (nth_link links k).place }
 
-abbrev pub IsFound : List Spot → List Link → ℕ → Wire → Type 0
+abbrev pub IsFound : List TextSpot → List Link → ℕ → Wire → Type 0
 IsFound spots links from w = (k : ℕ) × IsFoundAt spots links from k w
 
-abbrev pub found_wire : List Spot → List Link → ℕ → Wire
+abbrev pub found_wire : List TextSpot → List Link → ℕ → Wire
 found_wire spots links k = record { one = point_in (nth_spot spots k); other = partner_of spots links k; place = (nth_link links k).place }
 
-wire_by : (spots : List Spot) (links : List Link) (at : ℕ) (b : Bool) → nat_lt at (nth_link links at).to ≡ b → at < length spots →
+wire_by : (spots : List TextSpot) (links : List Link) (at : ℕ) (b : Bool) → nat_lt at (nth_link links at).to ≡ b → at < length spots →
     AllByRecursion (IsFound spots links at) (option_to_list (cond b (Some (found_wire spots links at)) None))
 wire_by spots links at true is lt = ((at, record { after = omega arith; inside = lt; later = ltb-true at (nth_link links at).to is; is = refl }), tt)
 wire_by spots links at false is lt = tt
 
-all_found : (spots : List Spot) (links : List Link) (from n : ℕ) → from + n ≤ length spots → AllByRecursion (IsFound spots links from) (wires_from spots links from n)
+all_found : (spots : List TextSpot) (links : List Link) (from n : ℕ) → from + n ≤ length spots → AllByRecursion (IsFound spots links from) (wires_from spots links from n)
 all_found spots links from zero le = tt
 all_found spots links from (suc n) le =
     all_append (IsFound spots links from) (option_to_list (wire_of spots links from)) (wires_from spots links (from + 1) n)
@@ -141,7 +141,7 @@ module _ (t : Tables) (r : Reading) (links : List Link) (read : (p : Point) (k l
       by_test false is h = h
 
 -- a spot that is joined to a later one has its wire among those found
-found_there : (spots : List Spot) (links : List Link) (from n k : ℕ) → from ≤ k → k < from + n → k < (nth_link links k).to → Contains (wires_from spots links from n) (found_wire spots links k)
+found_there : (spots : List TextSpot) (links : List Link) (from n k : ℕ) → from ≤ k → k < from + n → k < (nth_link links k).to → Contains (wires_from spots links from n) (found_wire spots links k)
 found_there spots links from zero k le lt later = absurd (omega (arith, le, lt))
 found_there spots links from (suc n) k le lt later = by_same (cases_eq k from) (λ x. found_there spots links (from + 1) n k (omega (arith, le, x)) (omega (arith, lt)) later)
   where
@@ -156,7 +156,7 @@ found_there spots links from (suc n) k le lt later = by_same (cases_eq k from) (
         by_test false is less = absurd (let no_ = ltb-false from (nth_link links from).to is in omega (arith, no_, less))
     by_same (inr e) next = Contains-append_right (option_to_list (wire_of spots links from)) (wires_from spots links (from + 1) n) (found_wire spots links k) (next e)
 
-few_found : (spots : List Spot) (links : List Link) (from n : ℕ) → length (wires_from spots links from n) ≤ n
+few_found : (spots : List TextSpot) (links : List Link) (from n : ℕ) → length (wires_from spots links from n) ≤ n
 few_found spots links from zero = omega arith
 few_found spots links from (suc n) =
     let one : length (option_to_list (wire_of spots links from)) ≤ 1 = at_most (wire_of spots links from) in

@@ -4,8 +4,8 @@ use Rattle.std.specs.List.{AllByRecursion}
 use Rattle.in_syntax.specs.declared.places.Place.{Place}
 use Rattle.in_syntax.specs.Order.{Rises}
 use Rattle.in_symbols.specs.Tables.{Tables}
-use Rattle.in_net.specs.declared.reading.Spot.{Spot}
-use Rattle.in_net.specs.declared.reading.Spot.TheVariants.{Port, Free, End, Occurrence}
+use Rattle.in_net.specs.declared.reading.TextSpot.{TextSpot}
+use Rattle.in_net.specs.declared.reading.TextSpot.TheVariants.{Port, Free, End, Occurrence}
 use Rattle.in_net.specs.declared.reading.Reading.{Reading}
 use Rattle.in_net.specs.declared.joining.Joining.{Joining}
 use Rattle.in_net.specs.Counting as counting
@@ -27,9 +27,9 @@ use Rattle.in_net.proofs.Wiring.Single.{IsReadWhole, settled_of}
 use Rattle.in_net.proofs.Wiring.Sound.{named}
 use Rattle.in_net.proofs.Wiring.Ways.{IsMet, kind_of, IsOpen, IsJoiningAt}
 
-module _ (t : Tables) (b : Body) (names : List (List ℕ)) (spots : List Spot) (of : AreOfText t b names spots) where
+module _ (t : Tables) (b : Body) (names : List (List ℕ)) (spots : List TextSpot) (of : AreOfText t b names spots) where
   -- all spots from one on
-  outs_on : (at : ℕ) (ss : List Spot) (j : Joining) → at + length ss ≡ length spots → ((i : ℕ) → i < length ss → nth_spot ss i ≡ nth_spot spots (at + i)) → AreTwice spots (counted_from at ss j.seen) →
+  outs_on : (at : ℕ) (ss : List TextSpot) (j : Joining) → at + length ss ≡ length spots → ((i : ℕ) → i < length ss → nth_spot ss i ≡ nth_spot spots (at + i)) → AreTwice spots (counted_from at ss j.seen) →
       IsJoiningAt t b spots (length names) at j → AreOut t b spots j.seen j.closed → AreOut t b spots (joins_from at ss j).seen (joins_from at ss j).closed
   outs_on at [] j count same twice h outs = outs
   outs_on at (s ∷ ss) j count same twice h outs =
@@ -46,7 +46,7 @@ all_among p [] d all m = absurd m
 all_among p (x ∷ ps) d all (inl e) = let le = all.0 in let same = ap (λ (x : Place). x.from) e in omega (arith, le, same)
 all_among p (x ∷ ps) d all (inr m) = all_among p ps d all.1 m
 
-placed_by : (s : Spot) → IsOccurrence (named s) → kind_of s ≡ placed
+placed_by : (s : TextSpot) → IsOccurrence (named s) → kind_of s ≡ placed
 placed_by (Port a i p) h = absurd h
 placed_by (Free k m) h = absurd h
 placed_by (End k) h = absurd h
@@ -54,7 +54,7 @@ placed_by (Occurrence m p) h = refl
 
 module _ (t : Tables) (b : Body) (free count : ℕ) (r : Reading) (net : IsNetRead t b free count r) (names : AreNamesRead t b r) (differ : AreDifferent b) (up : Rises (root_places r.spots))
     (twice : AreTwice r.spots (counted_from 0 r.spots (none_seen (length r.names)))) (whole : IsReadWhole t b r) where
-  abbrev spots : List Spot
+  abbrev spots : List TextSpot
   spots = r.spots
 
   outs_at : AreOut t b spots (joining_of r).seen (joining_of r).closed
@@ -66,20 +66,20 @@ module _ (t : Tables) (b : Body) (free count : ℕ) (r : Reading) (net : IsNetRe
   is_met i m p lt is open_ = subst (IsOpen (joining_of r).seen) is open_ (all_met t b free count r net names differ up twice i m lt (ap counting.name_of is))
 
   -- the spot where a closed wire begins
-  record IsBegunAt (x : text.Spot) : Type 0 where
+  record IsBegunAt (x : text.TextSpot) : Type 0 where
     pub spot : ℕ
     pub inside : spot < length spots
     pub is : named (nth_spot spots spot) ≡ x
 
-  begun_at : (x z : text.Spot) (ps : List Place) → Chain t b placed of_name x z ps → IsBegunAt x
+  begun_at : (x z : text.TextSpot) (ps : List Place) → Chain t b placed of_name x z ps → IsBegunAt x
   begun_at x _ _ (Chain.then_name _ _ o z p ps joint occurs rest) = let s = settled_of t b r whole x o p joint in record { spot = s.spot; inside = s.inside; is = s.one }
 
   -- the wire is followed to the spot of its name that was met last, and from there round the wire that was found
-  no_later : (q : Place) (x : text.Spot) (k : ℕ) (along ps : List Place) → k < length spots → IsOccurrence x → Chain t b placed (kind_of (nth_spot spots k)) x (named (nth_spot spots k)) along → Chain t b placed of_name x x ps →
+  no_later : (q : Place) (x : text.TextSpot) (k : ℕ) (along ps : List Place) → k < length spots → IsOccurrence x → Chain t b placed (kind_of (nth_spot spots k)) x (named (nth_spot spots k)) along → Chain t b placed of_name x x ps →
       AllByRecursion (λ p. p.from ≤ q.from) ps → IsOpen (joining_of r).seen (nth_spot spots k) ⊎ IsRound t b (joining_of r).closed (named (nth_spot spots k)) → IsFoundBy (joining_of r).closed q
   no_later q x k along ps lt at chain loop all (inl open_) = absurd (no_end (nth_spot spots k) refl (follow t b r whole placed (kind_of (nth_spot spots k)) x (named (nth_spot spots k)) along ps at chain loop).occurs)
     where
-      no_end : (s : Spot) → nth_spot spots k ≡ s → IsOccurrence (named s) → ⊥
+      no_end : (s : TextSpot) → nth_spot spots k ≡ s → IsOccurrence (named s) → ⊥
       no_end (Port a i p) is h = h
       no_end (Free l m) is h = h
       no_end (End l) is h = h
@@ -99,7 +99,7 @@ module _ (t : Tables) (b : Body) (free count : ℕ) (r : Reading) (net : IsNetRe
       at : IsBegunAt wire.through
       at = begun_at wire.through wire.through wire.places wire.chain
 
-      by_spot : (s : Spot) → nth_spot spots at.spot ≡ s → IsOccurrence (named (nth_spot spots at.spot)) → IsFoundBy (joining_of r).closed q
+      by_spot : (s : TextSpot) → nth_spot spots at.spot ≡ s → IsOccurrence (named (nth_spot spots at.spot)) → IsFoundBy (joining_of r).closed q
       by_spot (Port a i p) is h = absurd (subst (λ s. IsOccurrence (named s)) is h)
       by_spot (Free l m) is h = absurd (subst (λ s. IsOccurrence (named s)) is h)
       by_spot (End l) is h = absurd (subst (λ s. IsOccurrence (named s)) is h)

@@ -5,8 +5,8 @@ use Rattle.std.proofs.lemmas.Bool.{cases_eq, cases_lt}
 use Rattle.in_syntax.specs.declared.places.Place.{Place}
 use Rattle.in_syntax.specs.Order.{Rises}
 use Rattle.in_symbols.specs.Tables.{Tables}
-use Rattle.in_net.specs.declared.reading.Spot.{Spot}
-use Rattle.in_net.specs.declared.reading.Spot.TheVariants.{Port, Free, End, Occurrence}
+use Rattle.in_net.specs.declared.reading.TextSpot.{TextSpot}
+use Rattle.in_net.specs.declared.reading.TextSpot.TheVariants.{Port, Free, End, Occurrence}
 use Rattle.in_net.specs.declared.reading.Reading.{Reading}
 use Rattle.in_net.specs.declared.joining.Link.{Link}
 use Rattle.in_net.specs.declared.joining.Joining.{Joining}
@@ -42,7 +42,7 @@ often_named seen at m (Some n) lt is = by_same (cases_eq m n)
         ap (nth_seen (set seen n (seen_again (nth_seen seen n) at))) e ∙ get_or-set_same seen n (seen_again (nth_seen seen n) at) Never (omega (arith, lt, e)) ∙ ap (λ s. seen_again s at) (ap (nth_seen seen) (sym e) ∙ is)
     by_same (inr e) = get_or-set_other seen n m (seen_again (nth_seen seen n) at) Never e ∙ is
 
-often_stays : (at : ℕ) (ss : List Spot) (seen : List Seen) (m : ℕ) → m < length seen → nth_seen seen m ≡ Often → nth_seen (counted_from at ss seen) m ≡ Often
+often_stays : (at : ℕ) (ss : List TextSpot) (seen : List Seen) (m : ℕ) → m < length seen → nth_seen seen m ≡ Often → nth_seen (counted_from at ss seen) m ≡ Often
 often_stays at [] seen m lt is = is
 often_stays at (s ∷ ss) seen m lt is =
     let count = length-counted seen at s in
@@ -73,7 +73,7 @@ is_named_or_not (Some n) m = by_same (cases_eq n m)
         some_is : Some n ≡ Some m → n ≡ m
         some_is f = cc
 
-pub third_time : (at : ℕ) (ss : List Spot) (seen : List Seen) (m i : ℕ) → m < length seen → nth_seen seen m ≡ Twice → i < length ss → counting.name_of (nth_spot ss i) ≡ Some m → nth_seen (counted_from at ss seen) m ≡ Often
+pub third_time : (at : ℕ) (ss : List TextSpot) (seen : List Seen) (m i : ℕ) → m < length seen → nth_seen seen m ≡ Twice → i < length ss → counting.name_of (nth_spot ss i) ≡ Some m → nth_seen (counted_from at ss seen) m ≡ Often
 third_time at [] seen m i lt is in_ e = absurd (omega (arith, in_))
 third_time at (s ∷ ss) seen m zero lt is in_ e =
     let count = length-counted seen at s in
@@ -85,7 +85,7 @@ third_time at (s ∷ ss) seen m (suc i) lt is in_ e = by_name (λ x. third_time 
     by_name next (inl f) = let count = length-counted seen at s in often_stays (at + 1) ss (counted seen at s) m (omega (arith, lt, count)) (once_over seen at m (counting.name_of s) lt is f)
     by_name next (inr f) = next (not_over seen at m (counting.name_of s) is f)
 
-pub length-counted_from : (at : ℕ) (ss : List Spot) (seen : List Seen) → length (counted_from at ss seen) ≡ length seen
+pub length-counted_from : (at : ℕ) (ss : List TextSpot) (seen : List Seen) → length (counted_from at ss seen) ≡ length seen
 length-counted_from at [] seen = refl
 length-counted_from at (s ∷ ss) seen = length-counted_from (at + 1) ss (counted seen at s) ∙ length-counted seen at s
 
@@ -94,12 +94,12 @@ seen_named j at None = refl
 seen_named j at (Some m) = refl
 
 -- joining counts as counting does
-pub seen_joined : (at : ℕ) (ss : List Spot) (j : Joining) → (joins_from at ss j).seen ≡ counted_from at ss j.seen
+pub seen_joined : (at : ℕ) (ss : List TextSpot) (j : Joining) → (joins_from at ss j).seen ≡ counted_from at ss j.seen
 seen_joined at [] j = refl
 seen_joined at (s ∷ ss) j = seen_joined (at + 1) ss (joins j at s) ∙ ap (counted_from (at + 1) ss) (seen_named j at (counting.name_of s))
 
-module _ (t : Tables) (b : Body) (names : List (List ℕ)) (spots : List Spot) (of : AreOfText t b names spots) where
-  pub last_here : (at : ℕ) (s : Spot) (ss : List Spot) (seen : List Seen) → length seen ≡ length names → at + length (s ∷ ss) ≡ length spots → ((i : ℕ) → i < length (s ∷ ss) → nth_spot (s ∷ ss) i ≡ nth_spot spots (at + i)) →
+module _ (t : Tables) (b : Body) (names : List (List ℕ)) (spots : List TextSpot) (of : AreOfText t b names spots) where
+  pub last_here : (at : ℕ) (s : TextSpot) (ss : List TextSpot) (seen : List Seen) → length seen ≡ length names → at + length (s ∷ ss) ≡ length spots → ((i : ℕ) → i < length (s ∷ ss) → nth_spot (s ∷ ss) i ≡ nth_spot spots (at + i)) →
       AreTwice spots (counted_from at (s ∷ ss) seen) → IsLast spots at seen
   last_here at s ss seen size count same twice m a name once i lt in_ again =
       let zero_on : at + 0 ≡ at = omega arith in
@@ -119,7 +119,7 @@ module _ (t : Tables) (b : Body) (names : List (List ℕ)) (spots : List Spot) (
       absurd (let wrong : Often ≡ Twice = sym often ∙ all in cc)
 
   -- all spots from one on
-  pub all_on : (at : ℕ) (ss : List Spot) (j : Joining) → at + length ss ≡ length spots → ((i : ℕ) → i < length ss → nth_spot ss i ≡ nth_spot spots (at + i)) → AreTwice spots (counted_from at ss j.seen) →
+  pub all_on : (at : ℕ) (ss : List TextSpot) (j : Joining) → at + length ss ≡ length spots → ((i : ℕ) → i < length ss → nth_spot ss i ≡ nth_spot spots (at + i)) → AreTwice spots (counted_from at ss j.seen) →
       IsJoiningAt t b spots (length names) at j → IsJoiningAt t b spots (length names) (length spots) (joins_from at ss j)
   all_on at [] j count same twice h = subst (λ n. IsJoiningAt t b spots (length names) n j) (let e : at ≡ length spots = omega (arith, count) in e) h
   all_on at (s ∷ ss) j count same twice h =
@@ -137,7 +137,7 @@ nth_none (suc n) zero = refl
 nth_none (suc n) (suc m) = nth_none n m
 
 module _ (t : Tables) (b : Body) (free count : ℕ) (r : Reading) (net : IsNetRead t b free count r) (names : AreNamesRead t b r) (differ : AreDifferent b) (up : Rises (root_places r.spots)) where
-  abbrev spots : List Spot
+  abbrev spots : List TextSpot
   spots = r.spots
 
   fact : (i : ℕ) → i < length spots → IsNamed t b r.names (nth_spot spots i)
@@ -167,7 +167,7 @@ module _ (t : Tables) (b : Body) (free count : ℕ) (r : Reading) (net : IsNetRe
       part (inl x) = absurd (let there = names.ends i x in other i there.1.0 there.1.1)
       part (inr x) = x
 
-  start_open : (i : ℕ) → i < length spots → (s : Spot) → nth_spot spots i ≡ s → IsOpen (none_seen (length r.names)) s → length b.free ≤ i
+  start_open : (i : ℕ) → i < length spots → (s : TextSpot) → nth_spot spots i ≡ s → IsOpen (none_seen (length r.names)) s → length b.free ≤ i
   start_open i lt (Port a j p) is o = beyond i lt (λ k m e. let wrong : Port a j p ≡ Free k m = sym is ∙ e in cc)
   start_open i lt (End j) is o = beyond i lt (λ k m e. let wrong : End j ≡ Free k m = sym is ∙ e in cc)
   start_open i lt (Free k m) is o = absurd (subst IsMet (nth_none (length r.names) m) o)
@@ -184,7 +184,7 @@ module _ (t : Tables) (b : Body) (free count : ℕ) (r : Reading) (net : IsNetRe
           absurd (omega (arith, self, back, x, from))
       part (inr x) = x
 
-  placed_kind : (i : ℕ) (s : Spot) → i < length spots → nth_spot spots i ≡ s → length b.free ≤ i → kind_of s ≡ text.placed
+  placed_kind : (i : ℕ) (s : TextSpot) → i < length spots → nth_spot spots i ≡ s → length b.free ≤ i → kind_of s ≡ text.placed
   placed_kind i (Port a j p) lt is from = refl
   placed_kind i (End k) lt is from = refl
   placed_kind i (Free k m) lt is from = absurd (let end = names.end i k m lt is in omega (arith, end.0, end.1, from))
@@ -229,13 +229,13 @@ module _ (t : Tables) (b : Body) (free count : ℕ) (r : Reading) (net : IsNetRe
         let is : nth_seen (joining_of r).seen m ≡ Twice = ap (λ z. nth_seen z m) (seen_joined 0 spots (not_named (links_of r) (length r.names))) ∙ twice i m lt e in
         subst IsMet (sym is) tt
 
-    point_open : (i : ℕ) (s : Spot) → i < length spots → nth_spot spots i ≡ s → IsPointSpot s → IsOpen (joining_of r).seen s
+    point_open : (i : ℕ) (s : TextSpot) → i < length spots → nth_spot spots i ≡ s → IsPointSpot s → IsOpen (joining_of r).seen s
     point_open i (Port a j p) lt is h = tt
     point_open i (End k) lt is h = tt
     point_open i (Free k m) lt is h = all_met i m lt (ap counting.name_of is)
     point_open i (Occurrence m p) lt is h = absurd h
 
-    no_point : (i : ℕ) (s : Spot) → i < length spots → nth_spot spots i ≡ s → (IsPointSpot s → ⊥) → (nth_link (joining_of r).links i).to ≡ i
+    no_point : (i : ℕ) (s : TextSpot) → i < length spots → nth_spot spots i ≡ s → (IsPointSpot s → ⊥) → (nth_link (joining_of r).links i).to ≡ i
     no_point i (Port a j p) lt is h = absurd (h tt)
     no_point i (Free k m) lt is h = absurd (h tt)
     no_point i (End k) lt is h = absurd (h tt)

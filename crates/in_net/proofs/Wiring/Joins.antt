@@ -5,7 +5,7 @@ use Rattle.std.specs.List.{AllByRecursion}
 use Rattle.in_syntax.specs.declared.places.Place.{Place}
 use Rattle.in_net.specs.declared.joining.Link.{Link}
 use Rattle.in_net.specs.declared.joining.Joining.{Joining}
-use Rattle.in_net.specs.declared.reading.Spot.{Spot}
+use Rattle.in_net.specs.declared.reading.TextSpot.{TextSpot}
 use Rattle.in_net.specs.declared.counting.Counting.{Counting}
 use Rattle.in_net.specs.declared.counting.Seen.{Seen}
 use Rattle.in_net.specs.declared.counting.Seen.TheVariants.{Never, Once, Twice, Often}
@@ -79,14 +79,14 @@ kept_named j at (Some m) inside name lt =
       };
     }
 
-pub kept : (j : Joining) (at : ℕ) (s : Spot) → IsJoiningInside j → IsNameInside (length j.seen) s → at < length j.links → IsStepKept j (joins j at s)
+pub kept : (j : Joining) (at : ℕ) (s : TextSpot) → IsJoiningInside j → IsNameInside (length j.seen) s → at < length j.links → IsStepKept j (joins j at s)
 kept j at s inside name lt = kept_named j at (name_of s) inside name lt
 
 length-count_name : (seen : List Seen) (at : ℕ) (o : Option ℕ) → length (count_name seen at o) ≡ length seen
 length-count_name seen at None = refl
 length-count_name seen at (Some m) = length-set seen m (seen_again (get_or seen m Never) at)
 
-pub length-counted : (seen : List Seen) (at : ℕ) (s : Spot) → length (counted seen at s) ≡ length seen
+pub length-counted : (seen : List Seen) (at : ℕ) (s : TextSpot) → length (counted seen at s) ≡ length seen
 length-counted seen at s = length-count_name seen at (name_of s)
 
 pub length-none_seen : (n : ℕ) → length (none_seen n) ≡ n
@@ -103,7 +103,7 @@ one_unseen counter names seen new all lt pushed e =
     let size : names - counter ≡ suc (names - (counter + 1)) = omega arith in
     ap (λ z. z ++ none_seen (names - (counter + 1))) pushed ∙ append_assoc seen (Never ∷ []) (none_seen (names - (counter + 1))) ∙ ap (λ z. seen ++ z) (sym (ap none_seen size)) ∙ e
 
-pub length-counts_spot : (c : Counting) (at : ℕ) (s : Spot) → length (counts_spot c at s).seen ≡ length c.seen
+pub length-counts_spot : (c : Counting) (at : ℕ) (s : TextSpot) → length (counts_spot c at s).seen ≡ length c.seen
 length-counts_spot c at s = by_name (name_of s)
   where
     by_name : (o : Option ℕ) → length (counts_named c at s o).seen ≡ length c.seen

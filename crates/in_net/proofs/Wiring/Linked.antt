@@ -5,7 +5,7 @@ use Rattle.std.proofs.lemmas.Bool.{cases_lt}
 use Rattle.in_syntax.specs.declared.places.Place.{Place}
 use Rattle.in_net.specs.declared.joining.Link.{Link}
 use Rattle.in_net.specs.declared.reading.TextJoint.{TextJoint}
-use Rattle.in_net.specs.declared.reading.Spot.{Spot}
+use Rattle.in_net.specs.declared.reading.TextSpot.{TextSpot}
 use Rattle.in_net.specs.declared.reading.Reading.{Reading}
 use Rattle.in_net.specs.Building.{nth_link}
 use Rattle.in_net.specs.Joining.{no_link, self_link, self_links, with_link, with_joints, links_of, JointsInside}
@@ -72,7 +72,7 @@ pub length-links_of : (r : Reading) → length (links_of r) ≡ length r.spots
 length-links_of r = length-with_joints (self_links 0 (length r.spots)) r.joints ∙ length-self_links 0 (length r.spots)
 
 -- spots that are added are joined to none
-pub links_more : (spots more : List Spot) (js : List TextJoint) → JointsInside (length spots) js →
+pub links_more : (spots more : List TextSpot) (js : List TextJoint) → JointsInside (length spots) js →
     with_joints (self_links 0 (length (spots ++ more))) js ≡ with_joints (self_links 0 (length spots)) js ++ self_links (length spots) (length more)
 links_more spots more js all =
     let zero_on : 0 + length spots ≡ length spots = omega arith in
@@ -88,7 +88,7 @@ pub links_joint : (r : Reading) (one port other : ℕ) (place : Place) → links
 links_joint r one port other place = joints_snoc (self_links 0 (length r.spots)) r.joints (record { one = one; port = port; other = other; place = place })
 
 -- the same for one spot
-module _ (spots more : List Spot) (js : List TextJoint) (all : JointsInside (length spots) js) where
+module _ (spots more : List TextSpot) (js : List TextJoint) (all : JointsInside (length spots) js) where
   pub stays : (i : ℕ) → i < length spots → nth_link (with_joints (self_links 0 (length (spots ++ more))) js) i ≡ nth_link (with_joints (self_links 0 (length spots)) js) i
   stays i lt =
       let count = length-with_joints (self_links 0 (length spots)) js ∙ length-self_links 0 (length spots) in

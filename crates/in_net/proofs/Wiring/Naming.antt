@@ -6,8 +6,8 @@ use Rattle.std.proofs.lemmas.Bool.{cases_eq, cases_lt}
 use Rattle.in_syntax.specs.declared.places.Place.{Place}
 use Rattle.in_syntax.specs.Refusals.{earlier}
 use Rattle.in_symbols.specs.Tables.{Tables}
-use Rattle.in_net.specs.declared.reading.Spot.{Spot}
-use Rattle.in_net.specs.declared.reading.Spot.TheVariants.{Port, Free, End, Occurrence}
+use Rattle.in_net.specs.declared.reading.TextSpot.{TextSpot}
+use Rattle.in_net.specs.declared.reading.TextSpot.TheVariants.{Port, Free, End, Occurrence}
 use Rattle.in_net.specs.declared.joining.Link.{Link}
 use Rattle.in_net.specs.declared.joining.Joining.{Joining}
 use Rattle.in_net.specs.declared.counting.Seen.{Seen}
@@ -24,7 +24,7 @@ use Rattle.in_net.proofs.Refusals.Standing.{IsStanding, standing_on, standing_mo
 use Rattle.in_net.proofs.Wiring.Ways.{nth_seen, IsMet, IsOpen, IsWay, IsJoiningAt, spot_named, name_joint, free_joint, on_through, back_through, from_free, to_free, closes}
 
 -- the spots are a text's: each has its name there, free ends come first and have different names, occurrences different places
-pub record AreOfText (t : Tables) (b : Body) (names : List (List ℕ)) (spots : List Spot) : Type 0 where
+pub record AreOfText (t : Tables) (b : Body) (names : List (List ℕ)) (spots : List TextSpot) : Type 0 where
   pub facts : (i : ℕ) → i < length spots → IsNamed t b names (nth_spot spots i)
   pub numbers : (i m : ℕ) → i < length spots → counting.name_of (nth_spot spots i) ≡ Some m → m < length names
   pub free_first : (i j k m n : ℕ) (p : Place) → i < j → j < length spots → nth_spot spots i ≡ Occurrence n p → nth_spot spots j ≢ Free k m
@@ -35,7 +35,7 @@ pub seen_other : (seen : List Seen) (m n : ℕ) (x : Seen) → n ≢ m → nth_s
 seen_other seen m n x differ = get_or-set_other seen m n x Never differ
 
 -- a spot of another name is an end as it was
-open_back : (seen : List Seen) (m : ℕ) (x : Seen) (s : Spot) → counting.name_of s ≢ Some m → IsOpen (set seen m x) s → IsOpen seen s
+open_back : (seen : List Seen) (m : ℕ) (x : Seen) (s : TextSpot) → counting.name_of s ≢ Some m → IsOpen (set seen m x) s → IsOpen seen s
 open_back seen m x (Port a i p) other h = tt
 open_back seen m x (End k) other h = tt
 open_back seen m x (Free k n) other h = subst IsMet (seen_other seen m n x (λ e. other (ap Some e))) h
@@ -56,7 +56,7 @@ earlier_by : {P : Place → Type 0} (c d : Option Place) → ((x : Place) → c 
 earlier_by c d one other x e = elim (earlier_is c d x e) [ inl f ↦ one x f | inr f ↦ other x f ]
 
 -- at is the second spot of a name that was met once, and a the first
-pub record IsSecond (t : Tables) (b : Body) (spots : List Spot) (j : Joining) (at m a : ℕ) : Type 0 where
+pub record IsSecond (t : Tables) (b : Body) (spots : List TextSpot) (j : Joining) (at m a : ℕ) : Type 0 where
   pub first : (a < at) × (counting.name_of (nth_spot spots a) ≡ Some m) × ((i : ℕ) → i < at → counting.name_of (nth_spot spots i) ≡ Some m → i ≡ a)
   pub a_in : a < length spots
   pub differ : a ≢ at
@@ -70,7 +70,7 @@ pub record IsSecond (t : Tables) (b : Body) (spots : List Spot) (j : Joining) (a
   pub q_not_a : (nth_link j.links a).to ≢ at → (nth_link j.links at).to ≢ a
   pub joint : NameJoint t b (named (nth_spot spots a)) (named (nth_spot spots at))
 
-module _ (t : Tables) (b : Body) (names : List (List ℕ)) (spots : List Spot) (of : AreOfText t b names spots) (count at m a : ℕ) (j : Joining) (h : IsJoiningAt t b spots count at j)
+module _ (t : Tables) (b : Body) (names : List (List ℕ)) (spots : List TextSpot) (of : AreOfText t b names spots) (count at m a : ℕ) (j : Joining) (h : IsJoiningAt t b spots count at j)
     (at_in : at < length spots) (m_in : m < count) (name : counting.name_of (nth_spot spots at) ≡ Some m) (seen_is : nth_seen j.seen m ≡ Once a)
     (only : (i : ℕ) → at < i → i < length spots → counting.name_of (nth_spot spots i) ≢ Some m) where
   abbrev pub links : List Link
@@ -434,7 +434,7 @@ module _ (seen : List Seen) (m : ℕ) (x : Seen) (there : nth_seen (set seen m x
       by_name (inr e) met = subst IsMet (sym (seen_other seen m n x e)) met
 
 -- the first spot of a name, or a third one, joins nothing
-module _ (t : Tables) (b : Body) (names : List (List ℕ)) (spots : List Spot) (count at m : ℕ) (j : Joining) (h : IsJoiningAt t b spots count at j) (m_in : m < count) (x : Seen)
+module _ (t : Tables) (b : Body) (names : List (List ℕ)) (spots : List TextSpot) (count at m : ℕ) (j : Joining) (h : IsJoiningAt t b spots count at j) (m_in : m < count) (x : Seen)
     (name : counting.name_of (nth_spot spots at) ≡ Some m) (same : IsMet x → IsMet (nth_seen j.seen m)) (still : IsMet (nth_seen j.seen m) → IsMet x) (right : IsStanding spots (at + 1) m x) where
   abbrev seen3 : List Seen
   seen3 = set j.seen m x
@@ -442,7 +442,7 @@ module _ (t : Tables) (b : Body) (names : List (List ℕ)) (spots : List Spot) (
   there3 : nth_seen seen3 m ≡ x
   there3 = get_or-set_same j.seen m x Never (omega (arith, m_in, h.count))
 
-  end_back : (s : Spot) → IsOpen seen3 s → IsOpen j.seen s
+  end_back : (s : TextSpot) → IsOpen seen3 s → IsOpen j.seen s
   end_back (Port a i p) o = tt
   end_back (End k) o = tt
   end_back (Free k n) o = met_back j.seen m x there3 same still n o
@@ -467,7 +467,7 @@ module _ (t : Tables) (b : Body) (names : List (List ℕ)) (spots : List Spot) (
   }
 
 -- a spot without a name
-unnamed_on : (t : Tables) (b : Body) (spots : List Spot) (count at : ℕ) (j : Joining) → IsJoiningAt t b spots count at j → counting.name_of (nth_spot spots at) ≡ None → IsJoiningAt t b spots count (at + 1) j
+unnamed_on : (t : Tables) (b : Body) (spots : List TextSpot) (count at : ℕ) (j : Joining) → IsJoiningAt t b spots count at j → counting.name_of (nth_spot spots at) ≡ None → IsJoiningAt t b spots count (at + 1) j
 unnamed_on t b spots count at j h none = record {
   size = h.size;
   count = h.count;
@@ -482,10 +482,10 @@ unnamed_on t b spots count at j h none = record {
 }
 
 -- no later spot has the name of this one, if it was met once before
-abbrev pub IsLast : List Spot → ℕ → List Seen → Type 0
+abbrev pub IsLast : List TextSpot → ℕ → List Seen → Type 0
 IsLast spots at seen = (m a : ℕ) → counting.name_of (nth_spot spots at) ≡ Some m → nth_seen seen m ≡ Once a → (i : ℕ) → at < i → i < length spots → counting.name_of (nth_spot spots i) ≢ Some m
 
-module _ (t : Tables) (b : Body) (names : List (List ℕ)) (spots : List Spot) (of : AreOfText t b names spots) (at : ℕ) (j : Joining) (h : IsJoiningAt t b spots (length names) at j) (at_in : at < length spots) (last : IsLast spots at j.seen) where
+module _ (t : Tables) (b : Body) (names : List (List ℕ)) (spots : List TextSpot) (of : AreOfText t b names spots) (at : ℕ) (j : Joining) (h : IsJoiningAt t b spots (length names) at j) (at_in : at < length spots) (last : IsLast spots at j.seen) where
   again : (m : ℕ) (s : Seen) → counting.name_of (nth_spot spots at) ≡ Some m → nth_seen j.seen m ≡ s → IsStanding spots (at + 1) m (counting.seen_again s at)
   again m s name is = standing_more spots at m s name (subst (IsStanding spots at m) is (h.seen m (of.numbers at m at_in name)))
 

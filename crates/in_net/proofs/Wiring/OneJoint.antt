@@ -12,8 +12,8 @@ use Rattle.in_syntax.proofs.Public.{front_rises, back_rises}
 use Rattle.in_symbols.specs.Names.{number_in}
 use Rattle.in_symbols.specs.Tables.{Tables}
 use Rattle.in_net.specs.declared.reading.Reading.{Reading}
-use Rattle.in_net.specs.declared.reading.Spot.{Spot}
-use Rattle.in_net.specs.declared.reading.Spot.TheVariants.{Port, Free, End, Occurrence}
+use Rattle.in_net.specs.declared.reading.TextSpot.{TextSpot}
+use Rattle.in_net.specs.declared.reading.TextSpot.TheVariants.{Port, Free, End, Occurrence}
 use Rattle.in_net.specs.Building.{nth_link, nth_spot}
 use Rattle.in_net.specs.Joining.{links_of}
 use Rattle.in_net.specs.TextNet as text
@@ -93,7 +93,7 @@ no_term b e v up among (IsTermOf.in_head g w there inside part) same =
 -- ---- what kinds of joints there are
 
 -- the joint of an equation at its ~
-record IsEqual (t : Tables) (b : Body) (x y : text.Spot) (p : Place) : Type 0 where
+record IsEqual (t : Tables) (b : Body) (x y : text.TextSpot) (p : Place) : Type 0 where
   equation : Equation
   among : IsAmong equation b.equations
   one : x ≡ spot_of t equation.left
@@ -101,32 +101,32 @@ record IsEqual (t : Tables) (b : Body) (x y : text.Spot) (p : Place) : Type 0 wh
   place : p ≡ equation.tilde
 
 -- a joint that leads to a term, at its first token
-record LeadsToTerm (t : Tables) (b : Body) (y : text.Spot) (p : Place) : Type 0 where
+record LeadsToTerm (t : Tables) (b : Body) (y : text.TextSpot) (p : Place) : Type 0 where
   term : Term
   there : IsTermOf b term
   spot : y ≡ spot_of t term
   place : p ≡ place_of term
 
-data Sort (t : Tables) (b : Body) (x y : text.Spot) (p : Place) : Type 0 where
+data Sort (t : Tables) (b : Body) (x y : text.TextSpot) (p : Place) : Type 0 where
   equal : IsEqual t b x y p → Sort t b x y p
   equal_back : IsEqual t b y x p → Sort t b x y p
   leads : LeadsToTerm t b y p → Sort t b x y p
   leads_back : LeadsToTerm t b x p → Sort t b x y p
 
-turn_sort : (t : Tables) (b : Body) (x y : text.Spot) (p : Place) → Sort t b x y p → Sort t b y x p
+turn_sort : (t : Tables) (b : Body) (x y : text.TextSpot) (p : Place) → Sort t b x y p → Sort t b y x p
 turn_sort t b x y p (equal h) = equal_back h
 turn_sort t b x y p (equal_back h) = equal h
 turn_sort t b x y p (leads h) = leads_back h
 turn_sort t b x y p (leads_back h) = leads h
 
-sort_of : (t : Tables) (b : Body) (x y : text.Spot) (p : Place) → PlacedJoint t b x y p → Sort t b x y p
+sort_of : (t : Tables) (b : Body) (x y : text.TextSpot) (p : Place) → PlacedJoint t b x y p → Sort t b x y p
 sort_of t b _ _ _ (of_equation e among) = equal (record { equation = e; among = among; one = refl; other = refl; place = refl })
 sort_of t b _ _ _ (of_argument u v i there symbol is) = leads (record { term = v; there = argument_of b u v there (among_at (out-Term u).args i v is); spot = refl; place = refl })
 sort_of t b _ _ _ (of_head h v i among is) = leads (record { term = v; there = IsTermOf.in_head h v among (among_at h.head.terms i v is) (text.itself v); spot = refl; place = refl })
 sort_of t b _ _ _ (turned x y p joint) = turn_sort t b x y p (sort_of t b x y p joint)
 
 -- the root of a term
-root_of : (s : Spot) (o : Option ℕ) (p : Place) → named s ≡ spot_by o p → root_place s ≡ p ∷ []
+root_of : (s : TextSpot) (o : Option ℕ) (p : Place) → named s ≡ spot_by o p → root_place s ≡ p ∷ []
 root_of (Port a i q) None p e = cc
 root_of (Port a i q) (Some n) p e =
     let port : i ≡ 0 = cc in
@@ -140,12 +140,12 @@ root_of (Occurrence m q) None p e = let place : q ≡ p = cc in ap (λ q. q ∷ 
 root_of (Occurrence m q) (Some n) p e = cc
 
 -- the same joint, whichever of its spots is named first
-abbrev pub AreOne : text.Spot → text.Spot → text.Spot → text.Spot → Type 0
+abbrev pub AreOne : text.TextSpot → text.TextSpot → text.TextSpot → text.TextSpot → Type 0
 AreOne x y u v = ((x ≡ u) × (y ≡ v)) ⊎ ((x ≡ v) × (y ≡ u))
 
 module _ (t : Tables) (b : Body) (r : Reading) (h : IsReadWhole t b r) (up : Rises (text_places b)) where
   -- spots of terms whose first tokens are at one byte are one
-  one_root : (x y z w : text.Spot) (p q : Place) → PlacedJoint t b x y p → PlacedJoint t b z w q → LeadsToTerm t b y p → LeadsToTerm t b w q → p.from ≡ q.from → y ≡ w
+  one_root : (x y z w : text.TextSpot) (p q : Place) → PlacedJoint t b x y p → PlacedJoint t b z w q → LeadsToTerm t b y p → LeadsToTerm t b w q → p.from ≡ q.from → y ≡ w
   one_root x y z w p q j k a c same =
       let s = settled_of t b r h x y p j in
       let u = settled_of t b r h z w q k in
@@ -161,21 +161,21 @@ module _ (t : Tables) (b : Body) (r : Reading) (h : IsReadWhole t b r) (up : Ris
       by_order i l p q i_in l_in e f from (inr x) (inl y) = absurd (let less = place_before r.spots i l p q h.rises y l_in e f in omega (arith, less, from))
       by_order i l p q i_in l_in e f from (inr x) (inr y) = absurd (let less = place_before r.spots l i q p h.rises (omega (arith, x, y)) i_in f e in omega (arith, less, from))
 
-  both_lead : (x y z w : text.Spot) (p q : Place) → PlacedJoint t b x y p → PlacedJoint t b z w q → LeadsToTerm t b y p → LeadsToTerm t b w q → p.from ≡ q.from → (x ≡ z) × (y ≡ w)
+  both_lead : (x y z w : text.TextSpot) (p q : Place) → PlacedJoint t b x y p → PlacedJoint t b z w q → LeadsToTerm t b y p → LeadsToTerm t b w q → p.from ≡ q.from → (x ≡ z) × (y ≡ w)
   both_lead x y z w p q j k a c same =
       let to = one_root x y z w p q j k a c same in
       ((one_placed_joint t b r h y x z p q (turned x y p j) (subst (λ y. PlacedJoint t b y z q) (sym to) (turned z w q k))).0, to)
 
-  both_equal : (x y z w : text.Spot) (p q : Place) → IsEqual t b x y p → IsEqual t b z w q → p.from ≡ q.from → (x ≡ z) × (y ≡ w)
+  both_equal : (x y z w : text.TextSpot) (p q : Place) → IsEqual t b x y p → IsEqual t b z w q → p.from ≡ q.from → (x ≡ z) × (y ≡ w)
   both_equal x y z w p q a c same =
       let from : a.equation.tilde.from ≡ c.equation.tilde.from = ap (λ (p : Place). p.from) (sym a.place) ∙ same ∙ ap (λ (p : Place). p.from) c.place in
       let one = one_tilde b.equations a.equation c.equation (back_rises (head_names b) (flat_map equation_places b.equations) up) a.among c.among from in
       (a.one ∙ ap (λ (e : Equation). spot_of t e.left) one ∙ sym c.one, a.other ∙ ap (λ (e : Equation). spot_of t e.right) one ∙ sym c.other)
 
-  not_both : (x y w : text.Spot) (p q : Place) → IsEqual t b x y p → LeadsToTerm t b w q → p.from ≡ q.from → ⊥
+  not_both : (x y w : text.TextSpot) (p q : Place) → IsEqual t b x y p → LeadsToTerm t b w q → p.from ≡ q.from → ⊥
   not_both x y w p q a c same = no_term b a.equation c.term up a.among c.there (ap (λ (p : Place). p.from) (sym a.place) ∙ same ∙ ap (λ (p : Place). p.from) c.place)
 
-  by_sorts : (x y z w : text.Spot) (p q : Place) → PlacedJoint t b x y p → PlacedJoint t b z w q → p.from ≡ q.from → Sort t b x y p → Sort t b z w q → AreOne x y z w
+  by_sorts : (x y z w : text.TextSpot) (p q : Place) → PlacedJoint t b x y p → PlacedJoint t b z w q → p.from ≡ q.from → Sort t b x y p → Sort t b z w q → AreOne x y z w
   by_sorts x y z w p q j k same (equal a) (equal c) = inl (both_equal x y z w p q a c same)
   by_sorts x y z w p q j k same (equal a) (equal_back c) = inr (both_equal x y w z p q a c same)
   by_sorts x y z w p q j k same (equal a) (leads c) = absurd (not_both x y w p q a c same)
@@ -194,7 +194,7 @@ module _ (t : Tables) (b : Body) (r : Reading) (h : IsReadWhole t b r) (up : Ris
   by_sorts x y z w p q j k same (leads_back a) (leads_back c) = let e = both_lead y x w z p q (turned x y p j) (turned z w q k) a c same in inl (e.1, e.0)
 
   -- two joints at one place are one
-  pub one_joint : (x y z w : text.Spot) (p q : Place) → PlacedJoint t b x y p → PlacedJoint t b z w q → p.from ≡ q.from → AreOne x y z w
+  pub one_joint : (x y z w : text.TextSpot) (p q : Place) → PlacedJoint t b x y p → PlacedJoint t b z w q → p.from ≡ q.from → AreOne x y z w
   one_joint x y z w p q j k same = by_sorts x y z w p q j k same (sort_of t b x y p j) (sort_of t b z w q k)
 
   -- so links of two spots are at one place only where they are one link

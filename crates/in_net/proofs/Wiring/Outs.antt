@@ -6,8 +6,8 @@ use Rattle.std.proofs.lemmas.Bool.{cases_eq}
 use Rattle.in_syntax.specs.declared.places.Place.{Place}
 use Rattle.in_syntax.specs.Refusals.{earlier}
 use Rattle.in_symbols.specs.Tables.{Tables}
-use Rattle.in_net.specs.declared.reading.Spot.{Spot}
-use Rattle.in_net.specs.declared.reading.Spot.TheVariants.{Port, Free, End, Occurrence}
+use Rattle.in_net.specs.declared.reading.TextSpot.{TextSpot}
+use Rattle.in_net.specs.declared.reading.TextSpot.TheVariants.{Port, Free, End, Occurrence}
 use Rattle.in_net.specs.declared.joining.Link.{Link}
 use Rattle.in_net.specs.declared.joining.Joining.{Joining}
 use Rattle.in_net.specs.declared.counting.Seen.{Seen}
@@ -26,7 +26,7 @@ use Rattle.in_net.proofs.Wiring.Naming as naming
 use Rattle.in_net.proofs.Wiring.Naming.{AreOfText, IsLast, IsSecond, seen_other, met_back, met_on}
 
 -- a closed wire goes through the spot, and the first one that is known stands no later
-pub record IsRound (t : Tables) (b : Body) (closed : Option Place) (s : text.Spot) : Type 0 where
+pub record IsRound (t : Tables) (b : Body) (closed : Option Place) (s : text.TextSpot) : Type 0 where
   pub places : List Place
   pub loop : Chain t b of_name placed s s places
   pub last : Place
@@ -36,14 +36,14 @@ pub record IsRound (t : Tables) (b : Body) (closed : Option Place) (s : text.Spo
   pub no_later : found.from ≤ last.from
 
 -- a chain that begins with a joint of a place leads to an end, or to a spot on a closed wire
-pub record IsOut (t : Tables) (b : Body) (spots : List Spot) (seen : List Seen) (closed : Option Place) (s : text.Spot) : Type 0 where
+pub record IsOut (t : Tables) (b : Body) (spots : List TextSpot) (seen : List Seen) (closed : Option Place) (s : text.TextSpot) : Type 0 where
   pub spot : ℕ
   pub inside : spot < length spots
   pub places : List Place
   pub chain : Chain t b placed (kind_of (nth_spot spots spot)) s (named (nth_spot spots spot)) places
   pub end : IsOpen seen (nth_spot spots spot) ⊎ IsRound t b closed (named (nth_spot spots spot))
 
-abbrev pub AreOut : Tables → Body → List Spot → List Seen → Option Place → Type 0
+abbrev pub AreOut : Tables → Body → List TextSpot → List Seen → Option Place → Type 0
 AreOut t b spots seen closed = (i n : ℕ) (x : Place) → i < length spots → nth_spot spots i ≡ Occurrence n x → IsMet (nth_seen seen n) → IsOut t b spots seen closed (named (nth_spot spots i))
 
 -- ---- the earlier of two places
@@ -72,37 +72,37 @@ earlier_right None d p e = record { found = p; is = e; no_later = omega arith }
 earlier_right (Some q) None p e = cc
 earlier_right (Some q) (Some r) p e = let first = earlier_of q r in record { found = first.0; is = first.1; no_later = subst (λ (x : Place). first.0.from ≤ x.from) (same_Some r p e) first.3 }
 
-round_on : (t : Tables) (b : Body) (c d : Option Place) (s : text.Spot) → IsRound t b c s → IsRound t b (earlier c d) s
+round_on : (t : Tables) (b : Body) (c d : Option Place) (s : text.TextSpot) → IsRound t b c s → IsRound t b (earlier c d) s
 round_on t b c d s h =
     let early = earlier_left c d h.found h.closed_is in
     record { places = h.places; loop = h.loop; last = h.last; last_is = h.last_is; found = early.found; closed_is = early.is; no_later = let le = early.no_later in omega (arith, h.no_later, le) }
 
 -- ---- chains that are made longer
 
-record IsHeld (x : Spot) : Type 0 where
+record IsHeld (x : TextSpot) : Type 0 where
   pub kind : kind_of x ≡ placed
   pub occurs : IsOccurrence (named x)
 
-held : (x : Spot) (m : ℕ) (p : Place) → x ≡ Occurrence m p → IsHeld x
+held : (x : TextSpot) (m : ℕ) (p : Place) → x ≡ Occurrence m p → IsHeld x
 held x m p e = record { kind = ap kind_of e; occurs = subst (λ s. IsOccurrence (named s)) (sym e) tt }
 
 module _ (t : Tables) (b : Body) where
-  begin : (x u : Spot) (place : Place) → IsHeld x → (w : IsWay t b x u place) → Chain t b placed (kind_of u) (named x) (named u) w.places
+  begin : (x u : TextSpot) (place : Place) → IsHeld x → (w : IsWay t b x u place) → Chain t b placed (kind_of u) (named x) (named u) w.places
   begin x u place h w = subst (λ k. Chain t b k (kind_of u) (named x) (named u) w.places) h.kind w.chain
 
   -- on by the name from x to y, and by the way from there
-  onward : (s : text.Spot) (x y u : Spot) (place : Place) (ps : List Place) → IsHeld x → IsHeld y → NameJoint t b (named x) (named y) → Chain t b placed (kind_of x) s (named x) ps → (w : IsWay t b y u place) →
+  onward : (s : text.TextSpot) (x y u : TextSpot) (place : Place) (ps : List Place) → IsHeld x → IsHeld y → NameJoint t b (named x) (named y) → Chain t b placed (kind_of x) s (named x) ps → (w : IsWay t b y u place) →
       Chain t b placed (kind_of u) s (named u) (ps ++ w.places)
   onward s x y u place ps h k joint chain w =
       through t b placed (kind_of u) s (named x) (named y) (named u) ps w.places (subst (λ z. Chain t b placed z s (named x) ps) h.kind chain) h.occurs joint k.occurs (begin y u place k w)
 
   -- to a free end
-  to_end : (s : text.Spot) (x y : Spot) (ps : List Place) → IsHeld x → kind_of y ≡ of_name → NameJoint t b (named x) (named y) → Chain t b placed (kind_of x) s (named x) ps → Chain t b placed (kind_of y) s (named y) ps
+  to_end : (s : text.TextSpot) (x y : TextSpot) (ps : List Place) → IsHeld x → kind_of y ≡ of_name → NameJoint t b (named x) (named y) → Chain t b placed (kind_of x) s (named x) ps → Chain t b placed (kind_of y) s (named y) ps
   to_end s x y ps h kind joint chain =
       subst (λ z. Chain t b placed z s (named y) ps) (sym kind) (to_name t b placed s (named x) (named y) ps (subst (λ z. Chain t b placed z s (named x) ps) h.kind chain) h.occurs joint)
 
   -- round a closed wire
-  round_of : (c d : Option Place) (x y : Spot) (place : Place) → IsHeld x → IsHeld y → NameJoint t b (named x) (named y) → IsWay t b y x place → d ≡ Some place → IsRound t b (earlier c d) (named x)
+  round_of : (c d : Option Place) (x y : TextSpot) (place : Place) → IsHeld x → IsHeld y → NameJoint t b (named x) (named y) → IsWay t b y x place → d ≡ Some place → IsRound t b (earlier c d) (named x)
   round_of c d x y place h k joint w is =
       let early = earlier_right c d place is in
       record {
@@ -115,7 +115,7 @@ module _ (t : Tables) (b : Body) where
         no_later = early.no_later;
       }
 
-open_on : (seen : List Seen) (m : ℕ) (x : Seen) (s : Spot) → counting.name_of s ≢ Some m → IsOpen seen s → IsOpen (set seen m x) s
+open_on : (seen : List Seen) (m : ℕ) (x : Seen) (s : TextSpot) → counting.name_of s ≢ Some m → IsOpen seen s → IsOpen (set seen m x) s
 open_on seen m x (Port a i p) other h = tt
 open_on seen m x (End k) other h = tt
 open_on seen m x (Free k n) other h = subst IsMet (sym (seen_other seen m n x (λ e. other (ap Some e)))) h
@@ -128,7 +128,7 @@ met_or_not Twice = inl tt
 met_or_not Often = inl tt
 
 -- what an end is joined to is an end
-linked_open : (t : Tables) (b : Body) (spots : List Spot) (count at : ℕ) (j : Joining) → IsJoiningAt t b spots count at j → (i : ℕ) → i < length spots → IsOpen j.seen (nth_spot spots i) → IsOpen j.seen (nth_spot spots (nth_link j.links i).to)
+linked_open : (t : Tables) (b : Body) (spots : List TextSpot) (count at : ℕ) (j : Joining) → IsJoiningAt t b spots count at j → (i : ℕ) → i < length spots → IsOpen j.seen (nth_spot spots i) → IsOpen j.seen (nth_spot spots (nth_link j.links i).to)
 linked_open t b spots count at j h i lt open_ = by_spot (nth_spot spots k) refl
   where
     k : ℕ
@@ -137,7 +137,7 @@ linked_open t b spots count at j h i lt open_ = by_spot (nth_spot spots k) refl
     not_self : (nth_link j.links (nth_link j.links i).to).to ≢ (nth_link j.links i).to
     not_self e = h.apart i lt open_ (sym e ∙ ap (λ (l : Link). l.to) (h.back i lt))
 
-    by_spot : (s : Spot) → nth_spot spots (nth_link j.links i).to ≡ s → IsOpen j.seen s
+    by_spot : (s : TextSpot) → nth_spot spots (nth_link j.links i).to ≡ s → IsOpen j.seen s
     by_spot (Port a l p) is = tt
     by_spot (End l) is = tt
     by_spot (Occurrence n x) is = λ met. not_self (h.used (nth_link j.links i).to n x (h.inside i lt) is met)
@@ -148,7 +148,7 @@ linked_open t b spots count at j h i lt open_ = by_spot (nth_spot spots k) refl
         by_met (inr unmet) = absurd (not_self (ap (λ (l : Link). l.to) (h.fresh (nth_link j.links i).to l n (h.inside i lt) is unmet)))
 
 -- ---- the second spot of a name: a is the first
-module _ (t : Tables) (b : Body) (names : List (List ℕ)) (spots : List Spot) (of : AreOfText t b names spots) (count at m a : ℕ) (j : Joining) (h : IsJoiningAt t b spots count at j)
+module _ (t : Tables) (b : Body) (names : List (List ℕ)) (spots : List TextSpot) (of : AreOfText t b names spots) (count at m a : ℕ) (j : Joining) (h : IsJoiningAt t b spots count at j)
     (at_in : at < length spots) (m_in : m < count) (name : counting.name_of (nth_spot spots at) ≡ Some m) (seen_is : nth_seen j.seen m ≡ Once a)
     (only : (i : ℕ) → at < i → i < length spots → counting.name_of (nth_spot spots i) ≢ Some m) (outs : AreOut t b spots j.seen j.closed) where
   abbrev links : List Link
@@ -177,11 +177,11 @@ module _ (t : Tables) (b : Body) (names : List (List ℕ)) (spots : List Spot) (
 
   -- where chains lead on from the two, if they reached them or begin there
   module _ (closed : Option Place) where
-    abbrev Out2 : text.Spot → Type 0
+    abbrev Out2 : text.TextSpot → Type 0
     Out2 s = IsOut t b spots seen2 (earlier j.closed closed) s
 
     abbrev LeadsOn : ℕ → Type 0
-    LeadsOn k = (s : text.Spot) (ps : List Place) → Chain t b placed (kind_of (nth_spot spots k)) s (named (nth_spot spots k)) ps → IsOpen j.seen (nth_spot spots k) → Out2 s
+    LeadsOn k = (s : text.TextSpot) (ps : List Place) → Chain t b placed (kind_of (nth_spot spots k)) s (named (nth_spot spots k)) ps → IsOpen j.seen (nth_spot spots k) → Out2 s
 
     abbrev Begins : ℕ → Type 0
     Begins k = (n : ℕ) (x : Place) → nth_spot spots k ≡ Occurrence n x → Out2 (named (nth_spot spots k))
@@ -229,7 +229,7 @@ module _ (t : Tables) (b : Body) (names : List (List ℕ)) (spots : List Spot) (
       way_at : IsWay t b (nth_spot spots at) (nth_spot spots a) (nth_link links a).place
       way_at = subst (λ (l : Link). IsWay t b (nth_spot spots at) (nth_spot spots l.to) l.place) (ap (nth_link links) (sym shut.round) ∙ h.back a two.a_in) (h.way at at_in two.open_at)
 
-      stays_a : (s : text.Spot) (ps : List Place) → Chain t b placed (kind_of (nth_spot spots a)) s (named (nth_spot spots a)) ps → Out2 closed s
+      stays_a : (s : text.TextSpot) (ps : List Place) → Chain t b placed (kind_of (nth_spot spots a)) s (named (nth_spot spots a)) ps → Out2 closed s
       stays_a s ps chain = record {
         spot = a;
         inside = two.a_in;
@@ -238,7 +238,7 @@ module _ (t : Tables) (b : Body) (names : List (List ℕ)) (spots : List Spot) (
         end = inr (round_of t b j.closed closed (nth_spot spots a) (nth_spot spots at) (nth_link links a).place held_a held_at two.joint way_at shut.place);
       }
 
-      stays_at : (s : text.Spot) (ps : List Place) → Chain t b placed (kind_of (nth_spot spots at)) s (named (nth_spot spots at)) ps → Out2 closed s
+      stays_at : (s : text.TextSpot) (ps : List Place) → Chain t b placed (kind_of (nth_spot spots at)) s (named (nth_spot spots at)) ps → Out2 closed s
       stays_at s ps chain = record {
         spot = at;
         inside = at_in;
@@ -257,7 +257,7 @@ module _ (t : Tables) (b : Body) (names : List (List ℕ)) (spots : List Spot) (
       open_q : IsOpen seen2 (nth_spot spots q)
       open_q = still_open q (h.inside at at_in) (two.q_not_a on) (h.apart at at_in two.open_at) (linked_open t b spots count at j h at at_in two.open_at)
 
-      to_q : (s : text.Spot) (ps : List Place) → Chain t b placed (kind_of (nth_spot spots q)) s (named (nth_spot spots q)) ps → Out2 closed s
+      to_q : (s : text.TextSpot) (ps : List Place) → Chain t b placed (kind_of (nth_spot spots q)) s (named (nth_spot spots q)) ps → Out2 closed s
       to_q s ps chain = record { spot = q; inside = h.inside at at_in; places = ps; chain = chain; end = inl open_q }
 
       from_at : Begins closed at
@@ -281,7 +281,7 @@ module _ (t : Tables) (b : Body) (names : List (List ℕ)) (spots : List Spot) (
           open_p : IsOpen seen2 (nth_spot spots p)
           open_p = still_open p (h.inside a two.a_in) (h.apart a two.a_in open_a) on (linked_open t b spots count at j h a two.a_in open_a)
 
-          to_p : (s : text.Spot) (ps : List Place) → Chain t b placed (kind_of (nth_spot spots p)) s (named (nth_spot spots p)) ps → Out2 closed s
+          to_p : (s : text.TextSpot) (ps : List Place) → Chain t b placed (kind_of (nth_spot spots p)) s (named (nth_spot spots p)) ps → Out2 closed s
           to_p s ps chain = record { spot = p; inside = h.inside a two.a_in; places = ps; chain = chain; end = inl open_p }
       by_first (inr (k, e)) =
           all_out closed (λ s ps chain open_. absurd (two.unmet (subst (IsOpen j.seen) e open_)))
@@ -306,11 +306,11 @@ module _ (t : Tables) (b : Body) (names : List (List ℕ)) (spots : List Spot) (
       by_outcome (inr x) = opened_out (merged links a at).1 x.on
 
 -- the first spot of a name, or a third one, joins nothing
-counted_out : (t : Tables) (b : Body) (spots : List Spot) (seen seen3 : List Seen) (closed : Option Place) → ((n : ℕ) → IsMet (nth_seen seen3 n) → IsMet (nth_seen seen n)) → ((n : ℕ) → IsMet (nth_seen seen n) → IsMet (nth_seen seen3 n)) →
+counted_out : (t : Tables) (b : Body) (spots : List TextSpot) (seen seen3 : List Seen) (closed : Option Place) → ((n : ℕ) → IsMet (nth_seen seen3 n) → IsMet (nth_seen seen n)) → ((n : ℕ) → IsMet (nth_seen seen n) → IsMet (nth_seen seen3 n)) →
     AreOut t b spots seen closed → AreOut t b spots seen3 (earlier closed None)
 counted_out t b spots seen seen3 closed back on outs i n x lt is met = still (outs i n x lt is (back n met))
   where
-    open_still : (s : Spot) → IsOpen seen s → IsOpen seen3 s
+    open_still : (s : TextSpot) → IsOpen seen s → IsOpen seen3 s
     open_still (Port a l p) o = tt
     open_still (End l) o = tt
     open_still (Free l m) o = on m o
@@ -323,7 +323,7 @@ counted_out t b spots seen seen3 closed back on outs i n x lt is met = still (ou
         by_end (inl open_) = inl (open_still (nth_spot spots o.spot) open_)
         by_end (inr round) = inr (round_on t b closed None (named (nth_spot spots o.spot)) round)
 
-module _ (t : Tables) (b : Body) (names : List (List ℕ)) (spots : List Spot) (of : AreOfText t b names spots) (at : ℕ) (j : Joining) (h : IsJoiningAt t b spots (length names) at j) (at_in : at < length spots) (last : IsLast spots at j.seen)
+module _ (t : Tables) (b : Body) (names : List (List ℕ)) (spots : List TextSpot) (of : AreOfText t b names spots) (at : ℕ) (j : Joining) (h : IsJoiningAt t b spots (length names) at j) (at_in : at < length spots) (last : IsLast spots at j.seen)
     (outs : AreOut t b spots j.seen j.closed) where
   nothing_out : (m : ℕ) (x : Seen) → counting.name_of (nth_spot spots at) ≡ Some m → (IsMet x → IsMet (nth_seen j.seen m)) → (IsMet (nth_seen j.seen m) → IsMet x) → AreOut t b spots (set j.seen m x) (earlier j.closed None)
   nothing_out m x name same still =

@@ -8,8 +8,8 @@ use Rattle.in_syntax.specs.Order.{Rises}
 use Rattle.in_symbols.specs.Names.{number_in, name_in}
 use Rattle.in_symbols.specs.Tables.{Tables}
 use Rattle.in_net.specs.declared.joining.Link.{Link}
-use Rattle.in_net.specs.declared.reading.Spot.{Spot}
-use Rattle.in_net.specs.declared.reading.Spot.TheVariants.{Port, Free, End, Occurrence}
+use Rattle.in_net.specs.declared.reading.TextSpot.{TextSpot}
+use Rattle.in_net.specs.declared.reading.TextSpot.TheVariants.{Port, Free, End, Occurrence}
 use Rattle.in_net.specs.declared.reading.Reading.{Reading}
 use Rattle.in_net.specs.Counting as counting
 use Rattle.in_net.specs.Counting.{none_seen, counted_from}
@@ -59,7 +59,7 @@ module _ (t : Tables) (b : Body) (r : Reading) (h : IsReadWhole t b r) where
       one_end : (a c : ℕ) → IsEnd (nth_spot r.spots i) a → IsEnd (nth_spot r.spots j) c → a ≡ c → i ≡ j
       one_end a c x y same = let one = h.body.net.read.numbered.end i a i_in x in let other = h.body.net.read.numbered.end j c j_in y in omega (arith, one.0, other.0, same)
 
-      by_spots : (s u : Spot) → nth_spot r.spots i ≡ s → nth_spot r.spots j ≡ u → named s ≡ named u → i ≡ j
+      by_spots : (s u : TextSpot) → nth_spot r.spots i ≡ s → nth_spot r.spots j ≡ u → named s ≡ named u → i ≡ j
       by_spots (Port a k p) (Port c l q) x y same =
           let place : p ≡ q = cc in
           let port : k ≡ l = cc in
@@ -91,7 +91,7 @@ module _ (t : Tables) (b : Body) (r : Reading) (h : IsReadWhole t b r) where
 
   -- ---- joints of places
 
-  settled_turned : (x y : text.Spot) (p : Place) → IsSettled r x y p → IsSettled r y x p
+  settled_turned : (x y : text.TextSpot) (p : Place) → IsSettled r x y p → IsSettled r y x p
   settled_turned x y p s =
       let back = h.body.net.read.linked.back s.spot s.inside in
       let to = ap (λ (l : Link). l.to) back in
@@ -110,13 +110,13 @@ module _ (t : Tables) (b : Body) (r : Reading) (h : IsReadWhole t b r) where
   argument_settled u v i (IsTermOf.in_right e among part) symbol is = (h.body.equations e among).right.arguments u v i part symbol is
   argument_settled u v i (IsTermOf.in_head g w among inside part) symbol is = ((h.body.heads g among).held w inside).arguments u v i part symbol is
 
-  pub settled_of : (x y : text.Spot) (p : Place) → PlacedJoint t b x y p → IsSettled r x y p
+  pub settled_of : (x y : text.TextSpot) (p : Place) → PlacedJoint t b x y p → IsSettled r x y p
   settled_of _ _ _ (PlacedJoint.of_equation e among) = (h.body.equations e among).joint
   settled_of _ _ _ (PlacedJoint.of_argument u v i there symbol is) = argument_settled u v i there symbol is
   settled_of _ _ _ (PlacedJoint.of_head g v i among is) = (h.body.heads g among).settled i v is
   settled_of _ _ _ (PlacedJoint.turned x y p joint) = settled_turned x y p (settled_of x y p joint)
 
-  pub one_placed_joint : (x y z : text.Spot) (p q : Place) → PlacedJoint t b x y p → PlacedJoint t b x z q → (y ≡ z) × (p ≡ q)
+  pub one_placed_joint : (x y z : text.TextSpot) (p q : Place) → PlacedJoint t b x y p → PlacedJoint t b x z q → (y ≡ z) × (p ≡ q)
   one_placed_joint x y z p q j k =
       let s = settled_of x y p j in
       let u = settled_of x z q k in
@@ -125,7 +125,7 @@ module _ (t : Tables) (b : Body) (r : Reading) (h : IsReadWhole t b r) where
 
   -- ---- joints of names
 
-  pub record IsTwin (x y : text.Spot) : Type 0 where
+  pub record IsTwin (x y : text.TextSpot) : Type 0 where
     pub one : ℕ
     pub other : ℕ
     pub number : ℕ
@@ -137,7 +137,7 @@ module _ (t : Tables) (b : Body) (r : Reading) (h : IsReadWhole t b r) where
     pub one_is : named (nth_spot r.spots one) ≡ x
     pub other_is : named (nth_spot r.spots other) ≡ y
 
-  twin_turned : (x y : text.Spot) → IsTwin x y → IsTwin y x
+  twin_turned : (x y : text.TextSpot) → IsTwin x y → IsTwin y x
   twin_turned x y s = record {
     one = s.other;
     other = s.one;
@@ -154,7 +154,7 @@ module _ (t : Tables) (b : Body) (r : Reading) (h : IsReadWhole t b r) where
   some_same : (f g : SourceFree) → Some f ≡ Some g → f ≡ g
   some_same f g e = cc
 
-  pub twin_of : (x y : text.Spot) → NameJoint t b x y → IsTwin x y
+  pub twin_of : (x y : text.TextSpot) → NameJoint t b x y → IsTwin x y
   twin_of _ _ (NameJoint.of_variable u v there_u there_v variable same differ) =
       let one = h.names.held u there_u variable in
       let other = h.names.held v there_v (subst (λ z. number_in z t.names ≡ None) same variable) in
@@ -201,7 +201,7 @@ module _ (t : Tables) (b : Body) (r : Reading) (h : IsReadWhole t b r) where
   name_at : (i m : ℕ) → i < length r.spots → counting.name_of (nth_spot r.spots i) ≡ Some m → m < length r.names
   name_at i m lt e = name_known t b r.names (nth_spot r.spots i) m (all_at (IsNamed t b r.names) r.spots i _ h.body.net.read.named_as lt) e
 
-  pub one_name_joint : (x y z : text.Spot) → NameJoint t b x y → NameJoint t b x z → y ≡ z
+  pub one_name_joint : (x y z : text.TextSpot) → NameJoint t b x y → NameJoint t b x z → y ≡ z
   one_name_joint x y z j k =
       let s = twin_of x y j in
       let u = twin_of x z k in
@@ -214,7 +214,7 @@ module _ (t : Tables) (b : Body) (r : Reading) (h : IsReadWhole t b r) where
   -- ---- chains
 
   -- a free end continues by its name, a boundary end by a joint of a place
-  abbrev kind_from : text.Spot → Kind
+  abbrev kind_from : text.TextSpot → Kind
   kind_from (text.port_at p i) = placed
   kind_from (text.free_end k) = cond (nat_lt k (length b.free)) of_name placed
   kind_from (text.occurrence p) = placed
@@ -233,23 +233,23 @@ module _ (t : Tables) (b : Body) (r : Reading) (h : IsReadWhole t b r) where
       by_test true is = absurd (let lt = ltb-true k (length b.free) is in omega (arith, le, lt))
       by_test false is = refl
 
-  named_port : (s : Spot) (m : ℕ) (p : Place) (i : ℕ) → counting.name_of s ≡ Some m → named s ≢ text.port_at p i
+  named_port : (s : TextSpot) (m : ℕ) (p : Place) (i : ℕ) → counting.name_of s ≡ Some m → named s ≢ text.port_at p i
   named_port (Port a k q) m p i e f = cc
   named_port (Free k l) m p i e f = cc
   named_port (End k) m p i e f = cc
   named_port (Occurrence l q) m p i e f = cc
 
   -- a port has no joint of a name, nor has a boundary end, a free end none of a place
-  port_unnamed : (p : Place) (i : ℕ) (y : text.Spot) → NameJoint t b (text.port_at p i) y → ⊥
+  port_unnamed : (p : Place) (i : ℕ) (y : text.TextSpot) → NameJoint t b (text.port_at p i) y → ⊥
   port_unnamed p i y j = let s = twin_of (text.port_at p i) y j in named_port (nth_spot r.spots s.one) s.number p i s.one_named s.one_is
 
-  named_free : (k : ℕ) (y : text.Spot) → NameJoint t b (text.free_end k) y → k < length b.free
+  named_free : (k : ℕ) (y : text.TextSpot) → NameJoint t b (text.free_end k) y → k < length b.free
   named_free k y j = by_spot (nth_spot r.spots s.one) refl s.one_named s.one_is
     where
       s : IsTwin (text.free_end k) y
       s = twin_of (text.free_end k) y j
 
-      by_spot : (u : Spot) → nth_spot r.spots s.one ≡ u → counting.name_of u ≡ Some s.number → named u ≡ text.free_end k → k < length b.free
+      by_spot : (u : TextSpot) → nth_spot r.spots s.one ≡ u → counting.name_of u ≡ Some s.number → named u ≡ text.free_end k → k < length b.free
       by_spot (Port a i q) is e f = cc
       by_spot (End l) is e f = cc
       by_spot (Occurrence m q) is e f = cc
@@ -258,7 +258,7 @@ module _ (t : Tables) (b : Body) (r : Reading) (h : IsReadWhole t b r) where
           let same : l ≡ k = cc in
           omega (arith, end.0, end.1, same)
 
-  placed_bound : (k : ℕ) (y : text.Spot) (p : Place) → PlacedJoint t b (text.free_end k) y p → length b.free ≤ k
+  placed_bound : (k : ℕ) (y : text.TextSpot) (p : Place) → PlacedJoint t b (text.free_end k) y p → length b.free ≤ k
   placed_bound k y p j = by_spot (nth_spot r.spots s.spot) refl s.one
     where
       s : IsSettled r (text.free_end k) y p
@@ -268,13 +268,13 @@ module _ (t : Tables) (b : Body) (r : Reading) (h : IsReadWhole t b r) where
       at_end l e same (inl lt) = absurd (s.linked (ap (λ (l : Link). l.to) (h.body.net.alone s.spot lt)))
       at_end l e same (inr le) = let end = h.body.net.read.numbered.end s.spot l s.inside e in omega (arith, end.0, same, le)
 
-      by_spot : (u : Spot) → nth_spot r.spots s.spot ≡ u → named u ≡ text.free_end k → length b.free ≤ k
+      by_spot : (u : TextSpot) → nth_spot r.spots s.spot ≡ u → named u ≡ text.free_end k → length b.free ≤ k
       by_spot (Port a i q) e f = cc
       by_spot (Occurrence m q) e f = cc
       by_spot (Free l m) e f = let same : l ≡ k = cc in at_end l (subst (λ u. IsEnd u l) (sym e) refl) same (cases_lt s.spot (length b.free))
       by_spot (End l) e f = let same : l ≡ k = cc in at_end l (subst (λ u. IsEnd u l) (sym e) refl) same (cases_lt s.spot (length b.free))
 
-  first_kind : (k l : Kind) (x y : text.Spot) (ps : List Place) → (IsOccurrence x → ⊥) → Chain t b k l x y ps → k ≡ kind_from x
+  first_kind : (k l : Kind) (x y : text.TextSpot) (ps : List Place) → (IsOccurrence x → ⊥) → Chain t b k l x y ps → k ≡ kind_from x
   first_kind k l (text.occurrence p) y ps no_ chain = absurd (no_ tt)
   first_kind _ _ (text.port_at p i) _ _ no_ (Chain.one_placed _ y q joint) = refl
   first_kind _ _ (text.port_at p i) _ _ no_ (Chain.one_name _ y joint) = absurd (port_unnamed p i y joint)
@@ -286,7 +286,7 @@ module _ (t : Tables) (b : Body) (r : Reading) (h : IsReadWhole t b r) where
   first_kind _ _ (text.free_end k) _ _ no_ (Chain.then_placed l _ o y ps joint occurs rest) = kind_free k (named_free k o joint)
 
   -- two chains that begin alike and can't be longer are one
-  pub one_chain : (k l m : Kind) (x y z : text.Spot) (ps qs : List Place) → (IsOccurrence y → ⊥) → (IsOccurrence z → ⊥) → Chain t b k l x y ps → Chain t b k m x z qs → (y ≡ z) × (ps ≡ qs)
+  pub one_chain : (k l m : Kind) (x y z : text.TextSpot) (ps qs : List Place) → (IsOccurrence y → ⊥) → (IsOccurrence z → ⊥) → Chain t b k l x y ps → Chain t b k m x z qs → (y ≡ z) × (ps ≡ qs)
   one_chain _ _ _ x _ _ _ _ no_y no_z (Chain.one_placed _ y p j) (Chain.one_placed _ z q g) = let same = one_placed_joint x y z p q j g in (same.0, ap (λ p. p ∷ []) same.1)
   one_chain _ _ _ x _ _ _ _ no_y no_z (Chain.one_placed _ y p j) (Chain.then_name m _ o z q qs g occurs rest) = absurd (no_y (subst IsOccurrence (sym (one_placed_joint x y o p q j g).0) occurs))
   one_chain _ _ _ x _ _ _ _ no_y no_z (Chain.one_name _ y j) (Chain.one_name _ z g) = (one_name_joint x y z j g, refl)
@@ -302,14 +302,14 @@ module _ (t : Tables) (b : Body) (r : Reading) (h : IsReadWhole t b r) where
       one_chain placed l m o y z ps qs no_y no_z rest (subst (λ u. Chain t b placed m u z qs) (sym same) more)
 
   -- a point leads to one other by a wire of the text
-  pub one_wire : (x y z : text.Spot) (p q : Place) → IsWireOf t b x y p → IsWireOf t b x z q → y ≡ z
+  pub one_wire : (x y z : text.TextSpot) (p q : Place) → IsWireOf t b x y p → IsWireOf t b x z q → y ≡ z
   one_wire x y z p q v w =
       let chain : Chain t b (kind_from x) v.last x y v.places = subst (λ k. Chain t b k v.last x y v.places) (first_kind v.first v.last x y v.places v.one v.chain) v.chain in
       let other : Chain t b (kind_from x) w.last x z w.places = subst (λ k. Chain t b k w.last x z w.places) (first_kind w.first w.last x z w.places w.one w.chain) w.chain in
       (one_chain (kind_from x) v.last w.last x y z v.places w.places v.other w.other chain other).0
 
   -- .. by joints at the same places
-  pub one_way : (x y z : text.Spot) (p q : Place) (v : IsWireOf t b x y p) (w : IsWireOf t b x z q) → (y ≡ z) × (v.places ≡ w.places)
+  pub one_way : (x y z : text.TextSpot) (p q : Place) (v : IsWireOf t b x y p) (w : IsWireOf t b x z q) → (y ≡ z) × (v.places ≡ w.places)
   one_way x y z p q v w =
       let chain : Chain t b (kind_from x) v.last x y v.places = subst (λ k. Chain t b k v.last x y v.places) (first_kind v.first v.last x y v.places v.one v.chain) v.chain in
       let other : Chain t b (kind_from x) w.last x z w.places = subst (λ k. Chain t b k w.last x z w.places) (first_kind w.first w.last x z w.places w.one w.chain) w.chain in

@@ -4,8 +4,8 @@ use Rattle.std.proofs.lemmas.Bool.{cases_eq}
 use Rattle.in_syntax.specs.declared.places.Place.{Place}
 use Rattle.in_net.specs.declared.joining.Link.{Link}
 use Rattle.in_net.specs.declared.reading.TextJoint.{TextJoint}
-use Rattle.in_net.specs.declared.reading.Spot.{Spot}
-use Rattle.in_net.specs.declared.reading.Spot.TheVariants.{Port, Free, End, Occurrence}
+use Rattle.in_net.specs.declared.reading.TextSpot.{TextSpot}
+use Rattle.in_net.specs.declared.reading.TextSpot.TheVariants.{Port, Free, End, Occurrence}
 use Rattle.in_symbols.specs.Tables.{Tables}
 use Rattle.in_net.specs.Building.{LeadToSpots, LeadBack, nth_link, nth_spot, no_spot}
 use Rattle.in_net.specs.Joining.{self_link, self_links, with_link, with_joints, JointsInside}
@@ -14,22 +14,22 @@ use Rattle.in_net.specs.TextNet.{Body, PlacedJoint}
 use Rattle.in_net.proofs.Wiring.Linked.{front_or_back, at_front, at_first, at_second, at_third, stays, added}
 
 -- the spot of the text
-abbrev pub named : Spot → text.Spot
+abbrev pub named : TextSpot → text.TextSpot
 named (Port a i p) = text.port_at p i
 named (Free k m) = text.free_end k
 named (End k) = text.free_end k
 named (Occurrence m p) = text.occurrence p
 
-abbrev pub joined : List Spot → List TextJoint → List Link
+abbrev pub joined : List TextSpot → List TextJoint → List Link
 joined spots js = with_joints (self_links 0 (length spots)) js
 
 -- what a spot is joined to leads back, and they are joined in the text, at that place
-pub record IsLinked (t : Tables) (b : Body) (spots : List Spot) (links : List Link) : Type 0 where
+pub record IsLinked (t : Tables) (b : Body) (spots : List TextSpot) (links : List Link) : Type 0 where
   pub inside : LeadToSpots spots links
   pub back : LeadBack spots links
   pub sound : (i : ℕ) → i < length spots → (nth_link links i).to ≢ i → PlacedJoint t b (named (nth_spot spots i)) (named (nth_spot spots (nth_link links i).to)) (nth_link links i).place
 
-module _ (t : Tables) (b : Body) (spots more : List Spot) (js : List TextJoint) (all : JointsInside (length spots) js) (linked : IsLinked t b spots (joined spots js)) where
+module _ (t : Tables) (b : Body) (spots more : List TextSpot) (js : List TextJoint) (all : JointsInside (length spots) js) (linked : IsLinked t b spots (joined spots js)) where
   abbrev old : List Link
   old = joined spots js
 
@@ -78,7 +78,7 @@ module _ (t : Tables) (b : Body) (spots more : List Spot) (js : List TextJoint) 
     sound = λ i lt apart. more_sound i lt (front_or_back (length spots) i) apart;
   }
 
-module _ (t : Tables) (b : Body) (spots : List Spot) (links : List Link) (count : length links ≡ length spots) (linked : IsLinked t b spots links)
+module _ (t : Tables) (b : Body) (spots : List TextSpot) (links : List Link) (count : length links ≡ length spots) (linked : IsLinked t b spots links)
     (one other : ℕ) (place : Place) (a : one < length spots) (c : other < length spots) (apart : one ≢ other) (one_alone : (nth_link links one).to ≡ one) (other_alone : (nth_link links other).to ≡ other)
     (joint : PlacedJoint t b (named (nth_spot spots one)) (named (nth_spot spots other)) place) where
   abbrev then_ : List Link

@@ -4,8 +4,8 @@ use Rattle.std.specs.List.{AllByRecursion}
 use Rattle.in_syntax.specs.declared.places.Place.{Place}
 use Rattle.in_syntax.specs.Order.{Rises}
 use Rattle.in_symbols.specs.Tables.{Tables}
-use Rattle.in_net.specs.declared.reading.Spot.{Spot}
-use Rattle.in_net.specs.declared.reading.Spot.TheVariants as spot
+use Rattle.in_net.specs.declared.reading.TextSpot.{TextSpot}
+use Rattle.in_net.specs.declared.reading.TextSpot.TheVariants as spot
 use Rattle.in_net.specs.declared.reading.Agent.{Agent}
 use Rattle.in_net.specs.declared.reading.Reading.{Reading}
 use Rattle.in_net.specs.declared.joining.Link.{Link}
@@ -62,7 +62,7 @@ module _ (t : Tables) (b : Body) (free : List FreeEnd) (r : Reading) (links : Li
   named_point : (p : Point) (k : ℕ) → Stands r.spots p k → named (nth_spot r.spots k) ≡ spot_at net p
   named_point p k h = subst (λ p. named (nth_spot r.spots k) ≡ spot_at net p) h.is (by_spot (nth_spot r.spots k) refl h.point)
     where
-      by_spot : (s : Spot) → nth_spot r.spots k ≡ s → IsPointSpot s → named s ≡ spot_at net (point_in s)
+      by_spot : (s : TextSpot) → nth_spot r.spots k ≡ s → IsPointSpot s → named s ≡ spot_at net (point_in s)
       by_spot (spot.Port a i x) e m =
           let port = numbered.port k a i x h.inside e in
           ap (λ z. text.port_at z i) (port.name ∙ sym (nth_place r.agents a (record { from = 0; to = 0; line = 0; col = 0 }) port.agent))
@@ -116,7 +116,7 @@ module _ (t : Tables) (b : Body) (free : List FreeEnd) (r : Reading) (links : Li
           let turn : (nth_link links l).to ≡ k = ap (λ i. (nth_link links i).to) (sym same) ∙ back in
           absurd (omega (arith, x, y, same, turn))
 
-  pub text_wires : ((x y z : text.Spot) (p q : Place) → IsWireOf t b x y p → IsWireOf t b x z q → y ≡ z) → AreApart (length r.spots) links → HasWiresOf t b net
+  pub text_wires : ((x y z : text.TextSpot) (p q : Place) → IsWireOf t b x y p → IsWireOf t b x z q → y ≡ z) → AreApart (length r.spots) links → HasWiresOf t b net
   text_wires single apart = record {
     partners = λ x y e.
         let at = stands_at t free r links numbered joined ends wires (map (λ a. a.place) r.agents) x y e in
@@ -189,7 +189,7 @@ module _ (t : Tables) (b : Body) (good : IsGood t b) where
   pub read_apart : AreApart (length (reading_of t b).spots) (joining_of (reading_of t b)).links
   read_apart =
       let r : Reading = reading_of t b in
-      let spots : List Spot = r.spots in
+      let spots : List TextSpot = r.spots in
       let of = of_text t b (ends_in t b) (names_in_body b) (reading_of t b) read.net names good.ready.differ rises in
       all_apart t b r.names (reading_of t b).spots of 0 (reading_of t b).spots (not_named (links_of r) (length r.names)) (omega arith) (λ i lt. let e : i ≡ 0 + i = omega arith in ap (nth_spot spots) e) good.twice
       (begun t b (ends_in t b) (names_in_body b) (reading_of t b) read.net names good.ready.differ rises) (links_apart t b (reading_of t b) read_whole good.ready.order)

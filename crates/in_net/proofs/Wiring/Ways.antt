@@ -2,8 +2,8 @@
 use Rattle.std.proofs.Common.{◌≡◌, ◌≢◌, ◌⊎◌, inl, inr, ℕ, ◌<◌, Bool, true, false, cond, nat_lt, List, ◌++◌, length, Some, refl, sym, ◌∙◌, ap, subst, arith, get_or, ltb-true}
 use Rattle.in_syntax.specs.declared.places.Place.{Place}
 use Rattle.in_symbols.specs.Tables.{Tables}
-use Rattle.in_net.specs.declared.reading.Spot.{Spot}
-use Rattle.in_net.specs.declared.reading.Spot.TheVariants.{Port, Free, End, Occurrence}
+use Rattle.in_net.specs.declared.reading.TextSpot.{TextSpot}
+use Rattle.in_net.specs.declared.reading.TextSpot.TheVariants.{Port, Free, End, Occurrence}
 use Rattle.in_net.specs.declared.joining.Joining.{Joining}
 use Rattle.in_net.specs.declared.counting.Seen.{Seen}
 use Rattle.in_net.specs.declared.counting.Seen.TheVariants.{Never, Once, Twice, Often}
@@ -27,27 +27,27 @@ IsMet (Once a) = ⊥
 IsMet Twice = Unit {0}
 IsMet Often = Unit {0}
 
-abbrev pub kind_of : Spot → Kind
+abbrev pub kind_of : TextSpot → Kind
 kind_of (Port a i p) = placed
 kind_of (Free k m) = of_name
 kind_of (End k) = placed
 kind_of (Occurrence m p) = placed
 
 -- a spot is an end of what is joined so far: a port, a boundary end, a free end whose name was met, an occurrence whose name wasn't
-abbrev pub IsOpen : List Seen → Spot → Type 0
+abbrev pub IsOpen : List Seen → TextSpot → Type 0
 IsOpen seen (Port a i p) = Unit {0}
 IsOpen seen (Free k m) = IsMet (nth_seen seen m)
 IsOpen seen (End k) = Unit {0}
 IsOpen seen (Occurrence m p) = IsMet (nth_seen seen m) → ⊥
 
 -- a chain of the text leads from one to the other, and is at that place
-pub record IsWay (t : Tables) (b : Body) (s u : Spot) (place : Place) : Type 0 where
+pub record IsWay (t : Tables) (b : Body) (s u : TextSpot) (place : Place) : Type 0 where
   pub places : List Place
   pub chain : Chain t b (kind_of s) (kind_of u) (named s) (named u) places
   pub last : IsLastOf place places
 
 -- what is joined before a spot
-pub record IsJoiningAt (t : Tables) (b : Body) (spots : List Spot) (names at : ℕ) (j : Joining) : Type 0 where
+pub record IsJoiningAt (t : Tables) (b : Body) (spots : List TextSpot) (names at : ℕ) (j : Joining) : Type 0 where
   pub size : length j.links ≡ length spots
   pub count : length j.seen ≡ names
   pub inside : LeadToSpots spots j.links
@@ -60,7 +60,7 @@ pub record IsJoiningAt (t : Tables) (b : Body) (spots : List Spot) (names at : �
   pub closed : (p : Place) → j.closed ≡ Some p → IsClosedWireOf t b p
 
 -- a spot with a name is an occurrence or a free end
-pub spot_named : (s : Spot) (m : ℕ) → counting.name_of s ≡ Some m → ((p : Place) × (s ≡ Occurrence m p)) ⊎ ((k : ℕ) × (s ≡ Free k m))
+pub spot_named : (s : TextSpot) (m : ℕ) → counting.name_of s ≡ Some m → ((p : Place) × (s ≡ Occurrence m p)) ⊎ ((k : ℕ) × (s ≡ Free k m))
 spot_named (Port a i p) m e = cc
 spot_named (End k) m e = cc
 spot_named (Free k n) m e = inr (k, (let same : n ≡ m = cc in ap (λ n. Free k n) same))
@@ -84,7 +84,7 @@ pub free_joint : (t : Tables) (b : Body) (names : List (List ℕ)) (j m : ℕ) (
 free_joint t b names j m q h k =
     subst (λ y. NameJoint t b (text.free_end j) (text.occurrence y)) k.place (NameJoint.of_free j h.end k.term h.declared k.there k.variable (sym k.name ∙ h.name))
 
-module _ (t : Tables) (b : Body) (s u x y : Spot) (m : ℕ) (q : Place) (pa pb : Place) (y_is : y ≡ Occurrence m q) where
+module _ (t : Tables) (b : Body) (s u x y : TextSpot) (m : ℕ) (q : Place) (pa pb : Place) (y_is : y ≡ Occurrence m q) where
   -- x and y are the spots of the name, s and u what they lead to
   pub on_through : (p : Place) → x ≡ Occurrence m p → NameJoint t b (named x) (named y) → IsWay t b s x pa → IsWay t b y u pb → IsWay t b s u (later_of pa pb)
   on_through p x_is joint before after =
@@ -132,7 +132,7 @@ module _ (t : Tables) (b : Body) (s u x y : Spot) (m : ℕ) (q : Place) (pa pb :
       }
 
 -- a way from one occurrence of a name to the other is a closed wire
-pub closes : (t : Tables) (b : Body) (x y : Spot) (m : ℕ) (p q place : Place) → x ≡ Occurrence m p → y ≡ Occurrence m q → NameJoint t b (named x) (named y) → IsWay t b x y place → IsClosedWireOf t b place
+pub closes : (t : Tables) (b : Body) (x y : TextSpot) (m : ℕ) (p q place : Place) → x ≡ Occurrence m p → y ≡ Occurrence m q → NameJoint t b (named x) (named y) → IsWay t b x y place → IsClosedWireOf t b place
 closes t b x y m p q place x_is y_is joint way =
     let chain : Chain t b placed placed (text.occurrence p) (text.occurrence q) way.places =
     subst (λ z. Chain t b placed (kind_of z) (text.occurrence p) (named z) way.places) y_is (subst (λ z. Chain t b (kind_of z) (kind_of y) (named z) (named y) way.places) x_is way.chain) in

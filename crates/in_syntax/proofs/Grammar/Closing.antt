@@ -22,8 +22,8 @@ use Rattle.in_syntax.specs.declared.states.HeadOf.TheVariants.{First, Second}
 use Rattle.in_syntax.specs.declared.states.TermOf.{TermOf}
 use Rattle.in_syntax.specs.declared.states.TermOf.TheVariants.{Left, Right, Inside}
 use Rattle.in_syntax.specs.declared.states.Nest.{Nest}
-use Rattle.in_syntax.specs.declared.states.Body.{Body}
-use Rattle.in_syntax.specs.declared.states.Body.TheVariants as body
+use Rattle.in_syntax.specs.declared.states.EquationsOf.{EquationsOf}
+use Rattle.in_syntax.specs.declared.states.EquationsOf.TheVariants as body
 use Rattle.in_syntax.specs.Grammar.{Spelling, marked, max_types, max_symbols, max_free, max_ports, max_depth}
 use Rattle.in_syntax.specs.Steps.{at_term_end, after_port, body_with, step, at_state, with_types, with_symbol, with_rule, counts_of}
 use Rattle.in_syntax.specs.Trees.{bare, bare_head, bare_rule, with_argument, with_class, with_term}
@@ -149,7 +149,7 @@ at_head_name r o = by_sign (at_state r (state.HeadName o)) (at_state r (state.He
 at_rule_close : (r : Reader) (y : SourceRule) (p : Place) → CanEnd (at_state r (state.RuleClose y p))
 at_rule_close r y p = by_sign (at_state r (state.RuleClose y p)) (with_rule r y) false (Plain kind.Semicolon) refl (at_item (with_rule r y))
 
-at_equation : (r : Reader) (b : Body) → CanEnd (at_state r (state.Equation b))
+at_equation : (r : Reader) (b : EquationsOf) → CanEnd (at_state r (state.Equation b))
 at_equation r (body.Net n) = at_net_equation r n
 at_equation r (body.Rule y p) = by_sign (at_state r (state.Equation (body.Rule y p))) (at_state r (state.RuleClose y p)) false (Plain kind.CloseBrace) refl (at_rule_close r y p)
 
@@ -165,13 +165,13 @@ ActsAs r p b t = (x : Sign) → IsPast x → step (counts_of r) p x ≡ at_term_
 abbrev nest : TermOf → List Term → Nest
 nest of around = record { of = of; around = around }
 
-after_right : (r : Reader) (p : State) (b : Body) (l t : Term) (tilde : Place) → ActsAs r p (nest (Right b l tilde) []) t → CanEnd (at_state r p)
+after_right : (r : Reader) (p : State) (b : EquationsOf) (l t : Term) (tilde : Place) → ActsAs r p (nest (Right b l tilde) []) t → CanEnd (at_state r p)
 after_right r p b l t tilde acts =
     by_sign (at_state r p) (at_state r (state.Equation (body_with b (record { left = l; tilde = tilde; right = t })))) false (Plain kind.Semicolon)
     (ap (turn_of r) (acts (Plain kind.Semicolon) tt)) (at_equation r (body_with b (record { left = l; tilde = tilde; right = t })))
 
 -- a name on the right
-at_right : (r : Reader) (b : Body) (l : Term) (tilde : Place) → CanEnd (at_state r (state.TermName (nest (Right b l tilde) [])))
+at_right : (r : Reader) (b : EquationsOf) (l : Term) (tilde : Place) → CanEnd (at_state r (state.TermName (nest (Right b l tilde) [])))
 at_right r b l tilde =
     by_sign (at_state r (state.TermName (nest (Right b l tilde) []))) (at_state r (state.TermOpen (nest (Right b l tilde) []) some_name)) false (Named some_name) refl
     (after_right r (state.TermOpen (nest (Right b l tilde) []) some_name) b l (bare some_name) tilde (open_past (nest (Right b l tilde) []) some_name))

@@ -27,8 +27,8 @@ use Rattle.in_syntax.specs.declared.states.HeadOf.{HeadOf}
 use Rattle.in_syntax.specs.declared.states.HeadOf.TheVariants.{First, Second}
 use Rattle.in_syntax.specs.declared.states.TermOf.TheVariants.{Left, Right, Inside}
 use Rattle.in_syntax.specs.declared.states.Nest.{Nest}
-use Rattle.in_syntax.specs.declared.states.Body.{Body}
-use Rattle.in_syntax.specs.declared.states.Body.TheVariants as body
+use Rattle.in_syntax.specs.declared.states.EquationsOf.{EquationsOf}
+use Rattle.in_syntax.specs.declared.states.EquationsOf.TheVariants as body
 use Rattle.in_syntax.specs.Grammar.{Spelling, marked, within, plain, separated, numbered, spell_auxiliary, spell_class, spell_classes, spell_symbol, spell_type, spell_types, spell_arguments, spell_term, spell_outermost, spell_head, spell_with, StandAfterWord, spell_rule, spell_equation, spell_free, spell_net, max_types, max_depth, Item, types, symbol, rule, none_yet, counted, spell_items, IsItem, types_in, symbols_in, rules_in, GrammarProgram, spelling}
 use Rattle.in_syntax.specs.Steps.{at_term_open, at_term_end, after_port, body_with, step, at_state, with_types, with_symbol, with_rule, counts_of, between_items, start}
 use Rattle.in_syntax.specs.Trees.{bare, bare_head, bare_rule, with_argument, with_class, with_term}
@@ -280,19 +280,19 @@ path_term t r b = path_terms (height t) t r b (omega arith)
 
 -- ---- equations
 
-abbrev left_of : Body → Nest
+abbrev left_of : EquationsOf → Nest
 left_of b = record { of = Left b; around = [] }
 
-abbrev right_of : Body → Term → Place → Nest
+abbrev right_of : EquationsOf → Term → Place → Nest
 right_of b l p = record { of = Right b l p; around = [] }
 
-path_left : (t : Term) (r : Reader) (b : Body) → Path (at_state r (state.Equation b)) (spell_term t 1) (at_state r (ended (left_of b) t))
+path_left : (t : Term) (r : Reader) (b : EquationsOf) → Path (at_state r (state.Equation b)) (spell_term t 1) (at_state r (ended (left_of b) t))
 path_left t r b =
     let p : Path (at_state r (state.TermName (left_of b))) (marked false (Named (out-Term t).name) ∷ spell_arguments (arguments_at 2 (out-Term t).args)) (at_state r (ended (left_of b) t)) =
     subst (λ z. Path (at_state r (state.TermName (left_of b))) z (at_state r (ended (left_of b) t))) (spell_out t 1) (path_term t r (left_of b)) in
     subst (λ z. Path (at_state r (state.Equation b)) z (at_state r (ended (left_of b) t))) (sym (spell_out t 1)) (p.0, p.1, p.2)
 
-path_equation : (e : Equation) (r : Reader) (b : Body) → Path (at_state r (state.Equation b)) (spell_equation e) (at_state r (state.Equation (body_with b e)))
+path_equation : (e : Equation) (r : Reader) (b : EquationsOf) → Path (at_state r (state.Equation b)) (spell_equation e) (at_state r (state.Equation (body_with b e)))
 path_equation e r b =
     join (spell_term e.left 1 ++ within (Tilde e.tilde) ∷ spell_term e.right 1) (plain kind.Semicolon ∷ []) (at_state r (state.Equation b)) (at_state r (ended (right_of b e.left e.tilde) e.right))
     (at_state r (state.Equation (body_with b e)))
@@ -302,19 +302,19 @@ path_equation e r b =
     (at_state r (state.Equation (body_with b e)), ended_turn r (right_of b e.left e.tilde) e.right (Plain kind.Semicolon) tt, refl)
 
 -- with these equations more
-abbrev body_and : Body → List Equation → Body
+abbrev body_and : EquationsOf → List Equation → EquationsOf
 body_and (body.Net n) es = body.Net (record { free = n.free; equations = n.equations ++ es })
 body_and (body.Rule y p) es = body.Rule (record { first = y.first; second = y.second; equations = y.equations ++ es }) p
 
-and_none : (b : Body) → b ≡ body_and b []
+and_none : (b : EquationsOf) → b ≡ body_and b []
 and_none (body.Net n) = ap (λ z. body.Net (record { free = n.free; equations = z })) (sym (append-nil n.equations))
 and_none (body.Rule y p) = ap (λ z. body.Rule (record { first = y.first; second = y.second; equations = z }) p) (sym (append-nil y.equations))
 
-and_more : (b : Body) (e : Equation) (es : List Equation) → body_and (body_with b e) es ≡ body_and b (e ∷ es)
+and_more : (b : EquationsOf) (e : Equation) (es : List Equation) → body_and (body_with b e) es ≡ body_and b (e ∷ es)
 and_more (body.Net n) e es = ap (λ z. body.Net (record { free = n.free; equations = z })) (append_assoc n.equations (e ∷ []) es)
 and_more (body.Rule y p) e es = ap (λ z. body.Rule (record { first = y.first; second = y.second; equations = z }) p) (append_assoc y.equations (e ∷ []) es)
 
-path_equations : (es : List Equation) (r : Reader) (b : Body) → Path (at_state r (state.Equation b)) (flat_map spell_equation es) (at_state r (state.Equation (body_and b es)))
+path_equations : (es : List Equation) (r : Reader) (b : EquationsOf) → Path (at_state r (state.Equation b)) (flat_map spell_equation es) (at_state r (state.Equation (body_and b es)))
 path_equations [] r b = ap (λ z. at_state r (state.Equation z)) (and_none b)
 path_equations (e ∷ es) r b =
     join (spell_equation e) (flat_map spell_equation es) (at_state r (state.Equation b)) (at_state r (state.Equation (body_with b e)))

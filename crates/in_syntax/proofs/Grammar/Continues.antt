@@ -24,8 +24,8 @@ use Rattle.in_syntax.specs.declared.states.HeadOf.TheVariants.{First, Second}
 use Rattle.in_syntax.specs.declared.states.TermOf.{TermOf}
 use Rattle.in_syntax.specs.declared.states.TermOf.TheVariants.{Left, Right, Inside}
 use Rattle.in_syntax.specs.declared.states.Nest.{Nest}
-use Rattle.in_syntax.specs.declared.states.Body.{Body}
-use Rattle.in_syntax.specs.declared.states.Body.TheVariants as body_of
+use Rattle.in_syntax.specs.declared.states.EquationsOf.{EquationsOf}
+use Rattle.in_syntax.specs.declared.states.EquationsOf.TheVariants as body_of
 use Rattle.in_syntax.specs.Grammar.{Spelling, is_with}
 use Rattle.in_syntax.specs.Programs.{Begins, name_at, sign_at, sign_of, signs_of, signs, unmarked}
 use Rattle.in_syntax.specs.Expecting.{follows_term, takes, Section, between, types, symbol, ports, head, terms, free, free_port, body, after_body, further, section_from, section, IsAt, IsExpected, IsNotedOf}
@@ -211,7 +211,7 @@ follows_with : (f h : Head) (n : Name) (b : Bool) → Follows terms (Named n) (a
 follows_with f h n true = refl
 follows_with f h n false = tt
 
-follows_equations : (b : Body) → section_of (after_equations b) ≡ after_body
+follows_equations : (b : EquationsOf) → section_of (after_equations b) ≡ after_body
 follows_equations (body_of.Net n) = refl
 follows_equations (body_of.Rule y p) = refl
 

@@ -29,8 +29,8 @@ use Rattle.in_syntax.specs.declared.states.HeadOf.TheVariants.{First, Second}
 use Rattle.in_syntax.specs.declared.states.TermOf.{TermOf}
 use Rattle.in_syntax.specs.declared.states.TermOf.TheVariants.{Left, Right, Inside}
 use Rattle.in_syntax.specs.declared.states.Nest.{Nest}
-use Rattle.in_syntax.specs.declared.states.Body.{Body}
-use Rattle.in_syntax.specs.declared.states.Body.TheVariants as body
+use Rattle.in_syntax.specs.declared.states.EquationsOf.{EquationsOf}
+use Rattle.in_syntax.specs.declared.states.EquationsOf.TheVariants as body
 use Rattle.in_syntax.specs.Grammar.{Marked, Spelling, marked, within, named, plain, separated, numbered, spell_port, spell_auxiliary, spell_classes, spell_symbol, spell_type, spell_types, spell_arguments, spell_level, spell_term, spell_outermost, spell_head, with_word, is_with, word_at, spell_with, StandAfterWord, spell_rule, spell_equation, spell_free, spell_net, max_symbols, max_rules, max_free, max_ports, max_depth, Item, types, symbol, rule, none_yet, counted, spell_item, spell_items, IsItem, types_in, symbols_in, rules_in}
 use Rattle.in_syntax.specs.Steps.{Step, goes, adds_types, adds_symbol, adds_rule, stuck, at_item, at_type_name, at_type_end, at_symbol_name, at_symbol_colon, at_port_kind, after_port, at_port_sign, at_symbol_end, at_class_end, at_head_name, at_head_open, at_head_first, at_with, at_head_end, at_rule_open, at_rule_close, at_net_open, at_free_first, at_free_name, at_free_colon, at_free_end, at_body_open, at_equation, at_term_name, after_argument, after_left, after_right, after_head_term, after_outermost, after_term, at_term_end, at_term_open, step, at_state, with_types, with_symbol, with_rule, counts_of, start}
 use Rattle.in_syntax.specs.Trees.{bare, bare_head, with_argument}
@@ -84,7 +84,7 @@ abbrev pub heads_front : Counts → Head → Head → Spelling
 heads_front c f h = marked (nat_lt max_rules (c.rules + 1)) (Plain kind.Rule) ∷ (spell_head f ++ plain kind.Meets ∷ spell_head h)
 
 -- up to where the next equation begins
-abbrev pub body_front : Counts → Body → Spelling
+abbrev pub body_front : Counts → EquationsOf → Spelling
 body_front c (body.Net n) = net_front n
 body_front c (body.Rule y p) = heads_front c y.first y.second ++ named (word_at p) ∷ plain kind.OpenBrace ∷ flat_map spell_equation y.equations
 
@@ -340,14 +340,14 @@ keeps_body_open : (k : Counts) (fs : List SourceFree) (x : Sign) → Keeps k (st
 keeps_body_open k fs (Plain kind.OpenBrace) = (tt, simp append_assoc)
 keeps_body_open k fs _ = tt
 
-keeps_closing : (k : Counts) (b : Body) → Keeps k (state.Equation b) (Plain kind.CloseBrace) (at_equation b (Plain kind.CloseBrace))
+keeps_closing : (k : Counts) (b : EquationsOf) → Keeps k (state.Equation b) (Plain kind.CloseBrace) (at_equation b (Plain kind.CloseBrace))
 keeps_closing k (body.Net n) = (tt, simp append_assoc)
 keeps_closing k (body.Rule y p) = (
   tt,
   sym (append_assoc (heads_front k y.first y.second) (named (word_at p) ∷ plain kind.OpenBrace ∷ flat_map spell_equation y.equations) (plain kind.CloseBrace ∷ [])),
 )
 
-keeps_equation : (k : Counts) (b : Body) (x : Sign) → Keeps k (state.Equation b) x (at_equation b x)
+keeps_equation : (k : Counts) (b : EquationsOf) (x : Sign) → Keeps k (state.Equation b) x (at_equation b x)
 keeps_equation k b (Named m) = (tt, ap (λ z. z ++ named m ∷ []) (append-nil (body_front k b)))
 keeps_equation k b (Plain kind.CloseBrace) = keeps_closing k b
 keeps_equation k b _ = tt
@@ -427,7 +427,7 @@ keeps_after_argument k of around outer t (Plain kind.CloseParenthesis) = (
 )
 keeps_after_argument k of around outer t _ = tt
 
-keeps_after_left : (k : Counts) (b : Body) (t : Term) (x : Sign) → Keeps k (state.TermEnd (record { of = Left b; around = [] }) t) x (after_left b t x)
+keeps_after_left : (k : Counts) (b : EquationsOf) (t : Term) (x : Sign) → Keeps k (state.TermEnd (record { of = Left b; around = [] }) t) x (after_left b t x)
 keeps_after_left k b t (Tilde p) = (
   tt,
   append-nil ((body_front k b ++ spell_term t 1) ++ within (Tilde p) ∷ [])
@@ -435,7 +435,7 @@ keeps_after_left k b t (Tilde p) = (
 )
 keeps_after_left k b t _ = tt
 
-keeps_after_right : (k : Counts) (b : Body) (l : Term) (p : Place) (t : Term) (x : Sign) →
+keeps_after_right : (k : Counts) (b : EquationsOf) (l : Term) (p : Place) (t : Term) (x : Sign) →
     Keeps k (state.TermEnd (record { of = Right b l p; around = [] }) t) x (after_right b l p t x)
 keeps_after_right k (body.Net n) l p t (Plain kind.Semicolon) = (
   tt,

@@ -1,5 +1,5 @@
 use Rattle.std.proofs.Common.{◌∙◌, ◌++◌, ◌∷◌, [], sym, ap, arith, length}
-use Rattle.in_net.specs.declared.reading.Spot.TheVariants.{Port}
+use Rattle.in_net.specs.declared.reading.TextSpot.TheVariants.{Port}
 use Rattle.in_net.proofs.WholeNets.Ports.{one_more}
 use Rattle.in_net.proofs.reading.add_agent.Goals as goal
 

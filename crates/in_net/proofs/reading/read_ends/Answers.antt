@@ -1,5 +1,5 @@
 use Rattle.std.proofs.Common.{◌≡◌, ◌∙◌, ◌+◌, ◌-◌, ◌++◌, ◌∷◌, [], suc, ap, sym, arith, append_assoc}
-use Rattle.in_net.specs.declared.reading.Spot.TheVariants.{End}
+use Rattle.in_net.specs.declared.reading.TextSpot.TheVariants.{End}
 use Rattle.in_net.specs.Reading.{boundary_spots}
 use Rattle.in_net.proofs.reading.read_ends.Goals as goal
 
