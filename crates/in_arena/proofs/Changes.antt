@@ -2,10 +2,10 @@
 use Rattle.std.proofs.Common.{◌≡◌, ℕ, zero, suc, ◌+◌, ◌*◌, ◌-◌, ◌<◌, ◌≤◌, List, take, drop, length, set, get_or, count_by, sym, ap, ◌∙◌, subst, ⊎_elim, arith, get_or-set_other}
 use Rattle.std.proofs.Math.Nat.{suc-mul}
 use Rattle.std.proofs.lemmas.Bool.{cases_lt}
-use Rattle.std.proofs.lemmas.List.{drop-set-add, drop-set-lt, take-set-le, get_or-take, get_or-drop, length-take, length-drop}
+use Rattle.std.proofs.lemmas.List.{drop-set-add, drop-set-lt, take-set-le, get_or-take, get_or-drop, length-take, length-drop, set-get_or}
 use Rattle.std.proofs.lemmas.List.Sums.{sum_by-set}
-use Rattle.in_arena.specs.Arenas.{ArenaView, IsOf, changed, free_of, part_of, state_at}
-use Rattle.in_arena.specs.Changes.{HasAllCells, one_if_free, FreeCountsChange, LeaseTakesOne, LeasesStay, LeasesDiffer}
+use Rattle.in_arena.specs.Arenas.{ArenaView, BeginsCell, IsOf, changed, free_of, part_of, state_at}
+use Rattle.in_arena.specs.Changes.{AllButOneStay, HasAllCells, OneFewerIsFree, one_if_free, FreeCountsChange, LeaseTakesOne, LeasesStay, LeasesDiffer}
 use Rattle.in_arena.specs.Classes.{classes, class_no, IsNumberOf}
 use Rattle.in_arena.specs.States.{State, Leased, IsLeased, is_vacant}
 use Rattle.in_arena.specs.declared.content.CellClass.{CellClass}
@@ -77,6 +77,25 @@ lease_takes_one a b c l all made =
       omega (arith, first, was, ap (λ v. free_of v c) made.3),
       λ d apart. ap (λ v. free_of v d) made.3 ∙ counts.1 d apart,
     )
+
+pub begun_takes_one : (a b : ArenaView) (c : CellClass) (word places n : ℕ) → HasAllCells a → BeginsCell c word places a n b → OneFewerIsFree c a b
+begun_takes_one a b c word places n all begun =
+    let counts = counts_change a n c begun.state all begun.at in
+    let was : one_if_free (state_at a n) ≡ 1 = ap one_if_free begun.was in
+    let none : one_if_free begun.state ≡ 0 = ap one_if_free begun.begun.2 in
+    let first = counts.0 in (
+      omega (arith, first, was, none, ap (λ v. free_of v c) begun.arena),
+      λ d apart. ap (λ v. free_of v d) begun.arena ∙ counts.1 d apart,
+    )
+
+-- ---- the other cells
+
+pub others_stay : (a b : ArenaView) (n : ℕ) (x : State) → b ≡ changed a n x → AllButOneStay n a b
+others_stay a b n x change m other = ap (λ v. state_at v m) change ∙ get_or-set_other a.states n m x Leased other
+
+-- a cell that is changed to what it is
+pub changed_to_itself : (a : ArenaView) (n : ℕ) → changed a n (state_at a n) ≡ a
+changed_to_itself a n = λ i. record { memory = a.memory; cells = a.cells; states = set-get_or a.states n Leased i }
 
 -- ---- a lease stays one of its arena
 

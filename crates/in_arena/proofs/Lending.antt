@@ -14,11 +14,12 @@ use Rattle.in_arena.proofs.Changes.{lease_takes_one}
 
 -- ---- how often a number is in a list
 
+-- one for this number
+abbrev pub one_at : ℕ → ℕ → ℕ
+one_at n k = cond (eqb k n) 1 0
+
 pub times-cons : (n m : ℕ) (ns : List ℕ) → times n (m ∷ ns) ≡ cond (eqb m n) 1 0 + times n ns
 times-cons n m ns = sum_by-cons (λ k. cond (eqb k n) 1 0) m ns
-
-pub times-append : (n : ℕ) (ns ms : List ℕ) → times n (ns ++ ms) ≡ times n ns + times n ms
-times-append n ns ms = sum_by-append (λ k. cond (eqb k n) 1 0) ns ms
 
 pub times_push : (n : ℕ) (ns : List ℕ) (m : ℕ) → times n (ns ++ m ∷ []) ≡ times n ns + cond (eqb m n) 1 0
 times_push n ns m = sum_by_push (λ k. cond (eqb k n) 1 0) ns m
@@ -171,7 +172,7 @@ lends_append a b c ls ms first second =
         each = All-append (λ (l : LeaseView). IsOf l c) ls ms
             (All-weaker (λ (l : LeaseView). IsOf l b) (λ (l : LeaseView). IsOf l c) (λ l is. subst (λ v. IsOf l v) (sym second.arena) (still_leased b l (numbers ms) is)) ls first.of.each) second.of.each;
         once = λ j.
-            let sum : times j (numbers (ls ++ ms)) ≡ times j (numbers ls) + times j (numbers ms) = ap (times j) (numbers-append ls ms) ∙ times-append j (numbers ls) (numbers ms) in
+            let sum : times j (numbers (ls ++ ms)) ≡ times j (numbers ls) + times j (numbers ms) = ap (times j) (numbers-append ls ms) ∙ sum_by-append (one_at j) (numbers ls) (numbers ms) in
             let one = first.of.once j in let other = second.of.once j in
             ⊎_elim (λ (lt : 0 < times j (numbers ms)).
             let none = before j (among (λ n. state_at b n ≡ Vacant) (numbers ms) j second.free lt) in omega arith)
@@ -239,13 +240,13 @@ left_back a b c xs ys l split new left =
 pub first_of : (a : ArenaView) (xs ys : List LeaseView) → AreOf a (xs ++ ys) → AreOf a xs
 first_of a xs ys all = record {
   each = λ i d lt. subst (λ (l : LeaseView). IsOf l a) (get_or_append_left xs ys d i lt) (all.each i d (omega (arith, length-append xs ys)));
-  once = λ j. omega (arith, all.once j, ap (times j) (numbers-append xs ys), times-append j (numbers xs) (numbers ys));
+  once = λ j. omega (arith, all.once j, ap (times j) (numbers-append xs ys), sum_by-append (one_at j) (numbers xs) (numbers ys));
 }
 
 pub second_of : (a : ArenaView) (xs ys : List LeaseView) → AreOf a (xs ++ ys) → AreOf a ys
 second_of a xs ys all = record {
   each = λ i d lt. subst (λ (l : LeaseView). IsOf l a) (get_or-append-add xs ys i d) (all.each (length xs + i) d (omega (arith, length-append xs ys)));
-  once = λ j. omega (arith, all.once j, ap (times j) (numbers-append xs ys), times-append j (numbers xs) (numbers ys));
+  once = λ j. omega (arith, all.once j, ap (times j) (numbers-append xs ys), sum_by-append (one_at j) (numbers xs) (numbers ys));
 }
 
 pub rest_of : (a b : ArenaView) (xs ys : List LeaseView) (x : State) → AreOf a (xs ++ ys) → b ≡ with_all a (numbers xs) x → AreOf b ys
@@ -255,7 +256,7 @@ rest_of a b xs ys x all new =
     record {
       each = λ i d lt. subst (λ v. IsOf (get_or ys i d) v) (sym new)
           (still_of a (get_or ys i d) (numbers xs) x (rest.each i d lt)
-          (let j = (get_or ys i d).number in omega (arith, here i d lt, all.once j, ap (times j) (numbers-append xs ys), times-append j (numbers xs) (numbers ys))));
+          (let j = (get_or ys i d).number in omega (arith, here i d lt, all.once j, ap (times j) (numbers-append xs ys), sum_by-append (one_at j) (numbers xs) (numbers ys))));
       once = rest.once;
     }
 

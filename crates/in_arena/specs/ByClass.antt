@@ -96,15 +96,16 @@ abbrev pub Lend : Regions → CellClass → Option HeldCell → Regions → Type
 Lend r c None s = (count_by is_vacant (row_of r c) ≡ 0) × (s ≡ r)
 Lend r c (Some h) s = ((cell_view h).class ≡ c) × (cell_at r c (index_of h) ≡ Vacant) × Become r s c (index_of h) Leased × IsCellOf h s × ((cell_view h).state ≡ Vacant)
 
--- a cell of this class that was free is live with this symbol word and so many ends, which are open; or none was free
-abbrev pub Begin : Regions → CellClass → ℕ → ℕ → Option ℕ → Regions → Type 0
-Begin r c word count None s = (count_by is_vacant (row_of r c) ≡ 0) × (s ≡ r)
-Begin r c word count (Some i) s = (cell_at r c i ≡ Vacant) × ((x : State) × IsBegun word count x × Become r s c i x)
+module _ (r : Regions) (c : CellClass) (word count : ℕ) where
+  -- a cell of this class that was free is live with this symbol word and so many ends, which are open; or none was free
+  abbrev pub Begin : Option ℕ → Regions → Type 0
+  Begin None s = (count_by is_vacant (row_of r c) ≡ 0) × (s ≡ r)
+  Begin (Some i) s = (cell_at r c i ≡ Vacant) × ((x : State) × IsBegun word count x × Become r s c i x)
 
--- .. and this is its number among the cells of all classes
-abbrev pub BeginNumber : Regions → CellClass → ℕ → ℕ → Option ℕ → Regions → Type 0
-BeginNumber r c word count None s = Begin r c word count None s
-BeginNumber r c word count (Some n) s = (i : ℕ) × (n ≡ class_no c * s.cells + i) × Begin r c word count (Some i) s
+  -- .. and this is its number among the cells of all classes
+  abbrev pub BeginNumber : Option ℕ → Regions → Type 0
+  BeginNumber None s = Begin None s
+  BeginNumber (Some n) s = (i : ℕ) × (n ≡ class_no c * s.cells + i) × Begin (Some i) s
 
 -- this number is that of a cell of this class, at this place of its region
 abbrev pub IsPlace : ℕ → ℕ → CellClass → ℕ → Type 0

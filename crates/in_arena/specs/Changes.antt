@@ -1,9 +1,9 @@
 -- An arena's counts and its leases after a change of a cell.
-use Rattle.std.specs.Prelude.{◌≡◌, ◌+◌, ◌*◌, ℕ, cond, length, Some}
+use Rattle.std.specs.Prelude.{◌≡◌, ◌≢◌, ◌+◌, ◌*◌, ℕ, cond, List, length, Some, slice_get}
 use Rattle.in_arena.specs.Arenas.{ArenaView, LeaseView, IsOf, Leases, changed, free_of, state_at}
 use Rattle.in_arena.specs.Bags.{BagsAreApart, IsBagOf, LeasesTo, empty_bag}
 use Rattle.in_arena.specs.Classes.{classes, IsNumberOf}
-use Rattle.in_arena.specs.States.{State, Vacant, Leased, is_vacant}
+use Rattle.in_arena.specs.States.{State, Vacant, Leased, IsLeased, is_vacant}
 use Rattle.in_arena.specs.declared.content.CellClass.{CellClass}
 use Rattle.in_arena.specs.declared.content.CellNo.{CellNo}
 
@@ -14,6 +14,30 @@ HasAllCells a = length a.states ≡ length classes * a.cells
 abbrev pub one_if_free : State → ℕ
 one_if_free x = cond (is_vacant x) 1 0
 
+-- the list names each cell once
+abbrev pub AreListedOnce : List CellNo → Type 0
+AreListedOnce ns = (j k : ℕ) (n : CellNo) → slice_get ns j ≡ Some n → slice_get ns k ≡ Some n → j ≡ k
+
+-- each cell that isn't in the list is as it was
+abbrev pub UnlistedStay : List CellNo → ArenaView → ArenaView → Type 0
+UnlistedStay ns old new = (n : ℕ) → ((k : ℕ) → slice_get ns k ≡ Some (record { 0 = n }) → ⊥) → state_at new n ≡ state_at old n
+
+-- each cell but this one is as it was
+abbrev pub AllButOneStay : ℕ → ArenaView → ArenaView → Type 0
+AllButOneStay n old new = (m : ℕ) → m ≢ n → state_at new m ≡ state_at old m
+
+-- each cell that was on lease still is
+abbrev pub LeasedStay : ArenaView → ArenaView → Type 0
+LeasedStay old new = (n : ℕ) → IsLeased (state_at old n) → IsLeased (state_at new n)
+
+-- of each class as many cells are free as before
+abbrev pub AsManyAreFree : ArenaView → ArenaView → Type 0
+AsManyAreFree old new = (c : CellClass) → free_of new c ≡ free_of old c
+
+-- of this class one fewer is free, and of each other class as many as before
+abbrev pub OneFewerIsFree : CellClass → ArenaView → ArenaView → Type 0
+OneFewerIsFree c old new = (free_of new c + 1 ≡ free_of old c) × ((d : CellClass) → (d ≡ c → ⊥) → free_of new d ≡ free_of old d)
+
 -- the free cells of the class of this cell are one more where it becomes free, and one fewer where it was; those of other classes are as many
 abbrev pub FreeCountsChange : Type 0
 FreeCountsChange = (a : ArenaView) (n : ℕ) (c : CellClass) (x : State) → HasAllCells a → IsNumberOf a.cells c n
@@ -21,8 +45,7 @@ FreeCountsChange = (a : ArenaView) (n : ℕ) (c : CellClass) (x : State) → Has
 
 -- where a cell is leased, one fewer of its class is free, and as many of each other class
 abbrev pub LeaseTakesOne : Type 0
-LeaseTakesOne = (a b : ArenaView) (c : CellClass) (l : LeaseView) → HasAllCells a → Leases a c (Some l) b
-    → (free_of b c + 1 ≡ free_of a c) × ((d : CellClass) → (d ≡ c → ⊥) → free_of b d ≡ free_of a d)
+LeaseTakesOne = (a b : ArenaView) (c : CellClass) (l : LeaseView) → HasAllCells a → Leases a c (Some l) b → OneFewerIsFree c a b
 
 abbrev pub AllCellsStay : Type 0
 AllCellsStay = (a : ArenaView) (n : ℕ) (x : State) → HasAllCells a → HasAllCells (changed a n x)

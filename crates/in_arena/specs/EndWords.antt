@@ -1,10 +1,11 @@
--- An end in one word of 64 bits. For a place of a cell its low 16 bits are the place, and above stands the number of the cell. For a free end these 16
--- bits are full, above stands its number, and the top bit is set: so what stands above is less than the number of cells for places of cells alone.
+-- An end in one word of 64 bits. For a place of a cell its low 16 bits are the place, and the bits above are the number of the cell. For a free end
+-- these 16 bits are full, the bits above are its number, and the top bit is set: so the bits above are less than the number of cells for places of
+-- cells alone.
 use Rattle.std.specs.Prelude.{◌≡◌, ◌≤◌, ◌<◌, ◌+◌, ◌-◌, ◌*◌, ◌/◌, ◌%◌, ℕ, nat_eq, if◌then◌else◌}
 use Rattle.in_arena.specs.declared.content.End.{End}
 use Rattle.in_arena.specs.declared.content.End.TheVariants.{Cell, Free}
 
--- from here on stands the number
+-- the number begins at this bit
 abbrev pub above : ℕ
 above = 65536
 

@@ -1,4 +1,4 @@
--- A region of cells of one width. What stands in its cells says which are free, leased or live.
+-- A region of cells of one width. The words of its cells say which are free, leased or live.
 use Rattle.std.specs.Prelude.{◌≡◌, ◌≢◌, ◌≤◌, ◌<◌, ◌+◌, ◌^◌, ℕ, zero, suc, List, [], ◌∷◌, length, map, take, sum_by, get_or, slice_set, replicate, count_by, Bool, true, false, Option, Some, None}
 use Rattle.std.specs.List.{AllByRecursion}
 use Rattle.in_arena.specs.States.{State, Vacant, Leased, Live, IsLeased, IsBegun, is_vacant}

@@ -8,7 +8,7 @@ use Rattle.in_arena.specs.declared.region.Region.{Region}
 use Rattle.in_arena.specs.declared.region.Sack.{Sack}
 
 module _ {W : ℕ} where
-  -- what stands in each cell, by its place in the region: a cell that isn't here is another owner's
+  -- the content of each cell, by its place in the region: a cell that isn't here is another owner's
   abbrev pub sack_states : Sack W → List State
   sack_states s = map state_of s.cells.slots
 

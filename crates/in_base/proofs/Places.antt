@@ -1,6 +1,7 @@
--- The element at a place of a list that grew at its end, of one in which one place was set, and of a mapped one.
-use Rattle.std.proofs.Common.{◌≡◌, ◌≢◌, ◌⊎◌, inl, inr, ◌<◌, ℕ, zero, suc, Option, Some, None, IsSome, List, [], ◌∷◌, ◌++◌, map, option_map, length, slice_get, set, refl, sym, ap, ◌∙◌, subst, arith}
-use Rattle.std.proofs.lemmas.Option.{slice_get-map, same_Some}
+-- The element at a place of a list that grew at its end, of one in which one place was set, of one cut before it, and of a mapped one.
+use Rattle.std.proofs.Common.{◌≡◌, ◌≢◌, ◌⊎◌, inl, inr, ◌<◌, ℕ, zero, suc, Option, Some, None, IsSome, List, [], ◌∷◌, ◌++◌, map, option_map, length, drop, slice_get, set, ◌+◌, refl, sym, ap, ◌∙◌, subst, arith}
+use Rattle.std.proofs.lemmas.List.{drop_more}
+use Rattle.std.proofs.lemmas.Option.{slice_get-map, same_Some, slice_get_within, get_or_from_slice_get}
 
 -- one place has one element
 pub some_same : {X : Type 0} (o : Option X) (x y : X) → o ≡ Some x → o ≡ Some y → x ≡ y
@@ -40,6 +41,10 @@ set_there (y ∷ ys) zero zero x h = absurd (h refl)
 set_there (y ∷ ys) zero (suc j) x h = refl
 set_there (y ∷ ys) (suc k) zero x h = refl
 set_there (y ∷ ys) (suc k) (suc j) x h = set_there ys k j x (λ e. h (ap suc e))
+
+-- what is left from an element on begins with it
+pub left_from : {X : Type 0} (xs : List X) (k : ℕ) (x : X) → slice_get xs k ≡ Some x → drop k xs ≡ x ∷ drop (k + 1) xs
+left_from xs k x e = drop_more xs k x (slice_get_within xs k x e) ∙ ap (λ z. z ∷ drop (k + 1) xs) (get_or_from_slice_get xs k x x e)
 
 -- a list with an element has a last one
 pub unsnoc : {X : Type 0} (xs : List X) → 0 < length xs → (ys : List X) × (y : X) × (xs ≡ ys ++ y ∷ [])

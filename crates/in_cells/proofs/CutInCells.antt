@@ -8,7 +8,6 @@ use Rattle.in_arena.specs.States.{end_at}
 use Rattle.in_arena.specs.declared.content.End.{End}
 use Rattle.in_arena.specs.declared.content.End.TheVariants as end
 use Rattle.in_net.specs.Nets.{Point, Port, Free, Net, IsPoint, Signature}
-use Rattle.in_gluing.proofs.Public.{same_point, same_free}
 use Rattle.in_cells.specs.Cells.{KeepsCells}
 use Rattle.in_cells.specs.Shown.{point_of, stands_at, IsPlaceAt, IsShown, AreExchanged}
 use Rattle.in_cells.proofs.AllShown.{take_at, place_within}
@@ -16,6 +15,7 @@ use Rattle.in_cells.proofs.Kept.{keep_on, word_kept}
 use Rattle.in_cells.proofs.Writes.{exchange_keeps, place_stays, stands_one, stands_two}
 use Rattle.in_cells.proofs.Writes.{stands_still}
 use Rattle.in_cells.specs.Cutting.{Shows, IsCutAt}
+use Rattle.in_interaction.proofs.Public.{same_free, same_point}
 
 -- where a point leads, something stands
 pub stands_some : (o : Option End) (v : Point ℕ) → option_map point_of o ≡ Some v → (e : End) × (o ≡ Some e) × (point_of e ≡ v)

@@ -4,7 +4,7 @@ use Rattle.std.proofs.lemmas.Bool.{cases_eq, cases_lt, le-ltb, lt-ltb}
 use Rattle.std.proofs.lemmas.List.{length-map, length-set}
 use Rattle.std.proofs.lemmas.Option.{same_Some, slice_get_within}
 use Rattle.in_arena.specs.Arenas.{ArenaView, NoneLeased, changed, free_of, state_at}
-use Rattle.in_arena.specs.Changes.{HasAllCells}
+use Rattle.in_arena.specs.Changes.{HasAllCells, LeasedStay}
 use Rattle.in_arena.specs.Classes.{Holds, classes, IsNumberOf}
 use Rattle.in_arena.specs.States.{State, Vacant, Leased, Live, IsLive, IsLeased, end_at, places, with_end, word_of}
 use Rattle.in_arena.specs.declared.content.CellNo.{CellNo}
@@ -220,7 +220,7 @@ module _ (number : ℕ → ℕ) (a b : ArenaView) (h : AreNumberedAnew number a 
   pub numbered_places : (y : ℕ) → places (state_at b y) ≡ places (state_at a y)
   numbered_places y = ap places (h.each y) ∙ places_moved (λ z. z) number (state_at a y)
 
-  pub numbered_leased_stays : (n : ℕ) → IsLeased (state_at a n) → IsLeased (state_at b n)
+  pub numbered_leased_stays : LeasedStay a b
   numbered_leased_stays n leased = subst IsLeased (sym (h.each n)) (leased_after (λ z. z) number (state_at a n) leased)
 
   pub numbered_was_leased : (n : ℕ) → IsLeased (state_at b n) → IsLeased (state_at a n)
@@ -242,7 +242,7 @@ module _ (number : ℕ → ℕ) (a b : ArenaView) (h : AreNumberedAnew number a 
   numbered_taken_out agents c out = record { gone = out.gone; others = λ y none. out.others y none ∙ h.each y }
 
 module _ (agents : List CellNo) (b c : ArenaView) (out : AreRetired agents b c) where
-  pub retired_leased_stays : ArePart b agents → (n : ℕ) → IsLeased (state_at b n) → IsLeased (state_at c n)
+  pub retired_leased_stays : ArePart b agents → LeasedStay b c
   retired_leased_stays part n leased = subst IsLeased (sym (out.others n (λ k s. live_in (state_at b n) (part.live k (record { 0 = n }) s) leased))) leased
 
   pub retired_was_leased : (n : ℕ) → IsLeased (state_at c n) → IsLeased (state_at b n)

@@ -5,8 +5,7 @@ use Rattle.std.specs.Prelude.{IsSome}
 use Rattle.in_base.proofs.Places.{some_same, is_some as some_here}
 use Rattle.in_arena.specs.Arenas.{ArenaView}
 use Rattle.in_arena.specs.declared.content.End.{End}
-use Rattle.in_gluing.proofs.Public.{same_point, same_free}
-use Rattle.in_interaction.proofs.Public.{has_value}
+use Rattle.in_interaction.proofs.Public.{has_value, same_free, same_point}
 use Rattle.in_net.specs.Nets.{Point, Port, Free, Net}
 use Rattle.in_gluing.specs.Joining.{JoinsEnds, WiresLeadBack, IsNeither, ArePartnersAfter}
 use Rattle.in_cells.specs.Cells.{KeepsCells}

@@ -19,7 +19,7 @@ use Rattle.in_gluing.proofs.Public.{mapped, beside_parts_are_nets}
 use Rattle.in_cells.specs.Shown.{point_of}
 use Rattle.in_gluing.specs.SideBySide.{IsThere, IsWiredWithin, StandBeside}
 use Rattle.in_cells.specs.Copying.{IsCopied, name_in, number_in}
-use Rattle.in_cells.specs.Laws.{moved_point, ShowsAll, AreTakenOut, LeadsIntoPart, AreEndsSplit, PartStandsBeside}
+use Rattle.in_cells.specs.Laws.{moved_point, ShowsAll, HasNoAgent, AreTakenOut, LeadsIntoPart, AreEndsSplit, PartStandsBeside}
 use Rattle.in_cells.proofs.Shown.{word_moved, end_moved, point_moved, end_live, NamedOr, named_or}
 use Rattle.in_cells.proofs.Beside.{placed, is_placed, at_placed}
 use Rattle.in_interaction.proofs.Public.{has_value}
@@ -45,7 +45,7 @@ shown_there a of_a n shows (Free k) v e =
     subst (λ l. k < l) shows.many (slice_get_within of_a k t.0 t.1)
 
 module _ (from left old new : ArenaView) (agents names : List CellNo) (numbers : List ℕ) (own origin : ℕ → ℕ) (place : ℕ → ℕ → ℕ) (of_from of_left of_new : List End) (ends : List (ℕ × ℕ)) (n m p : Net ℕ) (shows_n : ShowsAll from of_from n) (back : WiresLeadBack n)
-    (shows_m : ShowsAll left of_left m) (shows_p : ShowsAll new of_new p) (copied : IsCopied from agents numbers names old new) (empty : (y : ℕ) → word_of (state_at old y) ≡ None) (out : AreTakenOut agents own from left)
+    (shows_m : ShowsAll left of_left m) (shows_p : ShowsAll new of_new p) (copied : IsCopied from agents numbers names old new) (empty : HasNoAgent old) (out : AreTakenOut agents own from left)
     (from_where : (k : ℕ) (c : CellNo) → slice_get agents k ≡ Some c → origin (name_in names c.0) ≡ c.0)
     (closed : (k i : ℕ) (c : CellNo) (x : End) → slice_get agents k ≡ Some c → end_at (state_at from c.0) i ≡ Some x → LeadsIntoPart agents ends x) (split : AreEndsSplit m p agents (name_in names) own (number_in numbers) place of_from of_left of_new ends) where
   abbrev name : ℕ → ℕ
@@ -296,7 +296,14 @@ module _ (from left old new : ArenaView) (agents names : List CellNo) (numbers :
   -- ---- each of the two by itself
 
   back_left : WiresLeadBack m
-  back_left = (back_at, apart_at)
+  back_left = (
+    λ q r e. (let w = leads q r e in ap m.partner w.5 ∙ partner_out w.1 (stays_out w.0 w.1 w.2 w.4) ∙ ap (option_map kept) (back.0 w.0 w.1 w.4) ∙ ap (λ (z : Point ℕ). Some z) (sym w.3)),
+    λ q e. (
+        let w = leads q q e in
+        let same : w.1 ≡ w.0 = out_place w.1 (stays_out w.0 w.1 w.2 w.4) ∙ ap (placed number origin 0) (sym w.5 ∙ w.3) ∙ sym (out_place w.0 w.2) in
+        back.1 w.0 (w.4 ∙ ap (λ (z : Point ℕ). Some z) same)
+        ),
+  )
     where
       leads : (q r : Point ℕ) → m.partner q ≡ Some r → (u v : Point ℕ) × IsOut u × (q ≡ kept u) × (n.partner u ≡ Some v) × (r ≡ kept v)
       leads q r e =
@@ -304,32 +311,21 @@ module _ (from left old new : ArenaView) (agents names : List CellNo) (numbers :
           let t = mapped kept (n.partner x.0) r (sym (partner_out x.0 x.1) ∙ ap m.partner (sym x.2) ∙ e) in
           (x.0, t.0, x.1, x.2, t.1, sym t.2)
 
-      back_at : (q r : Point ℕ) → m.partner q ≡ Some r → m.partner r ≡ Some q
-      back_at q r e = let w = leads q r e in ap m.partner w.5 ∙ partner_out w.1 (stays_out w.0 w.1 w.2 w.4) ∙ ap (option_map kept) (back.0 w.0 w.1 w.4) ∙ ap (λ (z : Point ℕ). Some z) (sym w.3)
-
-      apart_at : (q : Point ℕ) → m.partner q ≡ Some q → ⊥
-      apart_at q e =
-          let w = leads q q e in
-          let same : w.1 ≡ w.0 = out_place w.1 (stays_out w.0 w.1 w.2 w.4) ∙ ap (placed number origin 0) (sym w.5 ∙ w.3) ∙ sym (out_place w.0 w.2) in
-          back.1 w.0 (w.4 ∙ ap (λ (z : Point ℕ). Some z) same)
-
   back_part : WiresLeadBack p
-  back_part = (back_at, apart_at)
+  back_part = (
+    λ q r e. (let w = leads q r e in ap p.partner w.5 ∙ partner_in w.1 (stays_in w.0 w.1 w.2 w.4) ∙ ap (option_map to) (back.0 w.0 w.1 w.4) ∙ ap (λ (z : Point ℕ). Some z) (sym w.3)),
+    λ q e. (
+        let w = leads q q e in
+        let same : w.1 ≡ w.0 = in_place w.1 (stays_in w.0 w.1 w.2 w.4) ∙ ap (placed number origin 1) (sym w.5 ∙ w.3) ∙ sym (in_place w.0 w.2) in
+        back.1 w.0 (w.4 ∙ ap (λ (z : Point ℕ). Some z) same)
+        ),
+  )
     where
       leads : (q r : Point ℕ) → p.partner q ≡ Some r → (u v : Point ℕ) × IsIn u × (q ≡ to u) × (n.partner u ≡ Some v) × (r ≡ to v)
       leads q r e =
           let x = from_in q r e in
           let t = mapped to (n.partner x.0) r (sym (partner_in x.0 x.1) ∙ ap p.partner (sym x.2) ∙ e) in
           (x.0, t.0, x.1, x.2, t.1, sym t.2)
-
-      back_at : (q r : Point ℕ) → p.partner q ≡ Some r → p.partner r ≡ Some q
-      back_at q r e = let w = leads q r e in ap p.partner w.5 ∙ partner_in w.1 (stays_in w.0 w.1 w.2 w.4) ∙ ap (option_map to) (back.0 w.0 w.1 w.4) ∙ ap (λ (z : Point ℕ). Some z) (sym w.3)
-
-      apart_at : (q : Point ℕ) → p.partner q ≡ Some q → ⊥
-      apart_at q e =
-          let w = leads q q e in
-          let same : w.1 ≡ w.0 = in_place w.1 (stays_in w.0 w.1 w.2 w.4) ∙ ap (placed number origin 1) (sym w.5 ∙ w.3) ∙ sym (in_place w.0 w.2) in
-          back.1 w.0 (w.4 ∙ ap (λ (z : Point ℕ). Some z) same)
 
   left_wired : (all : List ℕ) → ((x : ℕ) → IsSome (n.symbol x) → IsAmong x all) → IsWiredWithin m
   left_wired all among = record {
@@ -358,7 +354,7 @@ part_stands_beside from left old new agents names numbers own origin place of_fr
 -- .. and both are nets, where it is one
 pub split_are_nets : (sig : Signature) (from left old new : ArenaView) (agents names : List CellNo) (numbers : List ℕ) (own origin : ℕ → ℕ) (place : ℕ → ℕ → ℕ) (of_from of_left of_new : List End) (ends : List (ℕ × ℕ)) (n m p : Net ℕ) →
     IsNet sig n → ShowsAll from of_from n → ShowsAll left of_left m → ShowsAll new of_new p →
-    IsCopied from agents numbers names old new → ((y : ℕ) → word_of (state_at old y) ≡ None) → AreTakenOut agents own from left →
+    IsCopied from agents numbers names old new → HasNoAgent old → AreTakenOut agents own from left →
     ((k : ℕ) (c : CellNo) → slice_get agents k ≡ Some c → origin (name_in names c.0) ≡ c.0) →
     ((k i : ℕ) (c : CellNo) (x : End) → slice_get agents k ≡ Some c → end_at (state_at from c.0) i ≡ Some x → LeadsIntoPart agents ends x) →
     AreEndsSplit m p agents (name_in names) own (number_in numbers) place of_from of_left of_new ends →

@@ -7,14 +7,14 @@ use Rattle.std.proofs.lemmas.List.Sums.{sum_by_more, sum_by_more_le}
 use Rattle.std.proofs.lemmas.Option.{same_Some, slice_get_within, get_or_from_slice_get}
 use Rattle.std.specs.Cmp.{first_so, second_so}
 use Rattle.std.specs.Cmp.Derive.{both_true}
-use Rattle.in_arena.specs.Arenas.{ArenaView, BeginsCell, changed, free_of, state_at}
-use Rattle.in_arena.specs.Changes.{HasAllCells, one_if_free}
+use Rattle.in_arena.specs.Arenas.{ArenaView, BeginsCell, free_of, state_at}
+use Rattle.in_arena.specs.Changes.{AllButOneStay, HasAllCells, OneFewerIsFree}
 use Rattle.in_arena.specs.Classes.{Holds, holds, IsNumberOf, least, width}
 use Rattle.in_arena.specs.States.{State, Vacant, Leased, Live, IsLive, places, word_of}
 use Rattle.in_arena.specs.declared.content.CellClass.{CellClass}
 use Rattle.in_arena.specs.declared.content.CellClass.TheVariants.{Small, Large, Wide}
 use Rattle.in_arena.specs.declared.content.CellNo.{CellNo}
-use Rattle.in_arena.proofs.Public.{vacant_inside, counts_change}
+use Rattle.in_arena.proofs.Public.{begun_takes_one, others_stay, vacant_inside}
 use Rattle.in_cells.specs.Copying.{ArePart, LooksLike, HasCellsFor, is_for, name_in}
 use Rattle.in_cells.specs.CopyingSteps.{TakesCell, HasCell, HaveCellsBelow, HaveOwnCells}
 
@@ -63,24 +63,19 @@ name_there names n m c other = ap (λ (z : CellNo). z.0) (get_or-set_other names
 -- ---- one cell is taken
 
 module _ (old : ArenaView) (all : HasAllCells old) (y : State) (d : CellClass) (p w : ℕ) (many : p ≡ places y) (word : word_of y ≡ Some w) (held : Holds d p) (n : ℕ) (new : ArenaView) (b : BeginsCell d w p old n new) where
-  counts_are : (free_of (changed old n b.state) d + one_if_free (state_at old n) ≡ free_of old d + one_if_free b.state) × ((c : CellClass) → (c ≡ d → ⊥) → free_of (changed old n b.state) c ≡ free_of old c)
-  counts_are = counts_change old n d b.state all b.at
-
-  as_counted : (c : CellClass) → free_of new c ≡ free_of (changed old n b.state) c
-  as_counted c = ap (λ v. free_of v c) b.arena
+  fewer : OneFewerIsFree d old new
+  fewer = begun_takes_one old new d w p n all b
 
   left_by : (c : CellClass) → Holds c (places y) ⊎ (one_if (holds c (places y)) ≡ 0) → free_of new c + one_if (holds c (places y)) ≡ free_of old c
   left_by c (inl h) =
       let is : c ≡ d = apart (places y) d c (subst (Holds d) many held) h in
-      let first = counts_are.0 in
-      let was : one_if_free (state_at old n) ≡ 1 = ap one_if_free b.was in
-      let none : one_if_free b.state ≡ 0 = ap one_if_free b.begun.2 in
+      let first = fewer.0 in
       let one = one_for d (places y) (subst (Holds d) many held) in
-      subst (λ (z : CellClass). free_of new z + one_if (holds z (places y)) ≡ free_of old z) (sym is) (omega (arith, first, was, none, one, as_counted d))
+      subst (λ (z : CellClass). free_of new z + one_if (holds z (places y)) ≡ free_of old z) (sym is) (omega (arith, first, one))
   left_by c (inr none) =
       let other : c ≡ d → ⊥ = λ is. (let one = ap (λ (z : CellClass). one_if (holds z (places y))) is ∙ one_for d (places y) (subst (Holds d) many held) in omega (arith, one, none)) in
-      let rest = counts_are.1 c other in
-      omega (arith, none, rest, as_counted c)
+      let rest = fewer.1 c other in
+      omega (arith, none, rest)
 
   pub cell_taken : TakesCell y old n new
   cell_taken = record {
@@ -137,8 +132,8 @@ module _ (from : ArenaView) (agents : List CellNo) (old : ArenaView) (x : ℕ) (
     at_new : state_at now' n.0 ≡ t.state
     at_new = ap (λ v. state_at v n.0) t.arena ∙ get_or-set_same now.states n.0 t.state Leased (vacant_inside now n.0 t.was)
 
-    at_other : (m : ℕ) → m ≢ n.0 → state_at now' m ≡ state_at now m
-    at_other m ne = ap (λ v. state_at v m) t.arena ∙ get_or-set_other now.states n.0 m t.state Leased ne
+    at_other : AllButOneStay n.0 now now'
+    at_other = others_stay now now' n.0 t.state t.arena
 
     has_cell : HasCell (state_at from c.0) old now' n.0
     has_cell = record {

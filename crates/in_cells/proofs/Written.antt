@@ -1,7 +1,7 @@
 -- Agents are written in the cells that were taken for them, end by end.
 use Rattle.std.proofs.Common.{◌≡◌, ◌≢◌, ◌⊎◌, inl, inr, ◌≤◌, ◌<◌, ◌+◌, ◌*◌, ℕ, Some, None, List, [], ◌∷◌, ◌++◌, length, map, take, set, count_by, slice_get, refl, sym, ap, subst, ◌∙◌, get_or-set_same, get_or-set_other, arith}
 use Rattle.std.proofs.lemmas.Bool.{cases_eq, cases_lt}
-use Rattle.std.proofs.lemmas.List.{length-set, map-append, set-get_or, take_more, take_more_set, take_all}
+use Rattle.std.proofs.lemmas.List.{length-set, map-append, take_more, take_more_set, take_all}
 use Rattle.std.proofs.lemmas.Option.{same_Some, slice_get_within, get_or_from_slice_get}
 use Rattle.in_arena.specs.Arenas.{ArenaView, changed, free_of, state_at}
 use Rattle.in_arena.specs.Changes.{HasAllCells, one_if_free}
@@ -11,7 +11,7 @@ use Rattle.in_arena.specs.declared.content.CellClass.{CellClass}
 use Rattle.in_arena.specs.declared.content.CellNo.{CellNo}
 use Rattle.in_arena.specs.declared.content.End.{End}
 use Rattle.in_arena.specs.declared.content.End.TheVariants.{Cell, Free}
-use Rattle.in_arena.proofs.Public.{changed_twice, counts_change, class_of_number, live_inside}
+use Rattle.in_arena.proofs.Public.{changed_to_itself, changed_twice, counts_change, class_of_number, live_inside}
 use Rattle.in_cells.specs.Copying.{AreBelow, ArePart, LeadsInto, IsEndWithin, LooksLike, is_for, moved, moved_end, name_in, number_in, IsCopied}
 use Rattle.in_cells.specs.CopyingSteps.{HaveCellsBelow, HaveOwnCells, IsBeingMoved, AreMovedBelow}
 
@@ -35,9 +35,6 @@ like_parts w es Vacant e = absurd (let f : None ≡ Some w = e.0 in cc)
 like_parts w es Leased e = absurd (let f : None ≡ Some w = e.0 in cc)
 like_parts w es (Live v ds) e = (ds, ap (λ z. Live z ds) (same_Some v w e.0), e.1)
 
-same_cell : (a : ArenaView) (n : ℕ) → changed a n (state_at a n) ≡ a
-same_cell a n = λ i. record { memory = a.memory; cells = a.cells; states = set-get_or a.states n Leased i }
-
 -- ---- end by end
 
 module _ (name number : ℕ → ℕ) (x : State) (n : ℕ) (first : ArenaView) where
@@ -50,7 +47,7 @@ module _ (name number : ℕ → ℕ) (x : State) (n : ℕ) (first : ArenaView) w
         all = p.1;
         is = p.2;
         ends = q.0;
-        arena = sym (same_cell first n) ∙ ap (changed first n) q.1;
+        arena = sym (changed_to_itself first n) ∙ ap (changed first n) q.1;
         count = q.2;
         so_far = refl;
       }

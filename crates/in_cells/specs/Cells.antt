@@ -1,8 +1,8 @@
 -- What stays of an arena where only what places lead to is written.
 use Rattle.std.specs.Prelude.{◌≡◌, ℕ, map, Some}
-use Rattle.in_arena.specs.Arenas.{ArenaView, state_at, free_of}
+use Rattle.in_arena.specs.Arenas.{ArenaView, state_at}
+use Rattle.in_arena.specs.Changes.{AsManyAreFree}
 use Rattle.in_arena.specs.States.{State, Vacant, Leased, Live, word_of}
-use Rattle.in_arena.specs.declared.content.CellClass.{CellClass}
 use Rattle.in_arena.specs.declared.content.End.TheVariants as end
 use Rattle.in_symbols.specs.Tables.{Tables, IsSymbol}
 
@@ -17,7 +17,7 @@ pub record KeepsCells (old new : ArenaView) : Type 0 where
   pub memory : new.memory ≡ old.memory
   pub cells : new.cells ≡ old.cells
   pub outlines : map outline new.states ≡ map outline old.states
-  pub free : (c : CellClass) → free_of new c ≡ free_of old c
+  pub free : AsManyAreFree old new
 
 -- the symbol word of each live cell is the number of a symbol
 abbrev pub HasSymbols : Tables → ArenaView → Type 0

@@ -2,6 +2,7 @@
 -- project's own choice.
 use Rattle.std.specs.Prelude.{◌≡◌, ◌<◌, ◌≤◌, ◌+◌, ℕ, Bool, List, length, map, count_by, Some, slice_get, slice_index_or}
 use Rattle.in_arena.specs.Arenas.{ArenaView, free_of, state_at}
+use Rattle.in_arena.specs.Changes.{AreListedOnce}
 use Rattle.in_arena.specs.Classes.{Holds, holds, IsNumberOf}
 use Rattle.in_arena.specs.States.{State, Vacant, Leased, Live, IsLive, end_at, places, word_of}
 use Rattle.in_arena.specs.declared.content.CellClass.{CellClass}
@@ -18,7 +19,7 @@ name_in names n = (slice_index_or names n (record { 0 = 0 })).0
 abbrev pub number_in : List ℕ → ℕ → ℕ
 number_in ends k = slice_index_or ends k 0
 
--- an end, and what stands in a cell, where cells and free ends have these numbers
+-- an end, and the content of a cell, where cells and free ends have these numbers
 abbrev pub moved_end : (ℕ → ℕ) → (ℕ → ℕ) → End → End
 moved_end name number (Cell c i) = Cell (record { 0 = name c.0 }) i
 moved_end name number (Free k) = Free (number k)
@@ -37,7 +38,7 @@ LooksLike x y = (word_of y ≡ word_of x) × (places y ≡ places x)
 -- live cells, each once
 pub record ArePart (a : ArenaView) (agents : List CellNo) : Type 0 where
   pub live : (k : ℕ) (c : CellNo) → slice_get agents k ≡ Some c → IsLive (state_at a c.0)
-  pub once : (j k : ℕ) (c : CellNo) → slice_get agents j ≡ Some c → slice_get agents k ≡ Some c → j ≡ k
+  pub once : AreListedOnce agents
 
 -- the live cells are these
 abbrev pub AreAllLive : ArenaView → List CellNo → Type 0

@@ -15,7 +15,7 @@ pub record AreListedBelow (a : ArenaView) (x : ℕ) (cells : List CellNo) : Type
   pub all : (n : ℕ) → n < x → IsLive (state_at a n) → (k : ℕ) × (slice_get cells k ≡ Some (record { 0 = n }))
   pub rising : (j k : ℕ) (c d : CellNo) → j < k → slice_get cells j ≡ Some c → slice_get cells k ≡ Some d → c.0 < d.0
 
--- a free cell of the class for what stands there is live with the same symbol word and as many places
+-- a free cell of the class for that agent is live with the same symbol word and as many places
 pub record TakesCell (x : State) (old : ArenaView) (n : ℕ) (new : ArenaView) : Type 0 where
   pub class : CellClass
   pub held : Holds class (places x)
@@ -47,7 +47,7 @@ pub record HaveOwnCells (from : ArenaView) (agents names : List CellNo) (now : A
   pub each : (k : ℕ) (c : CellNo) → slice_get agents k ≡ Some c → LooksLike (state_at from c.0) (state_at now (name_in names c.0))
   pub once : HaveOwnNames agents names
 
--- what stands in a cell, its first i ends being written
+-- the content of a cell whose first i ends are written
 pub record IsBeingMoved (name number : ℕ → ℕ) (x : State) (n i : ℕ) (first now : ArenaView) : Type 0 where
   pub word : ℕ
   pub all : List End

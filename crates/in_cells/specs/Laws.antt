@@ -84,6 +84,10 @@ ends_of i first (suc k) = (i, first) ∷ ends_of i (suc first) k
 
 -- ---- agents that are taken out
 
+-- no agent is in its cells
+abbrev pub HasNoAgent : ArenaView → Type 0
+HasNoAgent a = (y : ℕ) → word_of (state_at a y) ≡ None
+
 -- these agents are gone, and the others are the same, where free ends have these numbers
 pub record AreTakenOut (agents : List CellNo) (own : ℕ → ℕ) (a b : ArenaView) : Type 0 where
   pub gone : (k : ℕ) (c : CellNo) → slice_get agents k ≡ Some c → state_at b c.0 ≡ Vacant
@@ -110,7 +114,7 @@ pub record AreEndsSplit (one two : Net ℕ) (agents : List CellNo) (name own num
 abbrev pub PartStandsBeside : Type 0
 PartStandsBeside = (from left old new : ArenaView) (agents names : List CellNo) (numbers : List ℕ) (own origin : ℕ → ℕ) (place : ℕ → ℕ → ℕ) (of_from of_left of_new : List End) (ends : List (ℕ × ℕ)) (n m p : Net ℕ) →
     ShowsAll from of_from n → WiresLeadBack n → ShowsAll left of_left m → ShowsAll new of_new p →
-    IsCopied from agents numbers names old new → ((y : ℕ) → word_of (state_at old y) ≡ None) → AreTakenOut agents own from left →
+    IsCopied from agents numbers names old new → HasNoAgent old → AreTakenOut agents own from left →
     ((k : ℕ) (c : CellNo) → slice_get agents k ≡ Some c → origin (name_in names c.0) ≡ c.0) →
     ((k i : ℕ) (c : CellNo) (x : End) → slice_get agents k ≡ Some c → end_at (state_at from c.0) i ≡ Some x → LeadsIntoPart agents ends x) →
     AreEndsSplit m p agents (name_in names) own (number_in numbers) place of_from of_left of_new ends →

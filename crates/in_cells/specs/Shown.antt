@@ -1,4 +1,4 @@
--- A net in cells. At each place of a cell, and in a list at the number of each free end, stands the end that it leads to.
+-- A net in cells. Each place of a cell, and a list at the number of each free end, has the end that it leads to.
 use Rattle.std.specs.Prelude.{◌≡◌, ◌⊎◌, ◌↔◌, ◌+◌, ◌<◌, ◌≤◌, ℕ, List, length, slice_get, slice_set, Option, Some, IsSome, option_map}
 use Rattle.in_arena.specs.Arenas.{ArenaView, state_at, changed}
 use Rattle.in_arena.specs.States.{word_of, places, end_at, with_end}
@@ -15,12 +15,12 @@ abbrev pub end_of : Point ℕ → End
 end_of (Port y i) = end.Cell (record { 0 = y }) i
 end_of (Free k) = end.Free k
 
--- what stands at a point
+-- the end that is written at a point
 abbrev pub stands_at : ArenaView → List End → Point ℕ → Option End
 stands_at a ends (Port y i) = end_at (state_at a y) i
 stands_at a ends (Free k) = slice_get ends k
 
--- the live cells are the net's agents, and its wires lead to what stands at their points
+-- the live cells are the net's agents, and its wires lead to the ends written at their points
 pub record IsShown (a : ArenaView) (ends : List End) (m : Net ℕ) : Type 0 where
   pub agents : (y : ℕ) → m.symbol y ≡ word_of (state_at a y)
   pub wires : (u : Point ℕ) → m.partner u ≡ option_map point_of (stands_at a ends u)
@@ -57,7 +57,7 @@ abbrev pub IsPointUpTo : ArenaView → ℕ → ℕ → ℕ → Point ℕ → Typ
 IsPointUpTo a own many e (Port y i) = i < places (state_at a y)
 IsPointUpTo a own many e (Free k) = (k < own) ⊎ IsSideBelow own many e (Free k)
 
--- the net is shown but for what leads to sides of boundary ends below this one, which are not joined yet: nothing is said of what stands at
+-- the net is shown but for what leads to sides of boundary ends below this one, which are not joined yet: nothing is said of the ends at
 -- a point that leads to such a side, unless it is one itself
 pub record IsShownUpTo (own many e : ℕ) (a : ArenaView) (ends : List End) (m : Net ℕ) : Type 0 where
   pub agents : (y s : ℕ) → (m.symbol y ≡ Some s) ↔ (word_of (state_at a y) ≡ Some s)

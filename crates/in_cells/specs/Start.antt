@@ -23,13 +23,13 @@ pub record AreLaid (t : Tables) (x : Interaction) (a : ArenaView) : Type 0 where
   pub places : (k s : ℕ) → (redex_of x).member.symbol k ≡ Some s → places (state_at a (x.name k)) ≡ suc ((signature_of t).arity s)
   pub wires : (k i l j : ℕ) → (redex_of x).member.partner (Port k i) ≡ Some (Port l j) → end_at (state_at a (x.name k)) i ≡ Some (end_of (Port (x.name l) j))
 
--- at the outer side of each boundary end stands what stood at its port, where a port of the pair is the outer side of its boundary end
+-- the outer side of each boundary end has what its port had, where a port of the pair is the outer side of its boundary end
 abbrev pub AreOuterSides : Tables → Interaction → ℕ → ArenaView → List End → Type 0
 AreOuterSides t x own old ends = (e : ℕ) (w : End) (v : Point ℕ) → e < length (redex_of x).member.free →
     end_at (state_at old (end_agent (signature_of t) (redex_of x) e)) (end_place (signature_of t) (redex_of x) e) ≡ Some w →
     IsOuterAt (signature_of t) (before x) (redex_of x) (point_of w) v → slice_get ends (own + e) ≡ Some (end_of v)
 
--- at its inner side stands what it leads to in the right member, where a boundary end is its inner side
+-- its inner side has what it leads to in the right member, where a boundary end is its inner side
 abbrev pub AreInnerSides : Interaction → ℕ → ℕ → List End → Type 0
 AreInnerSides x own many ends = (e : ℕ) (u v : Point ℕ) → (redex_of x).member.partner (Free e) ≡ Some u →
     IsInnerAt (before x) (redex_of x) x.name u v → slice_get ends (own + many + e) ≡ Some (end_of v)

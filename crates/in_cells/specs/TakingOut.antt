@@ -2,6 +2,7 @@
 -- anew. This project's own choice.
 use Rattle.std.specs.Prelude.{◌≡◌, ◌+◌, ℕ, List, length, count_by, Some, slice_get}
 use Rattle.in_arena.specs.Arenas.{ArenaView, free_of, state_at}
+use Rattle.in_arena.specs.Changes.{AsManyAreFree, UnlistedStay}
 use Rattle.in_arena.specs.Classes.{Holds, IsNumberOf}
 use Rattle.in_arena.specs.States.{Vacant, end_at, places}
 use Rattle.in_arena.specs.declared.content.CellClass.{CellClass}
@@ -10,15 +11,20 @@ use Rattle.in_arena.specs.declared.content.End.{End}
 use Rattle.in_arena.specs.declared.content.End.TheVariants.{Cell, Free}
 use Rattle.in_cells.specs.Copying.{is_for, moved}
 
--- each of these agents is in a cell of the class for its places
-abbrev pub AreClassed : ArenaView → List CellNo → Type 0
-AreClassed a agents = (k : ℕ) (c : CellNo) (d : CellClass) → slice_get agents k ≡ Some c → IsNumberOf a.cells d c.0 → Holds d (places (state_at a c.0))
+module _ (a : ArenaView) (agents : List CellNo) where
+  -- each of these agents is in a cell of the class for its places
+  abbrev pub AreClassed : Type 0
+  AreClassed = (k : ℕ) (c : CellNo) (d : CellClass) → slice_get agents k ≡ Some c → IsNumberOf a.cells d c.0 → Holds d (places (state_at a c.0))
+
+  -- in the other arena as many cells more are free of each class as these agents took
+  abbrev pub FreesCellsOf : ArenaView → Type 0
+  FreesCellsOf b = (d : CellClass) → free_of b d ≡ free_of a d + count_by (is_for a d) agents
 
 -- the cells of these agents are free, and all others are as they were
 pub record AreRetired (agents : List CellNo) (old new : ArenaView) : Type 0 where
   pub gone : (k : ℕ) (c : CellNo) → slice_get agents k ≡ Some c → state_at new c.0 ≡ Vacant
-  pub others : (y : ℕ) → ((k : ℕ) → slice_get agents k ≡ Some (record { 0 = y }) → ⊥) → state_at new y ≡ state_at old y
-  pub free : (d : CellClass) → free_of new d ≡ free_of old d + count_by (is_for old d) agents
+  pub others : UnlistedStay agents old new
+  pub free : FreesCellsOf old agents new
   pub memory : new.memory ≡ old.memory
   pub cells : new.cells ≡ old.cells
   pub many : length new.states ≡ length old.states
@@ -31,7 +37,7 @@ pub record AreLedTo (a : ArenaView) (ends : List End) : Type 0 where
 -- each place that leads to a free end leads to it under its new number, and all else is as it was
 pub record AreNumberedAnew (number : ℕ → ℕ) (old new : ArenaView) : Type 0 where
   pub each : (y : ℕ) → state_at new y ≡ moved (λ z. z) number (state_at old y)
-  pub free : (d : CellClass) → free_of new d ≡ free_of old d
+  pub free : AsManyAreFree old new
   pub memory : new.memory ≡ old.memory
   pub cells : new.cells ≡ old.cells
   pub many : length new.states ≡ length old.states

@@ -1,7 +1,7 @@
 -- Steps that are read one after another.
 use Rattle.std.proofs.Common.{◌≡◌, ◌≤◌, ◌+◌, ℕ, List, [], ◌∷◌, ◌++◌, append-nil, append_assoc, length, drop, slice_get, Option, Some, None, sym, ap, ◌∙◌, refl}
-use Rattle.std.proofs.lemmas.List.{drop_all, drop_more}
-use Rattle.std.proofs.lemmas.Option.{get_or_from_slice_get, slice_get_within}
+use Rattle.std.proofs.lemmas.List.{drop_all}
+use Rattle.in_base.proofs.Places.{left_from}
 use Rattle.in_open_nets.specs.declared.derivations.Step.{Step}
 use Rattle.in_certificates.specs.declared.given.GivenStep.{GivenStep}
 use Rattle.in_certificates.specs.Given.{before, step_of, steps_of}
@@ -14,9 +14,6 @@ after done (Some rest) = Some (done ++ rest)
 -- so many are read
 abbrev pub are_read : List ℕ → List GivenStep → ℕ → List Step → Type 0
 are_read parts given k done = after done (steps_of parts (drop k given)) ≡ steps_of parts given
-
-drop_at : {X : Type 0} (xs : List X) (k : ℕ) (x : X) → slice_get xs k ≡ Some x → drop k xs ≡ x ∷ drop (k + 1) xs
-drop_at xs k x e = drop_more xs k x (slice_get_within xs k x e) ∙ ap (λ z. z ∷ drop (k + 1) xs) (get_or_from_slice_get xs k x x e)
 
 after_none : (found : Option (List Step)) → after [] found ≡ found
 after_none None = refl
@@ -31,7 +28,7 @@ one_more done s (Some rest) = ap (λ (z : List Step). Some z) (append_assoc done
 
 -- the rest begins with this one
 rest_at : (parts : List ℕ) (given : List GivenStep) (k : ℕ) (g : GivenStep) → slice_get given k ≡ Some g → steps_of parts (drop k given) ≡ before (step_of parts g) (steps_of parts (drop (k + 1) given))
-rest_at parts given k g at = ap (λ (z : List GivenStep). steps_of parts z) (drop_at given k g at)
+rest_at parts given k g at = ap (λ (z : List GivenStep). steps_of parts z) (left_from given k g at)
 
 pub goes_on : (parts : List ℕ) (given : List GivenStep) (k : ℕ) (done : List Step) (g : GivenStep) (s : Step) → slice_get given k ≡ Some g → Some s ≡ step_of parts g → are_read parts given k done → are_read parts given (k + 1) (done ++ s ∷ [])
 goes_on parts given k done g s at is read =

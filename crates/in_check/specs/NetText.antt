@@ -108,7 +108,7 @@ pub record AreAgents {A : Type 0} (n : Net A) (xs : List A) : Type 0 where
   pub all : (x : A) → IsSome (n.symbol x) ↔ IsAmong x xs
   pub once : AreDifferent xs
 
--- it stands exactly a given number of times in the list
+-- it occurs exactly a given number of times in the list
 abbrev pub StandsTimes : {X : Type 0} → ℕ → X → List X → Type 0
 StandsTimes zero x [] = Unit {0}
 StandsTimes (suc n) x [] = ⊥

@@ -67,10 +67,18 @@ pub record IsMemberOf (t : Tables) (n : Parts) (m : MemberParts) : Type 0 where
 abbrev pub has_class : CellClass → AgentParts → Bool
 has_class c a = nat_eq (class_no a.class) (class_no c)
 
+-- each agent's cell is for its places
+abbrev pub AgentsFit : MemberParts → Type 0
+AgentsFit m = (k : ℕ) (a : AgentParts) → slice_get m.agents k ≡ Some a → Holds a.class (length a.ends)
+
+-- a wire leads back from where it leads to
+abbrev pub JointsLeadBack : MemberParts → Type 0
+JointsLeadBack m = (i j : Joint) → joint_at m i ≡ Some j → joint_at m j ≡ Some i
+
 -- each agent's cell is for its places; a wire leads back from where it leads to; of each class as many cells are needed as agents take one;
 -- and numbers fit
 pub record IsSoundMember (m : MemberParts) : Type 0 where
-  pub fits : (k : ℕ) (a : AgentParts) → slice_get m.agents k ≡ Some a → Holds a.class (length a.ends)
-  pub back : (i j : Joint) → joint_at m i ≡ Some j → joint_at m j ≡ Some i
+  pub fits : AgentsFit m
+  pub back : JointsLeadBack m
   pub counts : (c : CellClass) → count_of m.need c ≡ count_by (has_class c) m.agents
   pub few : length m.agents < 2 ^ 32

@@ -4,6 +4,7 @@ use Rattle.std.specs.Prelude.{◌≡◌, ◌+◌, ℕ, List, length, map, Some, 
 use Rattle.std.specs.List.{AllByRecursion}
 use Rattle.in_arena.specs.Arenas.{ArenaView, state_at}
 use Rattle.in_arena.specs.Bags.{IsInBag}
+use Rattle.in_arena.specs.Changes.{AreListedOnce}
 use Rattle.in_arena.specs.Classes.{IsNumberOf}
 use Rattle.in_arena.specs.States.{State, Vacant, Leased, Live, IsLive}
 use Rattle.in_arena.specs.declared.content.CellClass.{CellClass}
@@ -29,7 +30,7 @@ HasNoCell b = (n : ℕ) → state_at b n ≡ Leased
 -- the bag has these cells, each once, and no other
 pub record AreCellsOf (b : ArenaView) (ns : List CellNo) : Type 0 where
   pub each : (k : ℕ) (n : CellNo) → slice_get ns k ≡ Some n → IsInBag b n.0
-  pub once : (j k : ℕ) (n : CellNo) → slice_get ns j ≡ Some n → slice_get ns k ≡ Some n → j ≡ k
+  pub once : AreListedOnce ns
   pub only : (n : ℕ) → IsInBag b n → (k : ℕ) × (slice_get ns k ≡ Some (record { 0 = n }))
 
 -- .. and in each of them an agent is written

@@ -2,6 +2,7 @@
 -- project's own choice.
 use Rattle.std.specs.Prelude.{◌≡◌, ◌≤◌, ◌<◌, ◌+◌, ℕ, cond, List, length, take, count_by, Some, None, slice_get}
 use Rattle.in_arena.specs.Arenas.{ArenaView, changed, free_of, state_at}
+use Rattle.in_arena.specs.Changes.{AreListedOnce, UnlistedStay}
 use Rattle.in_arena.specs.Classes.{IsNumberOf}
 use Rattle.in_arena.specs.States.{State, Vacant, IsBegun, word_of}
 use Rattle.in_arena.specs.declared.content.CellClass.{CellClass}
@@ -14,8 +15,8 @@ pub record IsPut (m : MemberParts) (ns : List CellNo) (old new : ArenaView) : Ty
   pub count : length ns ≡ length m.agents
   pub each : (k : ℕ) (a : AgentParts) (n : CellNo) → slice_get m.agents k ≡ Some a → slice_get ns k ≡ Some n
       → IsNumberOf new.cells a.class n.0 × (word_of (state_at old n.0) ≡ None) × (state_at new n.0 ≡ content ns a)
-  pub once : (j k : ℕ) (n : CellNo) → slice_get ns j ≡ Some n → slice_get ns k ≡ Some n → j ≡ k
-  pub others : (n : ℕ) → ((k : ℕ) → slice_get ns k ≡ Some (record { 0 = n }) → ⊥) → state_at new n ≡ state_at old n
+  pub once : AreListedOnce ns
+  pub others : UnlistedStay ns old new
   pub memory : new.memory ≡ old.memory
   pub cells : new.cells ≡ old.cells
   pub many : length new.states ≡ length old.states
@@ -36,8 +37,8 @@ pub record AreBegunBelow (m : MemberParts) (old : ArenaView) (x : ℕ) (now : Ar
   pub count : length ns ≡ x
   pub each : (k : ℕ) (a : AgentParts) (n : CellNo) → slice_get m.agents k ≡ Some a → slice_get ns k ≡ Some n
       → IsNumberOf old.cells a.class n.0 × (state_at old n.0 ≡ Vacant) × IsBegun a.symbol.0 (length a.ends) (state_at now n.0)
-  pub once : (j k : ℕ) (n : CellNo) → slice_get ns j ≡ Some n → slice_get ns k ≡ Some n → j ≡ k
-  pub others : (n : ℕ) → ((k : ℕ) → slice_get ns k ≡ Some (record { 0 = n }) → ⊥) → state_at now n ≡ state_at old n
+  pub once : AreListedOnce ns
+  pub others : UnlistedStay ns old now
   pub free : (d : CellClass) → free_of now d + count_by (has_class d) (take x m.agents) ≡ free_of old d
   pub memory : now.memory ≡ old.memory
   pub cells : now.cells ≡ old.cells
@@ -47,7 +48,7 @@ pub record AreBegunBelow (m : MemberParts) (old : ArenaView) (x : ℕ) (now : Ar
 pub record ArePutBelow (m : MemberParts) (ns : List CellNo) (begun : ArenaView) (x : ℕ) (now : ArenaView) : Type 0 where
   pub each : (k : ℕ) (a : AgentParts) (n : CellNo) → k < x → slice_get m.agents k ≡ Some a → slice_get ns k ≡ Some n → state_at now n.0 ≡ content ns a
   pub rest : (k : ℕ) (n : CellNo) → x ≤ k → slice_get ns k ≡ Some n → state_at now n.0 ≡ state_at begun n.0
-  pub others : (n : ℕ) → ((k : ℕ) → slice_get ns k ≡ Some (record { 0 = n }) → ⊥) → state_at now n ≡ state_at begun n
+  pub others : UnlistedStay ns begun now
   pub memory : now.memory ≡ begun.memory
   pub cells : now.cells ≡ begun.cells
   pub many : length now.states ≡ length begun.states

@@ -5,8 +5,8 @@ use Rattle.in_syntax.specs.declared.faults.Code.TheVariants.{E12, E13}
 use Rattle.in_syntax.specs.declared.faults.Refusal.{Refusal}
 use Rattle.in_check.specs.Checking.{IsAccepted, IsRefused}
 use Rattle.in_check.specs.Programs.{Program}
-use Rattle.in_diagnosis.specs.declared.remedies.Outcome.{Outcome}
-use Rattle.in_diagnosis.specs.declared.remedies.Outcome.TheVariants.{Accepted, Stuck, Refused}
+use Rattle.in_diagnosis.specs.declared.remedies.Verdict.{Verdict}
+use Rattle.in_diagnosis.specs.declared.remedies.Verdict.TheVariants.{Accepted, Stuck, Refused}
 
 -- the code of a rule or a net that no steps build
 abbrev pub is_stuck : Code → Bool
@@ -15,7 +15,7 @@ is_stuck E13 = true
 is_stuck c = false
 
 -- accepted; or refused at this byte, for a rule or a net that no steps build; or refused otherwise
-abbrev pub IsAnsweredWith : List ℕ → Outcome → Type 0
+abbrev pub IsAnsweredWith : List ℕ → Verdict → Type 0
 IsAnsweredWith text Accepted = (p : Program) × IsAccepted text p
 IsAnsweredWith text (Stuck at) = (r : Refusal) × IsRefused text r × (is_stuck r.code ≡ true) × (r.place.from ≡ at)
 IsAnsweredWith text Refused = (r : Refusal) × IsRefused text r × (is_stuck r.code ≡ false)

@@ -55,7 +55,7 @@ pub(crate) fn add_remedy<'a>(
 
 /// The result of `in_check::check` on a text with other braces.
 #[derive(Clone, Copy)]
-enum Outcome {
+enum Verdict {
     /// It is accepted.
     Accepted,
     /// It is refused at this byte, since no steps build a rule or the net.
@@ -75,15 +75,15 @@ fn is_stuck(code: Code) -> bool
 }
 
 /// The outcome of `in_check::check` on a text.
-fn answer_to(alloc: Global, text: &[u8]) -> Result<Outcome, AllocError>
+fn answer_to(alloc: Global, text: &[u8]) -> Result<Verdict, AllocError>
     ensures { IfOk result (IsAnsweredWith text.now) }
 {
     match check(alloc, text) {
-        Ok(_program) => Ok(Outcome::Accepted),
+        Ok(_program) => Ok(Verdict::Accepted),
         Err(Fault::Refused(refusal)) if is_stuck(refusal.code) => {
-            Ok(Outcome::Stuck(refusal.place.from))
+            Ok(Verdict::Stuck(refusal.place.from))
         }
-        Err(Fault::Refused(_)) => Ok(Outcome::Refused),
+        Err(Fault::Refused(_)) => Ok(Verdict::Refused),
         Err(Fault::Memory(error)) => Err(error),
     }
 }
@@ -133,9 +133,9 @@ impl Refused<'_> {
         let edits = change.edits(alloc, self.text, self.source)?;
         let changed = Changed::new(alloc, self.text, edits.as_slice())?;
         match answer_to(alloc, changed.text()) {
-            Ok(Outcome::Accepted) => Ok(Effect::Accepts),
-            Ok(Outcome::Stuck(at)) => Ok(self.effect_at(changed.before(at))),
-            Ok(Outcome::Refused) => Ok(Effect::Nothing),
+            Ok(Verdict::Accepted) => Ok(Effect::Accepts),
+            Ok(Verdict::Stuck(at)) => Ok(self.effect_at(changed.before(at))),
+            Ok(Verdict::Refused) => Ok(Effect::Nothing),
             Err(error) => Err(error),
         }
     }

@@ -1,6 +1,6 @@
 //! The parts of a diagnosis as data: members of a JSON object.
 use crate::edits::Edit;
-use crate::reports::{Kind, Part, Remedy};
+use crate::reports::{Kind, Remark, Remedy};
 use crate::words::Words;
 use in_syntax::Place;
 
@@ -108,7 +108,7 @@ fn add_some_remedy(page: &mut Words, text: &[u8], remedies: &[Remedy], number: u
 }
 
 /// Adds the part of this number, as an object.
-fn add_part(page: &mut Words, text: &[u8], part: &Part, remedies: &[Remedy], number: usize) {
+fn add_part(page: &mut Words, text: &[u8], part: &Remark, remedies: &[Remedy], number: usize) {
     page.say("{\"message\":");
     page.quote(part.sentence.as_str());
     page.say(",\"place\":");
@@ -119,7 +119,7 @@ fn add_part(page: &mut Words, text: &[u8], part: &Part, remedies: &[Remedy], num
 }
 
 /// Adds the parts of a kind, each after its comma.
-fn add_all(page: &mut Words, text: &[u8], parts: &[Part], remedies: &[Remedy], kind: Kind) {
+fn add_all(page: &mut Words, text: &[u8], parts: &[Remark], remedies: &[Remedy], kind: Kind) {
     let mut count: usize = 0;
     for (number, part) in parts.iter().enumerate() {
         if part.kind == kind {
@@ -131,7 +131,7 @@ fn add_all(page: &mut Words, text: &[u8], parts: &[Part], remedies: &[Remedy], k
 }
 
 /// Adds the parts of a diagnosis as three members: the error, its notes, and the help; and the object's end.
-pub(crate) fn add_parts(page: &mut Words, text: &[u8], parts: &[Part], remedies: &[Remedy]) {
+pub(crate) fn add_parts(page: &mut Words, text: &[u8], parts: &[Remark], remedies: &[Remedy]) {
     page.say("\"errors\":[");
     add_all(page, text, parts, remedies, Kind::Error);
     page.say("],\"notes\":[");

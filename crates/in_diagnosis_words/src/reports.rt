@@ -17,7 +17,7 @@ pub enum Kind {
 
 /// A sentence of a diagnosis, and the place of the text that it is about.
 #[derive(Drop)]
-pub(crate) struct Part {
+pub(crate) struct Remark {
     pub(crate) kind: Kind,
     pub(crate) place: Option<Place>,
     pub(crate) sentence: String,
@@ -39,7 +39,7 @@ pub struct Report<'a> {
     /// Where its memory comes from.
     pub alloc: Global,
     text: &'a [u8],
-    parts: Vec<Part>,
+    parts: Vec<Remark>,
     remedies: Vec<Remedy>,
     failure: Option<AllocError>,
 }
@@ -81,7 +81,7 @@ impl<'a> Report<'a> {
     /// Adds a part.
     fn push(&mut self, kind: Kind, place: Option<Place>, words: Words) -> Result<(), AllocError> {
         let sentence = words.into_text()?;
-        self.parts.push(Part {
+        self.parts.push(Remark {
             kind,
             place,
             sentence,
@@ -231,7 +231,7 @@ impl<'a> Report<'a> {
 fn data_of(
     alloc: Global,
     text: &[u8],
-    parts: &[Part],
+    parts: &[Remark],
     remedies: &[Remedy],
 ) -> Result<String, AllocError> {
     let mut page = Words::new(alloc);
@@ -240,7 +240,7 @@ fn data_of(
 }
 
 /// The text of these parts.
-fn text_of(alloc: Global, text: &[u8], parts: &[Part]) -> Result<String, AllocError> {
+fn text_of(alloc: Global, text: &[u8], parts: &[Remark]) -> Result<String, AllocError> {
     let mut page = Words::new(alloc);
     for part in parts {
         add_part(&mut page, text, part);
@@ -258,7 +258,7 @@ fn head(kind: Kind) -> &'static str {
 }
 
 /// A part in a line, and under it the line of the text with a mark under the place.
-fn add_part(page: &mut Words, text: &[u8], part: &Part) {
+fn add_part(page: &mut Words, text: &[u8], part: &Remark) {
     page.say(head(part.kind));
     page.say(part.sentence.as_str());
     page.say("\n");

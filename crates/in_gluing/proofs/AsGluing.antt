@@ -7,12 +7,12 @@ use Rattle.in_net.specs.Interactions.{Redex, Side, Outer, Inner, Alternates, wir
 use Rattle.in_net.specs.Nets.{Point, Port, Free, Signature, Net}
 use Rattle.in_net.proofs.Public.{end_of_pair}
 use Rattle.in_typing.specs.Typed.{opposite}
-use Rattle.in_interaction.proofs.Public.{pt_same, through_ends}
+use Rattle.in_interaction.proofs.Public.{pt_same, through_ends, same_free}
 use Rattle.in_gluing.specs.Gluing.{Cuts, IsPlaced, AreLinked, IsGlued}
 use Rattle.in_gluing.specs.AsGluing.{IsRestOf, two_parts, old_and_new, own_ends, boundary, ends_from, CanStep, InteractionsAreGluings}
 use Rattle.in_gluing.proofs.Frame.{map_some}
 use Rattle.in_gluing.proofs.Boundary.{Spot, part_of, In, Stays, GoesThrough, link, unlink, port_in, port_stays}
-use Rattle.in_gluing.proofs.Points.{port_free, same_free}
+use Rattle.in_gluing.proofs.Points.{port_free}
 
 -- ---- the boundary ends from one on
 

@@ -1,10 +1,9 @@
 -- Interactions on two pairs that share no agent: one after the other is both at once, so either order gives one net.
-use Rattle.std.proofs.Common.{◌≡◌, ◌≢◌, ◌⊎◌, ◌↔◌, ℕ, Some, None, List, [], ◌∷◌, refl, sym, subst, ap, inl, inr, ◌∙◌}
-use mathlib.Core.Path.{fun_ext}
+use Rattle.std.proofs.Common.{◌≡◌, ◌≢◌, ◌⊎◌, ℕ, Some, None, List, [], ◌∷◌, refl, sym, subst, ap, inl, inr, ◌∙◌}
 use Rattle.in_net.specs.Interactions.{Redex, IsRedex, Side, Outer, Inner, of_first, end_agent, Alternates, stands_for, InnerWire, wire_of, IsOfPair, IsNaming, IsStep}
 use Rattle.in_net.specs.Nets.{Point, Port, Free, Signature, Net, IsPoint, IsNet}
 use Rattle.in_net.proofs.Public.{cond_cases, symbol_of}
-use Rattle.in_interaction.proofs.Public.{same_option}
+use Rattle.in_interaction.proofs.Public.{same_net}
 use Rattle.in_gluing.specs.BirthNames.{wire_of_both, IsOfEither, AreJoinedByBoth, IsAfterBoth, IsStepOfBoth}
 use Rattle.in_gluing.proofs.Commute.{Way, AreIndependent, After_x, Then_y, AtOnce, join, split}
 use Rattle.in_gluing.proofs.Pairs.{AreApart, turned}
@@ -171,21 +170,6 @@ module _ {A B : Type 0} (sig : Signature) (n : Net A) (x y : Redex A B) (of_x of
   swap_agent : (c : A) (s : ℕ) → IsAfterBoth n x y of_x of_y c s → IsAfterBoth n y x of_y of_x c s
   swap_agent c s (inl r) = inl (r.2, r.3, r.0, r.1, r.4)
   swap_agent c s (inr r) = inr (swap r)
-
--- nets of the same agents, wires and free ends are equal
-pub same_net : {A : Type 0} (m k : Net A) → ((c : A) (s : ℕ) → (m.symbol c ≡ Some s) ↔ (k.symbol c ≡ Some s)) → ((u v : Point A) → (m.partner u ≡ Some v) ↔ (k.partner u ≡ Some v)) → m.free ≡ k.free → m ≡ k
-same_net m k agents wires free =
-    let symbols : m.symbol ≡ k.symbol = fun_ext (λ c. same_option (m.symbol c) (k.symbol c) (λ s. (agents c s).0) (λ s. (agents c s).1)) in
-    let partners : m.partner ≡ k.partner = fun_ext (λ u. same_option (m.partner u) (k.partner u) (λ v. (wires u v).0) (λ v. (wires u v).1)) in
-    λ i. record { symbol = symbols i; partner = partners i; free = free i }
-
--- an interaction has one result
-pub one_result : {A B : Type 0} (sig : Signature) (n : Net A) (x : Redex A B) (name : B → A) (m k : Net A) → IsStep sig n x name m → IsStep sig n x name k → m ≡ k
-one_result sig n x name m k s t =
-    same_net m k
-    (λ c i. ((λ e. (t.agents c i).1 ((s.agents c i).0 e)), (λ e. (s.agents c i).1 ((t.agents c i).0 e))))
-    (λ u v. ((λ e. (t.wires u v).1 ((s.wires u v).0 e)), (λ e. (s.wires u v).1 ((t.wires u v).0 e))))
-    (s.free ∙ sym t.free)
 
 -- both orders at once have one result
 pub one_of_both : {A B : Type 0} (sig : Signature) (n : Net A) (x y : Redex A B) (of_x of_y : B → A) (m k : Net A) → IsStepOfBoth sig n x y of_x of_y m → IsStepOfBoth sig n y x of_y of_x k → m ≡ k

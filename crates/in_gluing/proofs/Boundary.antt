@@ -3,11 +3,11 @@ use Rattle.std.proofs.Common.{◌≡◌, ◌≢◌, ◌⊎◌, ◌+◌, ◌<◌,
 use native.Mathlib.Decide.{ℕ_discrete}
 use Rattle.std.proofs.lemmas.Option.{same_Some}
 use Rattle.in_base.specs.Lists.{IsAmong}
-use Rattle.in_net.specs.Interactions.{Redex, Side, Outer, Inner, other, Alternates, stands_for, InnerWire, wire_of, IsOfPair}
+use Rattle.in_net.specs.Interactions.{Redex, Side, Outer, Inner, other, Alternates, PairPath, stands_for, InnerWire, wire_of, IsOfPair}
 use Rattle.in_net.specs.Nets.{Point, Port, Free, Signature, Net, IsPoint}
 use Rattle.in_net.proofs.Public.{end_of, end_of_pair, stands_one, first_wire, not_pair}
-use Rattle.in_interaction.proofs.Public.{has_value, outer_next, outer_at, not_principal, pt_same}
-use Rattle.in_gluing.proofs.Points.{same_free, port_free}
+use Rattle.in_interaction.proofs.Public.{has_value, outer_next, outer_at, not_principal, pt_same, same_free}
+use Rattle.in_gluing.proofs.Points.{port_free}
 use Rattle.in_gluing.specs.Gluing.{Cuts, IsJointEndAt, IsJointEnd, glue_wire, AreLinked}
 use Rattle.in_gluing.specs.AsGluing.{boundary_port, IsInRest, IsRestOf, two_parts, old_and_new, across_at, boundary, CanStep}
 
@@ -52,9 +52,6 @@ module _ (sig : Signature) (n : Net ℕ) (x : Redex ℕ ℕ) (name : ℕ → ℕ
 
   abbrev pub Stays : Point ℕ → Type 0
   Stays u = IsOfPair x u → ⊥
-
-  abbrev pub Way : Side → Point ℕ → List (Point ℕ) → Point ℕ → Type 0
-  Way = Alternates (wire_of sig n x name) (IsOfPair x)
 
   -- a point of the part on that side, and the point of the net or of a new agent that it stands for
   abbrev pub In : Side → Point ℕ → Point ℕ → Type 0
@@ -185,13 +182,13 @@ module _ (sig : Signature) (n : Net ℕ) (x : Redex ℕ ℕ) (name : ℕ → ℕ
 
     -- ---- paths
 
-    forth : (s : Side) (p u : Point ℕ) (es : List (Point ℕ)) (v : Point ℕ) → In s p u → Way s u es v → GoesThrough es → (t : Side) × (q : Point ℕ) × In t q v × ((fs : List Spot) × Glued (part_of s, p) fs (part_of t, q))
+    forth : (s : Side) (p u : Point ℕ) (es : List (Point ℕ)) (v : Point ℕ) → In s p u → PairPath sig n x name s u es v → GoesThrough es → (t : Side) × (q : Point ℕ) × In t q v × ((fs : List Spot) × Glued (part_of s, p) fs (part_of t, q))
     forth s p u [] v i w all = let r = next s p u v i w in (s, r.0, r.1, ([], (refl, r.2)))
     forth s p u (e ∷ es) v i w all =
         let r = next s p u e i w.0 in
         let d = turn s r.0 e r.1 w.1 in
         let on : joined d.0 ≡ true = all d.0 (inl d.3) in
-        let k = forth (other s) (Free d.0) (pt d.0) es v (at_end (other s) d.0 d.1) (subst (λ e. Way (other s) e es v) d.3 w.2) (λ c m. all c (inr m)) in (
+        let k = forth (other s) (Free d.0) (pt d.0) es v (at_end (other s) d.0 d.1) (subst (λ e. PairPath sig n x name (other s) e es v) d.3 w.2) (λ c m. all c (inr m)) in (
           k.0,
           k.1,
           k.2,
@@ -212,7 +209,7 @@ module _ (sig : Signature) (n : Net ℕ) (x : Redex ℕ ℕ) (name : ℕ → ℕ
       end : Point ℕ
       at : In side q.1 end
       ends : List (Point ℕ)
-      way : Way s u ends end
+      way : PairPath sig n x name s u ends end
       goes : GoesThrough ends
 
     back : (s : Side) (p u : Point ℕ) (fs : List Spot) (q : Spot) → In s p u → (IsJointEnd cuts q → ⊥) → Glued (part_of s, p) fs q → From s u q
@@ -257,7 +254,7 @@ module _ (sig : Signature) (n : Net ℕ) (x : Redex ℕ ℕ) (name : ℕ → ℕ
     uncut Inner (Port k i) u at h c = c
     uncut Inner (Free e) u at h c = h (subst (IsOfPair x) at.1 (end_of_pair sig n x name site.net site.inside site.redex site.naming e))
 
-    begin : (s : Side) (u : Point ℕ) (es : List (Point ℕ)) (v : Point ℕ) → Stays u → Way s u es v → (p : Point ℕ) × In s p u
+    begin : (s : Side) (u : Point ℕ) (es : List (Point ℕ)) (v : Point ℕ) → Stays u → PairPath sig n x name s u es v → (p : Point ℕ) × In s p u
     begin s u es v h w = go s (first_wire sig n x name site.net site.inside site.redex site.naming s u es v w)
       where
         go : (s : Side) → (w : Point ℕ) × wire_of sig n x name s u w → (p : Point ℕ) × In s p u
@@ -274,7 +271,7 @@ module _ (sig : Signature) (n : Net ℕ) (x : Redex ℕ ℕ) (name : ℕ → ℕ
       pub at_two : In two q v
       pub linked : AreLinked parts cuts (part_of one, p) (part_of two, q)
 
-    pub link : (s : Side) (u : Point ℕ) (es : List (Point ℕ)) (v : Point ℕ) → Stays u → Stays v → Way s u es v → GoesThrough es → Linked u v
+    pub link : (s : Side) (u : Point ℕ) (es : List (Point ℕ)) (v : Point ℕ) → Stays u → Stays v → PairPath sig n x name s u es v → GoesThrough es → Linked u v
     link s u es v hu hv w all =
         let b = begin s u es v hu w in
         let r = forth s b.0 u es v b.1 w all in
@@ -291,7 +288,7 @@ module _ (sig : Signature) (n : Net ℕ) (x : Redex ℕ ℕ) (name : ℕ → ℕ
       pub at_one : In one p.1 u
       pub at_two : In two q.1 v
       pub ends : List (Point ℕ)
-      pub way : Way one u ends v
+      pub way : PairPath sig n x name one u ends v
       pub goes : GoesThrough ends
 
     starts : (i : ℕ) (p q : Point ℕ) → (parts i).partner p ≡ Some q → (s : Side) × (i ≡ part_of s) × ((u : Point ℕ) × In s p u)

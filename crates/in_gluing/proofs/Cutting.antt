@@ -3,25 +3,10 @@ use Rattle.std.proofs.Common.{◌≡◌, ◌≢◌, ◌⊎◌, ℕ, Option, Some
 use native.Mathlib.Decide.{ℕ_discrete}
 use Rattle.std.proofs.lemmas.Option.{same_Some}
 use Rattle.in_net.specs.Nets.{Point, Port, Free, Net}
-use Rattle.in_net.proofs.Public.{port_agent, port_place}
+use Rattle.in_interaction.proofs.Public.{same_free, same_point}
 use Rattle.in_gluing.specs.Joining.{ArePartnersAfter, IsNeither, JoinsEnds, WiresLeadBack, JoinExists, CutsWire, CutsAreJoined}
-use Rattle.in_gluing.proofs.Points.{none_some, same_free}
+use Rattle.in_gluing.proofs.Points.{none_some}
 use Rattle.in_gluing.proofs.Helpers.{pick, pick_yes, pick_no}
-
-pub same_point : (p q : Point ℕ) → Dec (p ≡ q)
-same_point (Port x i) (Port y j) = go (ℕ_discrete x y) (ℕ_discrete i j)
-  where
-    go : Dec (x ≡ y) → Dec (i ≡ j) → Dec (Port x i ≡ Port y j)
-    go (yes e) (yes f) = yes (ap (λ x. Port x i) e ∙ ap (λ i. Port y i) f)
-    go (no d) f = no (λ e. d (port_agent x y i j e))
-    go (yes e) (no d) = no (λ e. d (port_place x y i j e))
-same_point (Port x i) (Free k) = no (λ e. cc)
-same_point (Free k) (Port x i) = no (λ e. cc)
-same_point (Free j) (Free k) = go (ℕ_discrete j k)
-  where
-    go : Dec (j ≡ k) → Dec (◌≡◌ {A = Point ℕ} (Free j) (Free k))
-    go (yes e) = yes (ap (λ k. Free k) e)
-    go (no d) = no (λ e. d (same_free {A = ℕ} j k e))
 
 -- ---- a joint
 

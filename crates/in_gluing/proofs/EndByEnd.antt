@@ -9,6 +9,7 @@ use Rattle.in_interaction.specs.Pieces.{AreDifferent}
 use Rattle.in_net.specs.Interactions.{Redex, Side, Outer, Inner, other, IsStep}
 use Rattle.in_net.specs.Nets.{Point, Port, Free, Signature, Net}
 use Rattle.in_net.proofs.Public.{port_agent, port_place, symbol_of}
+use Rattle.in_interaction.proofs.Public.{same_free}
 use Rattle.in_gluing.specs.Gluing.{Cuts, IsJointEnd}
 use Rattle.in_gluing.specs.Joining.{HasOwnNumber, JoinsEnds, IsAtNumber, IsOneMore, IsBeside, IsRenumbered, Renumbers, WiresLeadBack}
 use Rattle.in_gluing.specs.AsGluing.{IsRestOf, two_parts, old_and_new, across_at, boundary, ends_from, CanStep}
@@ -17,7 +18,7 @@ use Rattle.in_gluing.proofs.AsGluing.{from_is, is_from, own_at, at_own, free_kep
 use Rattle.in_gluing.proofs.Beside.{beside_joins_none, all_joined_is_glued}
 use Rattle.in_gluing.proofs.Boundary.{Spot, part_of, across_is, outside_once, In, unlink, cut_at_end}
 use Rattle.in_gluing.proofs.EndNumbers.{joint_at, outer_side, own_end, inner_side, number, outer_number, own_number, one_number, wired_end, own_numbers}
-use Rattle.in_gluing.proofs.Points.{port_free, same_free}
+use Rattle.in_gluing.proofs.Points.{port_free}
 use Rattle.in_gluing.proofs.Cutting.{joins_lead_back}
 use Rattle.in_gluing.proofs.Joining.{joins_next}
 

@@ -2,11 +2,12 @@
 use Rattle.std.proofs.Common.{◌≡◌, ◌+◌, ◌-◌, ◌<◌, ℕ, zero, suc, Bool, true, cond, Some, length, sym, subst, ap, ◌∙◌, inl, inr, refl, arith, lt-ltb, le-ltb}
 use Rattle.in_net.specs.Interactions.{Redex, Side, Outer, Inner, other}
 use Rattle.in_net.specs.Nets.{Point, Port, Free, Signature, Net, IsPoint}
+use Rattle.in_interaction.proofs.Public.{same_free}
 use Rattle.in_gluing.specs.Joining.{IsInUse, HasOwnNumber}
 use Rattle.in_gluing.specs.AsGluing.{IsInRest, IsRestOf, two_parts, across_at, boundary, CanStep}
 use Rattle.in_gluing.specs.EndByEnd.{end_number, outer_end}
 use Rattle.in_gluing.proofs.Boundary.{part_of, joint_is, side_of}
-use Rattle.in_gluing.proofs.Points.{same_free, port_free}
+use Rattle.in_gluing.proofs.Points.{port_free}
 
 -- a joint is at a joined boundary end, and leads across
 pub joint_at : (joined : ℕ → Bool) (p q : ℕ × ℕ) → across_at joined p.0 p.1 ≡ Some q → (s : Side) × (p ≡ (part_of s, p.1)) × (joined p.1 ≡ true) × (q ≡ (part_of (other s), p.1))

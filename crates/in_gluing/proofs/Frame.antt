@@ -6,9 +6,10 @@ use Rattle.std.proofs.lemmas.Option.{same_Some}
 use Rattle.in_net.specs.Interactions.{Redex, Side, Outer, Inner, of_first, end_place, Alternates, stands_for, InnerWire, wire_of, IsOfPair, AreJoined, IsNaming, IsStep}
 use Rattle.in_net.specs.Nets.{Point, Port, Free, Signature, Net}
 use Rattle.in_net.proofs.Public.{port_agent, port_place}
+use Rattle.in_interaction.proofs.Public.{same_free}
 use Rattle.in_gluing.specs.Gluing.{Cuts, IsJointEndAt, IsJointEnd, glue_wire, AreLinked, IsPlaced, AreAllApart, IsGlued, placed_pair, AreOthers}
 use Rattle.in_gluing.specs.Laws.{FramesStep, FramesGlue}
-use Rattle.in_gluing.proofs.Points.{same_free, turned}
+use Rattle.in_gluing.proofs.Points.{turned}
 use Rattle.in_gluing.proofs.Commute.{Way, AreIndependent, After_x, Then_y, AtOnce, join, split}
 use Rattle.in_gluing.proofs.AtNets.{to_way, from_way, way_map}
 
@@ -32,14 +33,18 @@ map_some (x ∷ xs) (y ∷ ys) e =
     cc
 
 module _ {A B C : Type 0} (sig : Signature) (parts : ℕ → Net A) (name : ℕ → A → C) (cuts : Cuts) (i : ℕ) (x : Redex A B) (new : B → A) where
+  -- what joins points of the parts
+  abbrev Joined : Type 1
+  Joined = ℕ × Point A → ℕ × Point A → Type 0
+
   -- the wires of the parts and of the right member, and the joints
-  abbrev W : ℕ × Point A → ℕ × Point A → Type 0
+  abbrev W : Joined
   W p q = glue_wire parts cuts Outer p q
 
-  abbrev X : ℕ × Point A → ℕ × Point A → Type 0
+  abbrev X : Joined
   X p q = (p.0 ≡ i) × (q.0 ≡ i) × InnerWire sig x new p.1 q.1
 
-  abbrev Y : ℕ × Point A → ℕ × Point A → Type 0
+  abbrev Y : Joined
   Y p q = glue_wire parts cuts Inner p q
 
   -- the ports of the pair, and the joined free ends
@@ -148,7 +153,7 @@ module _ {A B C : Type 0} (sig : Signature) (parts : ℕ → Net A) (name : ℕ 
         (l.0, l.1, (l.2.0, l.2.1, from_way (glue_wire after cuts) (IsJointEnd cuts) l.2.0 p l.2.1 l.2.2 q (way_map (After_x W X Y EX EY SX SY) (glue_wire after cuts Outer) Y EY wire_after l.2.0 p l.2.1 l.2.2 q l.2.3)))
 
     -- joints first and then the interaction
-    abbrev G : ℕ × Point A → ℕ × Point A → Type 0
+    abbrev G : Joined
     G = After_x W Y X EY EX SY SX
 
     joints_first : (p q : ℕ × Point A) → AreLinked after cuts p q → Then_y W Y X EY EX SY SX p q

@@ -3,13 +3,13 @@ use Rattle.std.proofs.Common.{◌≡◌, ◌≢◌, ◌⊎◌, ℕ, Some, List, 
 use Rattle.std.proofs.lemmas.Option.{same_Some}
 use Rattle.in_net.specs.Interactions.{Side, Outer, Inner, other, Alternates}
 use Rattle.in_net.specs.Nets.{Point, Port, Free, Net}
-use Rattle.in_interaction.proofs.Public.{has_value}
+use Rattle.in_interaction.proofs.Public.{has_value, same_free}
 use Rattle.in_base.proofs.Places.{is_some}
 use Rattle.in_gluing.specs.Gluing.{Cuts, IsJointEndAt, IsJointEnd, glue_wire, AreLinked}
 use Rattle.in_gluing.specs.Joining.{IsInUse, HasOwnNumber, IsAtNumber, IsJoinedBy, IsOneMore, IsNeither, ArePartnersAfter, JoinsEnds, JoinsNext}
 use Rattle.in_gluing.proofs.Commute.{Way, AreIndependent, After_x, Then_y, AtOnce, join, split}
 use Rattle.in_gluing.proofs.AtNets.{from_way, to_way}
-use Rattle.in_gluing.proofs.Points.{none_some, same_free, turned}
+use Rattle.in_gluing.proofs.Points.{none_some, turned}
 
 alt_map : {P : Type 0} (wire wire' : Side → P → P → Type 0) (End End' : P → Type 0) → ((s : Side) (u v : P) → wire s u v → wire' s u v) → ((u : P) → End u → End' u) → (s : Side) (u : P) (es : List P) (v : P) → Alternates wire End s u es v → Alternates wire' End' s u es v
 alt_map wire wire' End End' f g s u [] v w = f s u v w

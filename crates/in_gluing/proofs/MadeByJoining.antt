@@ -1,20 +1,16 @@
 -- Where the boundary ends are joined from the highest to the lowest, each new pair is made at the lowest end of its path.
-use Rattle.std.proofs.Common.{◌≡◌, ◌≢◌, ◌⊎◌, ◌<◌, ◌≤◌, ℕ, zero, suc, true, Option, Some, None, option_map, List, [], ◌∷◌, ◌++◌, length, reverse, slice_get, refl, sym, subst, ap, ◌∙◌, inl, inr, arith}
+use Rattle.std.proofs.Common.{◌≡◌, ◌≢◌, ◌⊎◌, ◌<◌, ◌≤◌, ℕ, zero, suc, true, Some, List, [], ◌∷◌, ◌++◌, length, reverse, slice_get, refl, sym, subst, ap, ◌∙◌, inl, inr, arith}
 use Rattle.std.proofs.lemmas.List.{length-map, reverse-append}
 use Rattle.std.proofs.lemmas.Option.{same_Some}
 use Rattle.in_base.specs.Lists.{IsAmong}
-use Rattle.in_base.proofs.Places.{some_same}
 use Rattle.in_symbols.specs.Tables.{Tables}
-use Rattle.in_symbols.specs.declared.symbols.SymbolNo.{SymbolNo}
-use Rattle.in_net.specs.ActivePairs.{StandsFirst}
 use Rattle.in_net.specs.declared.nets.AgentNo.{AgentNo}
-use Rattle.in_net.specs.Interactions.{Redex, Side, Outer, Inner, other, Alternates, wire_of, IsOfPair, redex_at}
+use Rattle.in_net.specs.Interactions.{Redex, Side, PairPath, IsOfPair, redex_at}
 use Rattle.in_net.specs.Nets.{Point, Port, Free, Signature, Net, net_of, signature_of}
-use Rattle.in_net.specs.Parts.{Parts, symbol_in}
+use Rattle.in_net.specs.Parts.{Parts}
 use Rattle.in_net.specs.Rules.{RuleParts}
-use Rattle.in_net.proofs.Public.{no_both, port_agent}
-use Rattle.in_interaction.specs.Made.{IsLowestEnd, HasSymbolAfter, IsMade}
-use Rattle.in_interaction.proofs.Public.{one_wire, agent_same, end_once, stays_as}
+use Rattle.in_interaction.specs.Made.{IsLowestEnd, IsMade}
+use Rattle.in_interaction.proofs.Public.{end_once, pair_once, stays_as}
 use Rattle.in_interaction.proofs.Public.Through as through
 use Rattle.in_gluing.specs.Joining.{IsAtNumber, IsNeither, JoinsEnds}
 use Rattle.in_gluing.specs.AsGluing.{boundary_port, old_and_new, ends_from, CanStep}
@@ -31,9 +27,6 @@ module _ (sig : Signature) (n : Net ℕ) (x : Redex ℕ ℕ) (name : ℕ → ℕ
   abbrev pt : ℕ → Point ℕ
   pt e = boundary_port sig x e
 
-  abbrev Way : Side → Point ℕ → List (Point ℕ) → Point ℕ → Type 0
-  Way = Alternates (wire_of sig n x name) (IsOfPair x)
-
   abbrev Stays : Point ℕ → Type 0
   Stays u = IsOfPair x u → ⊥
 
@@ -44,10 +37,10 @@ module _ (sig : Signature) (n : Net ℕ) (x : Redex ℕ ℕ) (name : ℕ → ℕ
   record PathFrom (e : ℕ) (u v : Point ℕ) : Type 0 where
     side : Side
     ends : List (Point ℕ)
-    way : Way side u ends v
+    way : PairPath sig n x name side u ends v
     goes : Passes (λ d. e ≤ d) ends
 
-  end_below : (s : Side) (u : Point ℕ) (es : List (Point ℕ)) (v : Point ℕ) → Way s u es v → Passes (λ d. d < length x.member.free) es
+  end_below : (s : Side) (u : Point ℕ) (es : List (Point ℕ)) (v : Point ℕ) → PairPath sig n x name s u es v → Passes (λ d. d < length x.member.free) es
   end_below s u es v w d i =
       let r = through.through_ends sig n x name site.net site.inside site.redex site.naming s u es v w (pt d) i in
       subst (λ k. k < length x.member.free) (sym (through.pt_same sig n x name site.net site.inside site.redex site.naming d r.0 r.2)) r.1
@@ -86,7 +79,7 @@ module _ (sig : Signature) (n : Net ℕ) (x : Redex ℕ ℕ) (name : ℕ → ℕ
         record {
           side = k.one;
           ends = k.ends;
-          way = subst (λ u. Way k.one u k.ends (Port z j)) a (subst (λ v. Way k.one k.u k.ends v) b k.way);
+          way = subst (λ u. PairPath sig n x name k.one u k.ends (Port z j)) a (subst (λ v. PairPath sig n x name k.one k.u k.ends v) b k.way);
           goes = λ d i. (is_from x e d (k.goes d i)).0;
         }
 
@@ -112,7 +105,7 @@ module _ (sig : Signature) (n : Net ℕ) (x : Redex ℕ ℕ) (name : ℕ → ℕ
     is_port y i = ((λ h. port_free y i (outer_end n x e) h), (λ h. port_free y i (inner_end n x e) h))
 
     -- between the two ports one path goes
-    one_path : (s : Side) (es : List (Point ℕ)) → Way s (Port y i) es (Port z j) → (t : Side) (fs : List (Point ℕ)) → Way t (Port y i) fs (Port z j) → es ≡ fs
+    one_path : (s : Side) (es : List (Point ℕ)) → PairPath sig n x name s (Port y i) es (Port z j) → (t : Side) (fs : List (Point ℕ)) → PairPath sig n x name t (Port y i) fs (Port z j) → es ≡ fs
     one_path s es a t fs b = (through.one_way sig n x name site.net site.inside site.redex site.naming s t (Port y i) (Port z j) (Port z j) es fs hy hz hz a b).0
 
     at_sides : IsLowestEnd sig n x name e (Port y i) (Port z j) → AreAtSides n x e m (Port y i) (Port z j)
@@ -133,7 +126,7 @@ module _ (sig : Signature) (n : Net ℕ) (x : Redex ℕ ℕ) (name : ℕ → ℕ
         ]
 
     -- a path through this end and no lower one
-    lowest_on : (s : Side) (es : List (Point ℕ)) → Way s (Port y i) es (Port z j) → IsAmong (pt e) es → Passes (λ d. e ≤ d) es → IsLowestEnd sig n x name e (Port y i) (Port z j)
+    lowest_on : (s : Side) (es : List (Point ℕ)) → PairPath sig n x name s (Port y i) es (Port z j) → IsAmong (pt e) es → Passes (λ d. e ≤ d) es → IsLowestEnd sig n x name e (Port y i) (Port z j)
     lowest_on s es w here goes = record {
       passed = (s, es, w, here);
       lowest = λ d p. goes d (subst (IsAmong (pt d)) (one_path p.0 p.1 p.2 s es w) p.3);
@@ -202,98 +195,9 @@ pairs_are_made_where_joined t n r a b name e m site low h q = (to, from)
       order = g.order;
     }
 
--- an agent after the interaction has one symbol
-symbol_once : (t : Tables) (n : Parts) (r : RuleParts) (a b : AgentNo) (name : ℕ → ℕ) → CanStepAt t n r a b name → (y : AgentNo) (s z : SymbolNo) → HasSymbolAfter n r a b name y s → HasSymbolAfter n r a b name y z → s ≡ z
-symbol_once t n r a b name site y s z h g = go h g
-  where
-    new : (s : SymbolNo) (k : ℕ) (z : SymbolNo) → symbol_in n y.0 ≡ Some s → name k ≡ y.0 → symbol_in r.member k ≡ Some z → ⊥
-    new s k z old named is =
-        let here : (net_of n).symbol y.0 ≡ Some s.0 = ap (λ (o : Option SymbolNo). option_map (λ (s : SymbolNo). s.0) o) old in
-        let inside : (net_of r.member).symbol k ≡ Some z.0 = ap (λ (o : Option SymbolNo). option_map (λ (s : SymbolNo). s.0) o) is in
-        let none : (net_of n).symbol y.0 ≡ None = ap (net_of n).symbol (sym named) ∙ site.naming.fresh k z.0 inside in
-        cc
-
-    go : HasSymbolAfter n r a b name y s → HasSymbolAfter n r a b name y z → s ≡ z
-    go (inl h) (inl g) = some_same (symbol_in n y.0) s z h.2 g.2
-    go (inl h) (inr g) = absurd (new s g.0 z h.2 g.1 g.2)
-    go (inr h) (inl g) = absurd (new z h.0 s g.2 h.1 h.2)
-    go (inr h) (inr g) =
-        let one : (net_of r.member).symbol h.0 ≡ Some s.0 = ap (λ (o : Option SymbolNo). option_map (λ (s : SymbolNo). s.0) o) h.2 in
-        let two : (net_of r.member).symbol g.0 ≡ Some z.0 = ap (λ (o : Option SymbolNo). option_map (λ (s : SymbolNo). s.0) o) g.2 in
-        let same : h.0 ≡ g.0 = site.naming.apart h.0 g.0 s.0 z.0 one two (h.1 ∙ sym g.1) in
-        some_same (symbol_in r.member h.0) s z h.2 (ap (symbol_in r.member) same ∙ g.2)
-
 module _ (t : Tables) (n : Parts) (r : RuleParts) (a b : AgentNo) (name : ℕ → ℕ) (site : CanStepAt t n r a b name) where
   abbrev at : Redex ℕ ℕ
   at = redex_at r a.0 b.0
-
-  abbrev end_at : ℕ → Point ℕ
-  end_at e = boundary_port (signature_of t) at e
-
-  abbrev PathAt : Side → Point ℕ → List (Point ℕ) → Point ℕ → Type 0
-  PathAt = Alternates (wire_of (signature_of t) (net_of n) at name) (IsOfPair at)
-
-  -- the path from a boundary end by one side ends at this agent's principal port
-  record Half (side : Side) (e : ℕ) (z : AgentNo) : Type 0 where
-    stays : IsOfPair at (Port z.0 0) → ⊥
-    ends : List (Point ℕ)
-    way : PathAt side (end_at e) ends (Port z.0 0)
-
-  half_once : (s : Side) (e : ℕ) (z w : AgentNo) → Half s e z → Half s e w → z ≡ w
-  half_once s e z w h g =
-      let r = through.same_path (wire_of (signature_of t) (net_of n) at name) (IsOfPair at) (one_wire (signature_of t) (net_of n) at name site.net site.inside site.redex site.naming) s (end_at e) h.ends g.ends (Port z.0 0) (Port w.0 0) h.stays g.stays h.way g.way in
-      agent_same z w (port_agent z.0 w.0 0 0 r.1)
-
-  abbrev Halves : ℕ → AgentNo × AgentNo → Type 0
-  Halves e q = (one two : AgentNo) × Half Outer e one × Half Inner e two × ((q ≡ (one, two)) ⊎ (q ≡ (two, one)))
-
-  halves : (e : ℕ) (q : AgentNo × AgentNo) → IsMade t n r a b name e q → Halves e q
-  halves e q h = by c.side c.front c.rear c.ahead c.behind
-    where
-      c : through.Cut (wire_of (signature_of t) (net_of n) at name) (IsOfPair at) (Port q.0.0 0) (Port q.1.0 0) (end_at e) h.path.passed.1
-      c = through.cut_at (signature_of t) (net_of n) at name site.net site.inside site.redex site.naming h.path.passed.0 (Port q.0.0 0) h.path.passed.1 (Port q.1.0 0) h.path.passed.2 (end_at e) h.path.passed.3
-
-      stays : (y : AgentNo) (s : SymbolNo) → HasSymbolAfter n r a b name y s → IsOfPair at (Port y.0 0) → ⊥
-      stays = stays_as t n r a b name site.net site.inside site.redex site.naming
-
-      by : (s : Side) (front rear : List (Point ℕ)) → PathAt s (end_at e) front (Port q.1.0 0) → PathAt (other s) (end_at e) rear (Port q.0.0 0) → Halves e q
-      by Outer front rear x y = (q.1, q.0, record { stays = stays q.1 h.second h.two; ends = front; way = x }, record { stays = stays q.0 h.first h.one; ends = rear; way = y }, inr refl)
-      by Inner front rear x y = (q.0, q.1, record { stays = stays q.0 h.first h.one; ends = rear; way = y }, record { stays = stays q.1 h.second h.two; ends = front; way = x }, inl refl)
-
-  not_turned : (x y : AgentNo) (d e : ℕ) → IsMade t n r a b name d (x, y) → IsMade t n r a b name e (y, x) → ⊥
-  not_turned x y d e h g =
-      let one = symbol_once t n r a b name site x h.first g.second h.one g.two in
-      let two = symbol_once t n r a b name site y h.second g.first h.two g.one in
-      no_both t x y h.first h.second h.order (subst (λ (s : SymbolNo). StandsFirst t h.second s y x) (sym one) (subst (λ (s : SymbolNo). StandsFirst t s g.second y x) (sym two) g.order))
-
-  -- a boundary end is the lowest of one pair
-  pair_once : (e : ℕ) (p q : AgentNo × AgentNo) → IsMade t n r a b name e p → IsMade t n r a b name e q → p ≡ q
-  pair_once e p q h g = go x.4 y.4
-    where
-      x : Halves e p
-      x = halves e p h
-
-      y : Halves e q
-      y = halves e q g
-
-      one : x.0 ≡ y.0
-      one = half_once Outer e x.0 y.0 x.2 y.2
-
-      two : x.1 ≡ y.1
-      two = half_once Inner e x.1 y.1 x.3 y.3
-
-      same_pair : (u v w z : AgentNo) → u ≡ w → v ≡ z → ◌≡◌ {A = AgentNo × AgentNo} (u, v) (w, z)
-      same_pair u v w z h k = ap (λ (u : AgentNo). (u, v)) h ∙ ap (λ (v : AgentNo). (w, v)) k
-
-      go : (p ≡ (x.0, x.1)) ⊎ (p ≡ (x.1, x.0)) → (q ≡ (y.0, y.1)) ⊎ (q ≡ (y.1, y.0)) → p ≡ q
-      go (inl u) (inl v) = u ∙ same_pair x.0 x.1 y.0 y.1 one two ∙ sym v
-      go (inr u) (inr v) = u ∙ same_pair x.1 x.0 y.1 y.0 two one ∙ sym v
-      go (inl u) (inr v) =
-          let turned : q ≡ (x.1, x.0) = v ∙ same_pair y.1 y.0 x.1 x.0 (sym two) (sym one) in
-          absurd (not_turned x.0 x.1 e e (subst (IsMade t n r a b name e) u h) (subst (IsMade t n r a b name e) turned g))
-      go (inr u) (inl v) =
-          let turned : q ≡ (x.0, x.1) = v ∙ same_pair y.0 y.1 x.0 x.1 (sym one) (sym two) in
-          absurd (not_turned x.0 x.1 e e (subst (IsMade t n r a b name e) turned g) (subst (IsMade t n r a b name e) u h))
 
   -- a lowest end of a pair is a boundary end
   made_below : (e : ℕ) (q : AgentNo × AgentNo) → IsMade t n r a b name e q → e < ends_of r
@@ -323,7 +227,7 @@ module _ (t : Tables) (n : Parts) (r : RuleParts) (a b : AgentNo) (name : ℕ �
 
         all : (e : ℕ) (p : AgentNo × AgentNo) → end ≤ e → IsMade t n r a b name e p → (k : ℕ) × (slice_get (q ∷ qs) k ≡ Some p)
         all e p le g = elim (here_or_above e le) [
-          | inl same ↦ (0, ap (λ (p : AgentNo × AgentNo). Some p) (pair_once end q p h (subst (λ e. IsMade t n r a b name e p) same g)))
+          | inl same ↦ (0, ap (λ (p : AgentNo × AgentNo). Some p) (pair_once t n r a b name site.net site.inside site.redex site.naming end q p h (subst (λ e. IsMade t n r a b name e p) same g)))
           | inr above ↦ (let r = are.all e p above g in (suc r.0, r.1))
         ]
 

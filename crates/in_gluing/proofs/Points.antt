@@ -3,9 +3,6 @@ use Rattle.std.proofs.Common.{◌≡◌, ◌⊎◌, ℕ, Option, Some, None, opt
 use Rattle.std.proofs.lemmas.Option.{same_Some}
 use Rattle.in_net.specs.Nets.{Point, Port, Free}
 
-pub same_free : {A : Type 0} (j k : ℕ) → ◌≡◌ {A = Point A} (Free j) (Free k) → j ≡ k
-same_free j k e = cc
-
 pub port_free : {A : Type 0} (y : A) (i k : ℕ) → Port y i ≡ Free k → ⊥
 port_free y i k e = cc
 

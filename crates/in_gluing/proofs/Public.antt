@@ -1,12 +1,11 @@
 -- The lemmas that proofs of other crates cite. They import this module alone, so all others may be renamed and cut anew.
 pub use Rattle.in_gluing.proofs.AsGluing.{agent_back}
-pub use Rattle.in_gluing.proofs.AtNets.{one_result}
 pub use Rattle.in_gluing.proofs.Beside.{all_joined_is_glued, beside_joins_none}
 pub use Rattle.in_gluing.proofs.BesideAlike.{beside_is_one, beside_parts_are_alike}
 pub use Rattle.in_gluing.proofs.BesideNets.{beside_parts_are_nets, net_within}
 pub use Rattle.in_gluing.proofs.BothOrders.{birth_discrete, diamond, redex_stays}
 pub use Rattle.in_gluing.proofs.Boundary.{at_end, next_outer}
-pub use Rattle.in_gluing.proofs.Cutting.{cuts_are_joined, join_exists, same_point}
+pub use Rattle.in_gluing.proofs.Cutting.{cuts_are_joined, join_exists}
 pub use Rattle.in_gluing.proofs.EndByEnd.{all_joined_is_step, ends_are_joined_in_turn, ends_from_have_one_more, ends_from_none_to_all}
 pub use Rattle.in_gluing.proofs.Frame.{glued_of_step, map_some, naming}
 pub use Rattle.in_gluing.proofs.GluedOnce.{glued_of_renamed, glued_once, rename, rename_apart}
@@ -17,7 +16,7 @@ pub use Rattle.in_gluing.proofs.MadeByJoining.{pairs_are_made_where_joined}
 pub use Rattle.in_gluing.proofs.Names.{not_some, renamed_exists}
 pub use Rattle.in_gluing.proofs.NamesExist.{names_exist}
 pub use Rattle.in_gluing.proofs.Pairs.{AreApart, apart, other_agent, turned}
-pub use Rattle.in_gluing.proofs.Points.{mapped, none_some, same_free}
+pub use Rattle.in_gluing.proofs.Points.{mapped, none_some}
 pub use Rattle.in_gluing.proofs.Rest.{rest_exists}
 pub use Rattle.in_gluing.proofs.SideBySide.{end_there, end_type, image, is_image, many_ends, one_point, point_kept, point_there}
 pub use Rattle.in_gluing.proofs.SideBySide.{symbol_kept, wire_kept}

@@ -37,9 +37,13 @@ module _ (sig : Signature) (n : Net ℕ) (x : Redex ℕ ℕ) (net : IsNet sig n)
   abbrev kind : (y : ℕ) → Kind y
   kind y = kind_by y (ℕ_discrete y x.one) (ℕ_discrete y x.two)
 
+  -- where a port of an agent of this kind goes
+  abbrev PortMap : Type 0
+  PortMap = (y i : ℕ) → Kind y → Option (Point ℕ)
+
   -- ---- into the rest
 
-  abbrev port_out : (y i : ℕ) → Kind y → Option (Point ℕ)
+  abbrev port_out : PortMap
   port_out y zero (first e) = None
   port_out y (suc j) (first e) = Some (Free j)
   port_out y zero (second e) = None
@@ -52,7 +56,7 @@ module _ (sig : Signature) (n : Net ℕ) (x : Redex ℕ ℕ) (net : IsNet sig n)
 
   -- ---- and back
 
-  abbrev port_in : (y i : ℕ) → Kind y → Option (Point ℕ)
+  abbrev port_in : PortMap
   port_in y i (first e) = None
   port_in y i (second e) = None
   port_in y i (neither a b) = Some (Port y i)

@@ -9,7 +9,7 @@ use Rattle.in_net.specs.Interactions.{Redex, IsOfPair, redex_at}
 use Rattle.in_net.specs.Nets.{Point, Port, Free, Signature, Net, net_of, signature_of}
 use Rattle.in_net.specs.Parts.{Parts}
 use Rattle.in_net.specs.Rules.{RuleParts}
-use Rattle.in_interaction.specs.Made.{IsLowestEnd, HasSymbolAfter, IsMade, AreMadeOverEnds}
+use Rattle.in_interaction.specs.Made.{AtAgents, IsLowestEnd, HasSymbolAfter, IsMade, HaveRisingEnds, AreMadeOverEnds}
 use Rattle.in_gluing.specs.AsGluing.{CanStep, ends_from}
 use Rattle.in_gluing.specs.EndByEnd.{HasJoined, outer_end, inner_end}
 
@@ -28,7 +28,7 @@ JoinsAtLowestEnd = (sig : Signature) (n : Net ℕ) (x : Redex ℕ ℕ) (name : �
 -- ---- over the parts of a net
 
 -- a rule at a pair of agents, and names for the new agents
-abbrev pub CanStepAt : Tables → Parts → RuleParts → AgentNo → AgentNo → (ℕ → ℕ) → Type 0
+abbrev pub CanStepAt : AtAgents
 CanStepAt t n r a b name = CanStep (signature_of t) (net_of n) (redex_at r a.0 b.0) name
 
 -- how many boundary ends there are
@@ -56,8 +56,7 @@ PairsAreMadeWhereJoined = (t : Tables) (n : Parts) (r : RuleParts) (a b : AgentN
 pub record AreMadeFrom (t : Tables) (n : Parts) (r : RuleParts) (a b : AgentNo) (name : ℕ → ℕ) (end : ℕ) (qs : List (AgentNo × AgentNo)) : Type 0 where
   pub each : (k : ℕ) (q : AgentNo × AgentNo) → slice_get qs k ≡ Some q → (e : ℕ) × (end ≤ e) × IsMade t n r a b name e q
   pub all : (e : ℕ) (q : AgentNo × AgentNo) → end ≤ e → IsMade t n r a b name e q → (k : ℕ) × (slice_get qs k ≡ Some q)
-  pub rising : (j k d e : ℕ) (p q : AgentNo × AgentNo) → j < k → slice_get qs j ≡ Some p → slice_get qs k ≡ Some q →
-      IsMade t n r a b name d p → IsMade t n r a b name e q → d < e
+  pub rising : HaveRisingEnds t n r a b name qs
 
 -- .. as they are made, the highest end first
 abbrev pub AreMadeSoFar : Tables → Parts → RuleParts → AgentNo → AgentNo → (ℕ → ℕ) → ℕ → List (AgentNo × AgentNo) → Type 0

@@ -13,6 +13,7 @@ pub mod FallsApart
 pub mod LaidOut
 pub mod Names
 pub mod NoNewCircle
+pub mod OneResult
 pub mod OuterPieces
 pub mod PathEnds
 pub mod Paths

@@ -4,6 +4,7 @@ pub mod KeptOrMade
 pub mod Landing
 pub mod Making
 pub mod OneOutcome
+pub mod OnePair
 pub mod Outcome
 pub mod Partners
 pub mod Reaching

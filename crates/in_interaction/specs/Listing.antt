@@ -18,7 +18,7 @@ unlisted cells free = record { cells = cells; free = free; wires = []; places = 
 abbrev pub AreEndsOf : List Point → List FreeEnd → Type 0
 AreEndsOf ends free = map (λ f. f.end) free ≡ ends
 
--- the wire of two points, which stands nowhere
+-- the wire of two points, which has no place in a text
 abbrev pub wire_between : Point → Point → Wire
 wire_between p q = record { one = p; other = q; place = record { from = 0; to = 0; line = 0; col = 0 } }
 

@@ -7,16 +7,20 @@ use Rattle.in_symbols.specs.Tables.{Tables}
 use Rattle.in_symbols.specs.declared.symbols.SymbolNo.{SymbolNo}
 use Rattle.in_net.specs.declared.nets.AgentNo.{AgentNo}
 use Rattle.in_net.specs.ActivePairs.{AreActive, StandsFirst}
-use Rattle.in_net.specs.Interactions.{Redex, Side, Alternates, wire_of, IsOfPair, end_agent, end_place, redex_at}
+use Rattle.in_net.specs.Interactions.{Redex, Side, PairPath, end_agent, end_place, redex_at}
 use Rattle.in_net.specs.Nets.{Point, Port, Signature, Net, net_of, signature_of}
 use Rattle.in_net.specs.Parts.{Parts, symbol_in}
 use Rattle.in_net.specs.Rules.{RuleParts}
 use Rattle.in_interaction.specs.Queues.{agents_at, both, IsFirstQueue}
 
+-- what is said of a rule at two agents of a net, under names of the new agents
+abbrev pub AtAgents : Type 1
+AtAgents = Tables → Parts → RuleParts → AgentNo → AgentNo → (ℕ → ℕ) → Type 0
+
 -- an alternating path leads from one point to the other and passes the boundary end of this number
 abbrev pub PassesEnd : {A B : Type 0} → Signature → Net A → Redex A B → (B → A) → ℕ → Point A → Point A → Type 0
 PassesEnd {A} sig n x name e u v =
-    (side : Side) × (es : List (Point A)) × Alternates (wire_of sig n x name) (IsOfPair x) side u es v
+    (side : Side) × (es : List (Point A)) × PairPath sig n x name side u es v
     × IsAmong (Port (end_agent sig x e) (end_place sig x e)) es
 
 -- .. and no lower one
@@ -39,12 +43,16 @@ pub record IsMade (t : Tables) (n : Parts) (r : RuleParts) (a b : AgentNo) (name
   pub path : IsLowestEnd (signature_of t) (net_of n) (redex_at r a.0 b.0) name e (Port q.0.0 0) (Port q.1.0 0)
   pub order : StandsFirst t first second q.0 q.1
 
+-- of two of these that are made at boundary ends, the end of the earlier one is lower
+abbrev pub HaveRisingEnds : Tables → Parts → RuleParts → AgentNo → AgentNo → (ℕ → ℕ) → List (AgentNo × AgentNo) → Type 0
+HaveRisingEnds t n r a b name qs = (j k d e : ℕ) (p q : AgentNo × AgentNo) → j < k → slice_get qs j ≡ Some p → slice_get qs k ≡ Some q →
+    IsMade t n r a b name d p → IsMade t n r a b name e q → d < e
+
 -- these are all such pairs, each once, in the order of the lowest boundary ends
 pub record AreMadeOverEnds (t : Tables) (n : Parts) (r : RuleParts) (a b : AgentNo) (name : ℕ → ℕ) (qs : List (AgentNo × AgentNo)) : Type 0 where
   pub each : (k : ℕ) (q : AgentNo × AgentNo) → slice_get qs k ≡ Some q → (e : ℕ) × IsMade t n r a b name e q
   pub all : (e : ℕ) (q : AgentNo × AgentNo) → IsMade t n r a b name e q → (k : ℕ) × (slice_get qs k ≡ Some q)
-  pub rising : (j k d e : ℕ) (p q : AgentNo × AgentNo) → j < k → slice_get qs j ≡ Some p → slice_get qs k ≡ Some q →
-      IsMade t n r a b name d p → IsMade t n r a b name e q → d < e
+  pub rising : HaveRisingEnds t n r a b name qs
 
 -- these are the active pairs that the interaction makes, each once: those of paths through boundary ends, by the lowest of them, and then
 -- the right member's own under their new names, in the order of their wires

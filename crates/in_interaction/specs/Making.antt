@@ -101,6 +101,6 @@ pub record AreMadeBelow (t : Tables) (s : SiteParts) (end : ℕ) (qs : List (Age
 abbrev pub renumbered : SiteParts → ℕ × ℕ → AgentNo × AgentNo
 renumbered s q = agents_at (both (unused s.net.cells) q)
 
--- behind the pairs that were there stand the right member's own
+-- the right member's own pairs come after those that were there
 abbrev pub AddsOwn : Tables → SiteParts → List (AgentNo × AgentNo) → List (AgentNo × AgentNo) → Type 0
 AddsOwn t s before after = (own : List (ℕ × ℕ)) × IsFirstQueue t s.rule.member own × (after ≡ before ++ map (renumbered s) own)

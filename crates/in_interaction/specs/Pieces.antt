@@ -88,7 +88,7 @@ pub record PieceCycle {A B : Type 0} (sig : Signature) (n : Net A) (x : Redex A 
 abbrev pub IsTurned : {X : Type 0} → List X → List X → Type 0
 IsTurned {X} xs ys = (front back : List X) × (xs ≡ front ++ back) × (ys ≡ back ++ front)
 
--- what a cycle of these agents after the interaction is: one of the net before, or of the right member, as it stands; or pieces in a
+-- what a cycle of these agents after the interaction is: one of the net before, or of the right member, unchanged; or pieces in a
 -- cycle, whose agents are the cycle's, each once
 pub data IsMadeOf {A B : Type 0} (sig : Signature) (n : Net A) (x : Redex A B) (name : B → A) (cycle : List (Passage A)) : Type 0 where
   wholly_outside : (c : CrossingCircle (graph_of sig n)) → c.first ∷ c.rest ≡ cycle → IsMadeOf sig n x name cycle

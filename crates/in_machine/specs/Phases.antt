@@ -1,9 +1,7 @@
 -- What stays where a net is reduced in parts. This project's own choice.
 use Rattle.std.specs.Prelude.{◌≡◌, ◌+◌, ℕ}
-use Rattle.in_arena.specs.declared.content.CellClass.{CellClass}
 use Rattle.in_check.specs.Plain.{IsReachedBy}
-use Rattle.in_compile.specs.Cells.{agents_of, count_of}
-use Rattle.in_reducer.specs.Machines.{MachineParts, plain_of}
+use Rattle.in_reducer.specs.Machines.{MachineParts, KeepsCellCounts, plain_of}
 use Rattle.in_machine.specs.Machines.{IsMachine}
 
 -- k interactions of any pairs, one after another: a machine of the same program, with as many cells of each class, whose net is reached
@@ -11,5 +9,5 @@ use Rattle.in_machine.specs.Machines.{IsMachine}
 pub record IsPhase (m : MachineParts) (k : ℕ) (after : MachineParts) : Type 0 where
   pub machine : IsMachine after
   pub program : after.program ≡ m.program
-  pub cells : (c : CellClass) → count_of after.vacant c + agents_of m.program.tables c after.agents ≡ count_of m.vacant c + agents_of m.program.tables c m.agents
+  pub cells : KeepsCellCounts m after
   pub reached : (j : ℕ) → IsReachedBy (plain_of m) j → IsReachedBy (plain_of after) (k + j)

@@ -110,8 +110,8 @@ pub record IsOver (t : Tables) (n : Parts) : Type 0 where
 abbrev pub closed_at : Place → Fault
 closed_at p = Refused (refusal_of E09 p)
 
--- where it is Ok, no fault of agents and names and no closed wire stands, and the net is over the program's tables, and is the net
--- of the text; it is refused for the first such fault, or, where none stands, for the first closed wire
+-- where it is Ok, there is no fault of agents and names and no closed wire, and the net is over the program's tables, and is the net
+-- of the text; it is refused for the first such fault, or, where there is none, for the first closed wire
 abbrev pub Builds : Source → Tables → Result Parts Fault → Type 0
 Builds source t (Ok n) = IsOver t n × IsNetOf t source.net n × HasNoNetFault max_agents t (body_of source.net) × HasNoClosedWire t (body_of source.net)
 Builds source t (Err (Refused r)) = IsFirstNetFault max_agents t (body_of source.net) r.code r.place × (r.other ≡ None)

@@ -1,4 +1,4 @@
--- How often each name of a net stands: no public contract names this.
+-- How often each name of a net occurs: no public contract names this.
 use Rattle.std.specs.Prelude.{ℕ, zero, suc, ◌+◌, ◌<◌, List, [], ◌∷◌, map, Option, Some, None, option_map, slice_get, slice_set, slice_index_or}
 use Rattle.std.specs.List.{AllByRecursion}
 use Rattle.in_syntax.specs.declared.tree.SourceFree.{SourceFree}

@@ -77,20 +77,28 @@ abbrev pub IsOfPair : {A B : Type 0} → Redex A B → Point A → Type 0
 IsOfPair x (Port y i) = (y ≡ x.one) ⊎ (y ≡ x.two)
 IsOfPair x (Free k) = ⊥
 
--- joined by an alternating path that goes through ports of the pair
+-- an alternating path that goes through ports of the pair, from a side on
+abbrev pub PairPath : {A B : Type 0} → Signature → Net A → Redex A B → (B → A) → Side → Point A → List (Point A) → Point A → Type 0
+PairPath sig n x name = Alternates (wire_of sig n x name) (IsOfPair x)
+
+-- joined by such a path
 abbrev pub AreJoined : {A B : Type 0} → Signature → Net A → Redex A B → (B → A) → Point A → Point A → Type 0
-AreJoined {A} {B} sig n x name u v = (IsOfPair x u → ⊥) × (IsOfPair x v → ⊥) × ((side : Side) × (es : List (Point A)) × Alternates (wire_of sig n x name) (IsOfPair x) side u es v)
+AreJoined {A} {B} sig n x name u v = (IsOfPair x u → ⊥) × (IsOfPair x v → ⊥) × ((side : Side) × (es : List (Point A)) × PairPath sig n x name side u es v)
 
 -- the new agents have different names, which the net doesn't have
 pub record IsNaming {A B : Type 0} (before : Net A) (x : Redex A B) (name : B → A) : Type 0 where
   pub fresh : (k : B) (s : ℕ) → x.member.symbol k ≡ Some s → before.symbol (name k) ≡ None
   pub apart : (k l : B) (s t : ℕ) → x.member.symbol k ≡ Some s → x.member.symbol l ≡ Some t → name k ≡ name l → k ≡ l
 
+-- the pair is gone, the new agents are there, and the others are those of before
+abbrev pub HasAgentsAfter : {A B : Type 0} → Net A → Redex A B → (B → A) → Net A → Type 0
+HasAgentsAfter {A} {B} before x name after = (y : A) (s : ℕ) → (after.symbol y ≡ Some s) ↔ (((y ≢ x.one) × (y ≢ x.two) × (before.symbol y ≡ Some s)) ⊎ ((k : B) × (name k ≡ y) × (x.member.symbol k ≡ Some s)))
+
 -- the net after the interaction: without the pair and with the right member's agents, its wires the alternating paths between points
 -- that stay. A single wire is such a path
 pub record IsStep {A B : Type 0} (sig : Signature) (before : Net A) (x : Redex A B) (name : B → A) (after : Net A) : Type 0 where
   pub naming : IsNaming before x name
-  pub agents : (y : A) (s : ℕ) → (after.symbol y ≡ Some s) ↔ (((y ≢ x.one) × (y ≢ x.two) × (before.symbol y ≡ Some s)) ⊎ ((k : B) × (name k ≡ y) × (x.member.symbol k ≡ Some s)))
+  pub agents : HasAgentsAfter before x name after
   pub wires : (u v : Point A) → (after.partner u ≡ Some v) ↔ AreJoined sig before x name u v
   pub free : after.free ≡ before.free
 

@@ -1,6 +1,6 @@
 -- Faults of a net or a rule: what is wrong with its agents, its names and its wires, and which of its faults is the first one. Lafont
 -- 1990 gives each symbol a number of auxiliary ports, and has each variable of a net or a rule occur twice. The limits on agents, the
--- codes, and where a fault stands are this project's own choice.
+-- codes, and the place of a fault are this project's own choice.
 use Rattle.std.specs.Prelude.{◌≡◌, ◌≢◌, ◌⊎◌, ℕ, ◌<◌, ◌≤◌, List, length, Some, slice_get}
 use Rattle.in_syntax.specs.declared.faults.Code.{Code}
 use Rattle.in_syntax.specs.declared.faults.Code.TheVariants.{E03, E07, E08, E09}
@@ -20,7 +20,7 @@ max_agents = 4000
 abbrev pub max_member_agents : ℕ
 max_member_agents = 64
 
--- at the place stands the name of the first agent that is one too many
+-- the place is that of the name of the first agent that is one too many
 abbrev pub IsTooManyAt : ℕ → Tables → Body → Place → Type 0
 IsTooManyAt most t b p = (w : Written) × (slice_get (agents_of_body t b) most ≡ Some w) × (w.place ≡ p)
 
@@ -42,7 +42,7 @@ pub record IsHeadMisfitAt (t : Tables) (b : Body) (p : Place) : Type 0 where
   pub apart : length left.head.terms ≢ arity_of t symbol
   pub place : left.head.name.place ≡ p
 
--- at the place stands an agent's or a head's name, with another number of terms than its symbol has auxiliary ports
+-- the place is that of an agent's or a head's name, with another number of terms than its symbol has auxiliary ports
 abbrev pub IsMisfitAt : Tables → Body → Place → Type 0
 IsMisfitAt t b p = IsAgentMisfitAt t b p ⊎ IsHeadMisfitAt t b p
 
@@ -57,7 +57,7 @@ IsFreeName b name = (f : SourceFree) × IsAmong f b.free × (f.name.text ≡ nam
 abbrev pub IsBefore : Term → Term → Type 0
 IsBefore u v = (place_of u).from < (place_of v).from
 
--- at the place stands a variable's only occurrence or its third one, the declaration of a free name that doesn't occur, or the
+-- the place is that of a variable's only occurrence or its third one, the declaration of a free name that doesn't occur, or the
 -- second occurrence of one
 pub data IsMiscountedAt (t : Tables) (b : Body) : Place → Type 0 where
   only : (u : Term) → Occurs t b (name_of u) u → (IsFreeName b (name_of u) → ⊥) → ((v : Term) → Occurs t b (name_of u) v → place_of v ≡ place_of u) → IsMiscountedAt t b (place_of u)
@@ -75,7 +75,7 @@ pub data IsNetFaultAt (most : ℕ) (t : Tables) (b : Body) : Code → Place → 
 abbrev pub HasNoNetFault : ℕ → Tables → Body → Type 0
 HasNoNetFault most t b = HasNone (IsNetFaultAt most t b)
 
--- a fault of agents or names is there, and none of these stands earlier; of two at one place the lower code counts
+-- a fault of agents or names is there, and none of these is earlier; of two at one place the lower code counts
 abbrev pub IsFirstNameFault : ℕ → Tables → Body → Code → Place → Type 0
 IsFirstNameFault most t b = IsFirstOf (IsNetFaultAt most t b)
 

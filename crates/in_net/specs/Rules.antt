@@ -31,6 +31,10 @@ pub record RuleParts : Type 0 where
   pub head_places : Place × Place
   pub member : Parts
 
+-- what holds of rules over tables
+abbrev pub RulesProperty : Type 1
+RulesProperty = Tables → List RuleParts → Type 0
+
 -- the place of the first head's name, which is number 0, or of the second one's
 abbrev pub place_of_head : RuleParts → ℕ → Place
 place_of_head r zero = r.head_places.0
@@ -102,8 +106,8 @@ pub record IsRuleOver (t : Tables) (p : RuleParts) : Type 0 where
   pub member : IsOver t p.member
   pub built : p.member.built ≡ true
 
--- where it is Ok, no fault of agents and names and no closed wire stands, and the rule is over the program's tables, and is that of the
--- text; else it is refused for the first such fault, or, where none stands, for the first closed wire
+-- where it is Ok, there is no fault of agents and names and no closed wire, and the rule is over the program's tables, and is that of the
+-- text; else it is refused for the first such fault, or, where there is none, for the first closed wire
 abbrev pub BuildsRuleOf : Tables → SourceRule → Result RuleParts Fault → Type 0
 BuildsRuleOf t r (Ok p) = IsRuleOver t p × IsRuleOf t r p × HasNoNetFault max_member_agents t (body_of_rule t r) × HasNoClosedWire t (body_of_rule t r)
 BuildsRuleOf t r (Err (Refused f)) = IsFirstNetFault max_member_agents t (body_of_rule t r) f.code f.place × (f.other ≡ None)

@@ -22,7 +22,7 @@ const PORTS_FOR_A_NODE: usize = 32;
 /// A node that a search reached, by a class of the candidate: from which one before it, if not from that node itself, by which
 /// port of that one, and at which port of its own.
 #[derive(Clone, Copy, Drop)]
-struct Reached {
+struct ReachedNode {
     node: usize,
     class: usize,
     before: Option<usize>,
@@ -40,7 +40,7 @@ struct Meeting {
 
 /// The result of a search: two classes that meet, none although it reached all that it could, or the end of its budget.
 #[derive(Clone, Copy, Drop)]
-enum Answer {
+enum SearchResult {
     Met(Meeting),
     Apart,
     Spent,
@@ -50,7 +50,7 @@ enum Answer {
 /// and labels are checked before they are used.
 struct Search {
     labels: Labels,
-    reached: Items<Reached>,
+    reached: Items<ReachedNode>,
     budget: usize,
 }
 
@@ -117,7 +117,7 @@ impl Search {
     }
 
     /// The node is reached.
-    fn reach(&mut self, reached: Reached) -> Result<(), AllocError> {
+    fn reach(&mut self, reached: ReachedNode) -> Result<(), AllocError> {
         let mark = Mark {
             trial: self.labels.trial,
             class: reached.class,
@@ -173,7 +173,7 @@ impl Search {
             return Ok(None);
         }
         let Some(mark) = self.labels.mark(node) else {
-            self.reach(Reached {
+            self.reach(ReachedNode {
                 node,
                 class,
                 before: from,
@@ -225,37 +225,41 @@ impl Search {
     }
 
     /// Reaches the neighbours of the node that was reached at this place.
-    fn go_on(&mut self, candidate: &Candidate, place: usize) -> Result<Option<Answer>, AllocError> {
+    fn go_on(
+        &mut self,
+        candidate: &Candidate,
+        place: usize,
+    ) -> Result<Option<SearchResult>, AllocError> {
         let wired = candidate.part.wired;
         match self.reached.get(place) {
             Some(reached) => {
                 let at = reached.node;
                 let class = reached.class;
                 if at >= wired.nodes() || !self.spend(wired.ports(at)) {
-                    return Ok(Some(Answer::Spent));
+                    return Ok(Some(SearchResult::Spent));
                 }
                 match self.spread(candidate, place, at, class)? {
-                    Some(meeting) => Ok(Some(Answer::Met(meeting))),
+                    Some(meeting) => Ok(Some(SearchResult::Met(meeting))),
                     None => Ok(None),
                 }
             }
-            None => Ok(Some(Answer::Apart)),
+            None => Ok(Some(SearchResult::Apart)),
         }
     }
 
     /// Searches from all ports of the candidate at once, breadth first, by the nodes of the part.
-    fn run(&mut self, alloc: Global, candidate: &Candidate) -> Result<Answer, AllocError> {
+    fn run(&mut self, alloc: Global, candidate: &Candidate) -> Result<SearchResult, AllocError> {
         self.labels.trial = self.labels.trial.wrapping_add(1);
         self.reached = Items::new(alloc);
         if let Some(meeting) = self.start(candidate)? {
-            return Ok(Answer::Met(meeting));
+            return Ok(SearchResult::Met(meeting));
         }
         for place in 0..candidate.part.wired.nodes() {
             if let Some(answer) = self.go_on(candidate, place)? {
                 return Ok(answer);
             }
         }
-        Ok(Answer::Apart)
+        Ok(SearchResult::Apart)
     }
 
     /// By which ports the search left and entered each node on its way, the last one first.
@@ -327,7 +331,7 @@ impl<'a> Trials<'a> {
         ensures same { self.new.cycles ≡ self.old.cycles }
     {
         match self.search.run(alloc, candidate)? {
-            Answer::Met(meeting) => {
+            SearchResult::Met(meeting) => {
                 let cycle = self.search.cycle(alloc, meeting)?;
                 self.cycles.keep(alloc, candidate.node, &cycle)?;
                 if self.has_cycle(candidate) {
@@ -336,14 +340,14 @@ impl<'a> Trials<'a> {
                     Ok(None)
                 }
             }
-            Answer::Apart => {
+            SearchResult::Apart => {
                 if show_splitting(candidate, &self.search.labels) {
                     Ok(Some(true))
                 } else {
                     Ok(None)
                 }
             }
-            Answer::Spent => Ok(None),
+            SearchResult::Spent => Ok(None),
         }
     }
 }

@@ -28,7 +28,7 @@ pub data StoresInTurn {A B : Type 0} (sig : Signature) (n : Net A) (x : Redex A 
   wire_first : (p q : Point B) (wires : List (Point B × Point B)) (u v : Point A) (f g h : Point A → Option (Point A)) → IsSideAt sig n x name p u → IsSideAt sig n x name q v →
       AreStored u v f g → StoresInTurn sig n x name wires g h → StoresInTurn sig n x name ((p, q) ∷ wires) f h
 
--- what stands where no side is: the partners before, and none at the pair's ports. Of what stands at a side nothing is said, so that a new
+-- the partners of points that are no side: those before, and none at the pair's ports. Of the partner at a side nothing is said, so that a new
 -- agent's place may hold anything
 pub record IsAsBefore {A B : Type 0} (sig : Signature) (n : Net A) (x : Redex A B) (name : B → A) (f : Point A → Option (Point A)) : Type 0 where
   pub gone : (u : Point A) → IsOfPair x u → f u ≡ None

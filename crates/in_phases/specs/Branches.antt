@@ -1,5 +1,6 @@
 -- The agents of a part, which are gathered before it is split off. This project's own choice.
 use Rattle.std.specs.Prelude.{◌≡◌, ◌<◌, ℕ, Bool, true, List, length, Some, IsSome, slice_get}
+use Rattle.in_arena.specs.Changes.{AreListedOnce}
 use Rattle.in_arena.specs.declared.content.CellNo.{CellNo}
 use Rattle.in_arena.specs.declared.content.End.{End}
 use Rattle.in_arena.specs.declared.content.End.TheVariants.{Cell, Free}
@@ -23,7 +24,7 @@ LeadsSomewhere m (Free k) = Unit {0}
 -- these are agents of the net, each listed once, and the marks are set at their numbers alone
 pub record AreOfBranch (m : MachineParts) (agents : List CellNo) (marks : List Bool) : Type 0 where
   pub there : (k : ℕ) (c : CellNo) → slice_get agents k ≡ Some c → HasAgent m c.0
-  pub once : (j k : ℕ) (c : CellNo) → slice_get agents j ≡ Some c → slice_get agents k ≡ Some c → j ≡ k
+  pub once : AreListedOnce agents
   pub marked : (k : ℕ) (c : CellNo) → slice_get agents k ≡ Some c → slice_get marks c.0 ≡ Some true
   pub listed : (y : ℕ) → slice_get marks y ≡ Some true → (k : ℕ) × (slice_get agents k ≡ Some (record { 0 = y }))
   pub inside : (y : ℕ) → HasAgent m y → y < length marks

@@ -1,7 +1,7 @@
 -- The pieces that are written are the whole.
 use Rattle.std.proofs.Common.{◌≡◌, ◌<◌, ◌+◌, Option, option_map, ℕ, List, ◌∷◌, ◌++◌, append_assoc, codes, decimal, length, drop, slice_get, get_or, Some, None, refl, sym, ap, subst, ◌∙◌, arith}
 use Rattle.std.proofs.lemmas.List.{drop_more}
-use Rattle.std.proofs.lemmas.Option.{slice_get_within, get_or_from_slice_get}
+use Rattle.in_base.proofs.Places.{left_from}
 use Rattle.in_symbols.specs.Tables.{Tables}
 use Rattle.in_net.specs.Rules.{RuleParts}
 use Rattle.in_open_nets.specs.declared.derivations.Derivation.{Derivation}
@@ -35,9 +35,6 @@ line_written t o steps bytes more k s lt is wrote =
     one : decimal k ++ (codes " " ++ (step_text t o s ++ (line_end ++ lines_from t o (k + 1) (drop (k + 1) steps)))) ≡ lines_from t o k (s ∷ drop (k + 1) steps)
     one = ap (λ j. decimal k ++ (codes " " ++ (step_text t o s ++ (line_end ++ lines_from t o j (drop (k + 1) steps))))) (omega arith)
 
-drop_at : {X : Type 0} (xs : List X) (k : ℕ) (x : X) → slice_get xs k ≡ Some x → drop k xs ≡ x ∷ drop (k + 1) xs
-drop_at xs k x e = drop_more xs k x (slice_get_within xs k x e) ∙ ap (λ z. z ∷ drop (k + 1) xs) (get_or_from_slice_get xs k x x e)
-
 -- one rule more
 pub rule_written : (t : Tables) (rules : List RuleParts) (certificates : List Certificate) (bytes more : List ℕ) (k : ℕ) (p : RuleParts) (c : Certificate) → slice_get rules k ≡ Some p → slice_get certificates k ≡ Some c →
     more ≡ bytes ++ rule_lines t p c → more ++ rules_lines t (drop (k + 1) rules) (drop (k + 1) certificates) ≡ bytes ++ rules_lines t (drop k rules) (drop k certificates)
@@ -45,7 +42,7 @@ rule_written t rules certificates bytes more k p c at made wrote =
     let rest = rules_lines t (drop (k + 1) rules) (drop (k + 1) certificates) in
     ap (λ z. z ++ rest) wrote
     ∙ append_assoc bytes (rule_lines t p c) rest
-    ∙ ap (λ z. bytes ++ z) (sym (ap (λ z. rules_lines t z (drop k certificates)) (drop_at rules k p at) ∙ ap (λ z. rules_lines t (p ∷ drop (k + 1) rules) z) (drop_at certificates k c made)))
+    ∙ ap (λ z. bytes ++ z) (sym (ap (λ z. rules_lines t z (drop k certificates)) (left_from rules k p at) ∙ ap (λ z. rules_lines t (p ∷ drop (k + 1) rules) z) (left_from certificates k c made)))
 
 certified : (x : Option Certificate) (o : OpenNet) (d : Derivation) → option_map (λ (c : Certificate). c.shape) x ≡ Some o → option_map (λ (c : Certificate). c.derivation) x ≡ Some d →
     (c : Certificate) × (x ≡ Some c) × (c.shape ≡ o) × (c.derivation ≡ d)

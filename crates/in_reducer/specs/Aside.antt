@@ -22,14 +22,14 @@ pub record IsReusing (n : Net ℕ) (x : Redex ℕ ℕ) (f name : ℕ → ℕ) : 
   pub in_place : IsNamingInPlace n x name
   pub aside : (k s : ℕ) → x.member.symbol k ≡ Some s → (name k ≢ f x.one) × (name k ≢ f x.two)
 
--- a wire of the net with the pair aside, away from the pair, is one of the net itself, away from the pair there
-abbrev pub WiresAreOfBefore : (n m : Net ℕ) (x : Redex ℕ ℕ) (f : ℕ → ℕ) → Type 0
-WiresAreOfBefore n m x f =
-    (u v : Point ℕ) → (IsOfPair (moved f x) u → ⊥) → (IsOfPair (moved f x) v → ⊥) → m.partner u ≡ Some v → (n.partner u ≡ Some v) × (IsOfPair x u → ⊥) × (IsOfPair x v → ⊥)
+module _ (n m : Net ℕ) (x : Redex ℕ ℕ) (f : ℕ → ℕ) where
+  -- a wire of the net with the pair aside, away from the pair, is one of the net itself, away from the pair there
+  abbrev pub WiresAreOfBefore : Type 0
+  WiresAreOfBefore = (u v : Point ℕ) → (IsOfPair (moved f x) u → ⊥) → (IsOfPair (moved f x) v → ⊥) → m.partner u ≡ Some v → (n.partner u ≡ Some v) × (IsOfPair x u → ⊥) × (IsOfPair x v → ⊥)
 
--- numbers that new agents may have in place are new in the net with the pair aside
-abbrev pub NumbersAreNew : (n m : Net ℕ) (x : Redex ℕ ℕ) (f : ℕ → ℕ) → Type 0
-NumbersAreNew n m x f = (name : ℕ → ℕ) → IsReusing n x f name → IsNaming m (moved f x) name
+  -- numbers that new agents may have in place are new in the net with the pair aside
+  abbrev pub NumbersAreNew : Type 0
+  NumbersAreNew = (name : ℕ → ℕ) → IsReusing n x f name → IsNaming m (moved f x) name
 
 -- the net with the pair aside has the wires of the net itself: the same partners at the pair's auxiliary ports, and the same other wires
 pub record AreAlikeAside (sig : Signature) (n m : Net ℕ) (x : Redex ℕ ℕ) (f : ℕ → ℕ) : Type 0 where

@@ -54,6 +54,6 @@ pub record IsAbout (t : Tables) (s : PairSetting) (p : TemplateParts) (pair : Pa
 abbrev pub IsInteracted : Tables → PairSetting → ℕ → List CellNo → ArenaView → List End → List (ℕ × ℕ) → List (ℕ × ℕ) → Type 0
 IsInteracted t s own ns a ends old new = IsDone t (interaction_of s ns) own a ends × AddsMade t (interaction_of s ns) old new
 
--- .. and beside it stands the right member, in these cells, which showed none
+-- .. and beside it is the right member, in these cells, which showed none
 abbrev pub HasBeside : Tables → PairSetting → TemplateParts → Pair → ℕ → List CellNo → ArenaView → List End → Type 0
 HasBeside t s p pair own ns b ends = (a : ArenaView) × IsAbout t s p pair own a ends × IsPut p.member ns a b

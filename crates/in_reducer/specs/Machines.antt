@@ -45,6 +45,10 @@ HasItsPairs m = IsQueueOf m.program.tables (parts_of m) m.queue
 abbrev pub HasCells : ℕ → MachineParts → Type 0
 HasCells cells m = (c : CellClass) → count_of m.vacant c + agents_of m.program.tables c m.agents ≡ cells
 
+-- .. and the other one has as many of each
+abbrev pub KeepsCellCounts : MachineParts → MachineParts → Type 0
+KeepsCellCounts m after = (c : CellClass) → count_of after.vacant c + agents_of m.program.tables c after.agents ≡ count_of m.vacant c + agents_of m.program.tables c m.agents
+
 -- the number of each agent is below this one
 abbrev pub AreNumbersBelow : MachineParts → ℕ → Type 0
 AreNumbersBelow m many = (y : ℕ) → IsSome (symbol_in (parts_of m) y) → y < many

@@ -1,6 +1,7 @@
 -- A net in two parts: a part is split off from a reducer, as a reducer by itself that shares nothing with the rest, and glued on again. Wires
 -- between the two are cut before. That nets are reduced in parts is this project's own choice.
 use Rattle.std.specs.Prelude.{◌≡◌, ◌+◌, ◌-◌, ◌<◌, ℕ, zero, suc, nat_lt, cond, List, [], ◌∷◌, ◌++◌, length, map, Option, Some, None, IsSome, slice_get}
+use Rattle.in_arena.specs.Changes.{AreListedOnce}
 use Rattle.in_arena.specs.declared.content.CellClass.{CellClass}
 use Rattle.in_arena.specs.declared.content.CellNo.{CellNo}
 use Rattle.in_net.specs.Nets.{Point, Port, Free}
@@ -10,7 +11,7 @@ use Rattle.in_cells.specs.Laws.{ends_of}
 use Rattle.in_gluing.specs.SideBySide.{IsWiredWithin, StandBeside}
 use Rattle.in_order.specs.Leading.{Leads}
 use Rattle.in_reducer.specs.Cutting.{net_in}
-use Rattle.in_reducer.specs.Machines.{MachineParts, HasCells, HasItsPairs}
+use Rattle.in_reducer.specs.Machines.{MachineParts, HasCells, HasItsPairs, KeepsCellCounts}
 
 abbrev pub names_of : MachineParts → List (List ℕ)
 names_of m = map (λ f. f.name) m.free
@@ -57,7 +58,7 @@ IsInPart agents own cuts (Free f) = (j : ℕ) × (j < cuts) × (f ≡ own + (j +
 pub record CanSplit (m : MachineParts) (agents : List CellNo) (own cuts : ℕ) : Type 0 where
   pub many : length m.free ≡ own + (cuts + cuts)
   pub there : (k : ℕ) (c : CellNo) → slice_get agents k ≡ Some c → IsSome ((net_in m).symbol c.0)
-  pub once : (j k : ℕ) (c : CellNo) → slice_get agents j ≡ Some c → slice_get agents k ≡ Some c → j ≡ k
+  pub once : AreListedOnce agents
   pub closed : (k i : ℕ) (c : CellNo) (q : Point ℕ) → slice_get agents k ≡ Some c → (net_in m).partner (Port c.0 i) ≡ Some q → IsInPart agents own cuts q
   pub ends : (j : ℕ) (q : Point ℕ) → j < cuts → (net_in m).partner (Free (own + (j + j))) ≡ Some q → IsInPart agents own cuts q
 
@@ -103,4 +104,4 @@ pub record ReducesTo (m : MachineParts) (k : ℕ) (after : MachineParts) : Type 
   pub program : after.program ≡ m.program
   pub leads : Leads (system_of m.program) k (net_in m) (net_in after)
   pub names : names_of after ≡ names_of m
-  pub cells : (c : CellClass) → count_of after.vacant c + agents_of m.program.tables c after.agents ≡ count_of m.vacant c + agents_of m.program.tables c m.agents
+  pub cells : KeepsCellCounts m after

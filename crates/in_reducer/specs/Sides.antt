@@ -13,7 +13,7 @@ use Rattle.in_reducer.specs.declared.sides.Pair.{Pair}
 abbrev pub port_at : Pair → ℕ → CellNo × ℕ
 port_at p e = cond (nat_lt e p.first_ends) (p.one, suc e) (p.other, suc (e - p.first_ends))
 
--- what stands there
+-- the end that is written there
 abbrev pub end_there : ArenaView → CellNo × ℕ → Option End
 end_there a q = end_at (state_at a q.0.0) q.1
 

@@ -1,11 +1,11 @@
 -- How a part is split off, step by step. No contract of a public call speaks of it. This project's own choice.
-use Rattle.std.specs.Prelude.{◌≡◌, ◌+◌, ◌<◌, ℕ, Bool, true, false, List, ◌++◌, length, count_by, option_map, slice_get}
-use Rattle.in_arena.specs.Arenas.{ArenaView, free_of, state_at}
+use Rattle.std.specs.Prelude.{◌≡◌, ◌+◌, ◌<◌, ℕ, Bool, true, false, List, ◌++◌, length, option_map, slice_get}
+use Rattle.in_arena.specs.Arenas.{ArenaView, state_at}
 use Rattle.in_arena.specs.States.{State, Vacant, Leased, Live}
-use Rattle.in_arena.specs.declared.content.CellClass.{CellClass}
 use Rattle.in_arena.specs.declared.content.CellNo.{CellNo}
-use Rattle.in_cells.specs.Copying.{is_for, number_in}
+use Rattle.in_cells.specs.Copying.{number_in}
 use Rattle.in_cells.specs.Laws.{AreTakenOut}
+use Rattle.in_cells.specs.TakingOut.{FreesCellsOf}
 use Rattle.in_reducer.specs.declared.splitting.SplitLists.{SplitLists}
 use Rattle.in_reducer.specs.declared.splitting.EndLists.{EndLists}
 use Rattle.in_reducer.specs.Inside.{most_ends}
@@ -14,7 +14,7 @@ use Rattle.in_reducer.specs.Reserved.{IsReserved}
 
 -- ---- lists
 
--- `many` elements, each what stands at its place in the other list, or what this makes of it
+-- `many` elements, each that of its place in the other list, or its image under this map
 pub record ArePicked {X Y : Type 0} (f : X → Y) (place : ℕ → ℕ) (many : ℕ) (all : List X) (picked : List Y) : Type 0 where
   pub count : length picked ≡ many
   pub each : (e : ℕ) → e < many → slice_get picked e ≡ option_map f (slice_get all (place e))
@@ -48,7 +48,7 @@ pub record AreListsFor (own cuts : ℕ) (l : SplitLists) : Type 0 where
 -- the agents are taken out, their cells are free, and the free ends have these numbers
 pub record LosesPart (agents : List CellNo) (own : ℕ → ℕ) (old new : ArenaView) : Type 0 where
   pub out : AreTakenOut agents own old new
-  pub free : (d : CellClass) → free_of new d ≡ free_of old d + count_by (is_for old d) agents
+  pub free : FreesCellsOf old agents new
   pub memory : new.memory ≡ old.memory
   pub cells : new.cells ≡ old.cells
   pub many : length new.states ≡ length old.states

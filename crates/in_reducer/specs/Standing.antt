@@ -1,13 +1,13 @@
 -- A net in cells: its agents are what live cells hold, and its free ends lead to the ends of a list.
-use Rattle.std.specs.Prelude.{◌≡◌, ◌<◌, ℕ, true, List, [], ◌∷◌, length, map, Option, Some, None}
+use Rattle.std.specs.Prelude.{◌≡◌, ◌<◌, ℕ, suc, true, List, [], ◌∷◌, length, map, Option, Some, None}
 use Rattle.in_arena.specs.Arenas.{ArenaView, NoneLeased, free_of, state_at}
-use Rattle.in_arena.specs.Changes.{HasAllCells}
+use Rattle.in_arena.specs.Changes.{HasAllCells, LeasedStay}
 use Rattle.in_arena.specs.Classes.{IsNumberOf}
-use Rattle.in_arena.specs.States.{State, Vacant, Leased, Live, IsLeased, word_of}
+use Rattle.in_arena.specs.States.{State, Vacant, Leased, Live, IsLeased, places, word_of}
 use Rattle.in_arena.specs.declared.content.CellClass.{CellClass}
 use Rattle.in_arena.specs.declared.content.CellClass.TheVariants.{Small, Large, Wide}
 use Rattle.in_arena.specs.declared.content.End.{End}
-use Rattle.in_symbols.specs.Tables.{Tables}
+use Rattle.in_symbols.specs.Tables.{Tables, arity_of}
 use Rattle.in_net.specs.declared.nets.Cell.{Cell}
 use Rattle.in_net.specs.declared.nets.FreeEnd.{FreeEnd}
 use Rattle.in_compile.specs.declared.cells.Need.{Need}
@@ -47,10 +47,14 @@ pub record IsNetIn (t : Tables) (a : ArenaView) : Type 0 where
   pub none : NoneLeased a
   pub classed : (c : CellClass) (n s : ℕ) → IsNumberOf a.cells c n → word_of (state_at a n) ≡ Some s → is_of t c s ≡ true
 
+-- each agent has as many places as its symbol has ports
+abbrev pub HaveTheirPlaces : Tables → ArenaView → Type 0
+HaveTheirPlaces t a = (y s : ℕ) → word_of (state_at a y) ≡ Some s → places (state_at a y) ≡ suc (arity_of t s)
+
 -- the same cells are on lease in both
 pub record AreLeasedAlike (a b : ArenaView) : Type 0 where
   pub memory : b.memory ≡ a.memory
   pub cells : b.cells ≡ a.cells
   pub many : length b.states ≡ length a.states
-  pub stay : (n : ℕ) → IsLeased (state_at a n) → IsLeased (state_at b n)
+  pub stay : LeasedStay a b
   pub none : (n : ℕ) → n < length a.states → IsLeased (state_at b n) → IsLeased (state_at a n)

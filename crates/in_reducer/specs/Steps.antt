@@ -1,7 +1,7 @@
 -- The conditions and the result of an interaction. Lafont 1990: an interaction replaces an active pair by the right member of its rule, and nets
 -- are taken up to the names of their agents. Which pair comes first, and cells, are this project's own choice; which numbers new agents have
 -- is left open.
-use Rattle.std.specs.Prelude.{◌≡◌, ◌+◌, ℕ, List, ◌++◌, map, Some, slice_get, remove}
+use Rattle.std.specs.Prelude.{◌≡◌, ℕ, List, ◌++◌, map, Some, slice_get, remove}
 use Rattle.in_arena.specs.declared.content.CellClass.{CellClass}
 use Rattle.in_net.specs.declared.nets.AgentNo.{AgentNo}
 use Rattle.in_net.specs.Rules.{RuleParts}
@@ -9,8 +9,8 @@ use Rattle.in_check.specs.Plain.{IsPairAt, IsRuleAt, StepsAs}
 use Rattle.in_interaction.specs.Made.{AreMade}
 use Rattle.in_interaction.specs.Queues.{agents_at, numbers_of}
 use Rattle.in_compile.specs.declared.cells.Need.{Need}
-use Rattle.in_compile.specs.Cells.{agents_of, count_of, IsNeedOf, IsEnough, IsFirstShort}
-use Rattle.in_reducer.specs.Machines.{MachineParts, parts_of, plain_of}
+use Rattle.in_compile.specs.Cells.{count_of, IsNeedOf, IsEnough, IsFirstShort}
+use Rattle.in_reducer.specs.Machines.{MachineParts, KeepsCellCounts, parts_of, plain_of}
 
 -- ---- what an interaction needs
 
@@ -45,4 +45,4 @@ pub record StepsAt (m : MachineParts) (i : ℕ) (after : MachineParts) : Type 0 
   pub made : List (AgentNo × AgentNo)
   pub new : AreMade m.program.tables (parts_of m) step.rule (agents_at pair).0 (agents_at pair).1 name made
   pub queue : after.queue ≡ remove m.queue i ++ map numbers_of made
-  pub cells : (c : CellClass) → count_of after.vacant c + agents_of m.program.tables c after.agents ≡ count_of m.vacant c + agents_of m.program.tables c m.agents
+  pub cells : KeepsCellCounts m after

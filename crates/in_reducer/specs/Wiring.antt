@@ -3,7 +3,7 @@
 -- ends. That an interaction is done so where no wire leads back to its pair is this project's own choice.
 use Rattle.std.specs.Prelude.{◌≡◌, ◌≢◌, ◌⊎◌, IsTrue, ◌↔◌, ◌≤◌, ◌<◌, ◌+◌, ◌-◌, ◌++◌, ℕ, suc, Bool, cond, List, [], ◌∷◌, length, map, take, slice_get, slice_index_or, Some, None}
 use Rattle.in_arena.specs.Arenas.{ArenaView, changed, free_of, state_at}
-use Rattle.in_arena.specs.Changes.{HasAllCells}
+use Rattle.in_arena.specs.Changes.{AreListedOnce, HasAllCells, UnlistedStay}
 use Rattle.in_arena.specs.Classes.{IsNumberOf}
 use Rattle.in_arena.specs.States.{Vacant, IsBegun, IsLive, word_of, end_at, places}
 use Rattle.in_arena.specs.declared.content.CellNo.{CellNo}
@@ -43,8 +43,8 @@ pub record HasBegun (m : MemberParts) (ns : List CellNo) (old new : ArenaView) :
   pub count : length ns ≡ length m.agents
   pub each : (k : ℕ) (a : AgentParts) (n : CellNo) → slice_get m.agents k ≡ Some a → slice_get ns k ≡ Some n
       → IsNumberOf new.cells a.class n.0 × (word_of (state_at old n.0) ≡ None) × IsBegun a.symbol.0 (length a.ends) (state_at new n.0)
-  pub once : (j k : ℕ) (n : CellNo) → slice_get ns j ≡ Some n → slice_get ns k ≡ Some n → j ≡ k
-  pub others : (n : ℕ) → ((k : ℕ) → slice_get ns k ≡ Some (record { 0 = n }) → ⊥) → state_at new n ≡ state_at old n
+  pub once : AreListedOnce ns
+  pub others : UnlistedStay ns old new
   pub memory : new.memory ≡ old.memory
   pub cells : new.cells ≡ old.cells
   pub many : length new.states ≡ length old.states
@@ -119,7 +119,7 @@ pub record HasPortsFor (a : ArenaView) (c : CellNo) (first to points : ℕ) : Ty
   pub ports : to < first + places (state_at a c.0)
   pub room : to ≤ points
 
--- at the points from `first` to before `to` stands what the agent's auxiliary ports lead to, in their order. All other points are as they were
+-- the points from `first` to before `to` have what the agent's auxiliary ports lead to, in their order. All other points are as they were
 pub record HasPortsIn (a : ArenaView) (c : CellNo) (first to : ℕ) (old new : List End) : Type 0 where
   pub read : (e : ℕ) → first ≤ e → e < to → slice_get new e ≡ end_at (state_at a c.0) (suc (e - first))
   pub others : (k : ℕ) → (k < first) ⊎ (to ≤ k) → slice_get new k ≡ slice_get old k
@@ -130,7 +130,7 @@ abbrev pub AddsInOrder : Bool → End → End → List (ℕ × ℕ) → List (�
 AddsInOrder input x y old new =
     (IsNoPair x y × (new ≡ old)) ⊎ ((c : ℕ) × (d : ℕ) × IsPrincipal c x × IsPrincipal d y × (new ≡ old ++ cond input (d, c) (c, d) ∷ []))
 
--- at the points of the boundary ends stand their sides
+-- the points of the boundary ends have their sides
 pub record AreSidesIn (t : Tables) (x : Interaction) (ns : List CellNo) (points : List End) : Type 0 where
   pub ends : (e : ℕ) (u : Point ℕ) → e < length (redex_of x).member.free → IsSideOf t x (Free e) u → slice_get points e ≡ Some (end_of u)
   pub agents : AreAtAgents ns points

@@ -6,8 +6,7 @@ use Rattle.in_base.proofs.Options.{none_of}
 use Rattle.in_net.specs.Interactions.{Redex, IsRedex, IsOfPair, IsNaming, IsStep}
 use Rattle.in_net.specs.Nets.{Point, Port, Free, Signature, Net, IsNet, IsPoint}
 use Rattle.in_net.proofs.Public.{symbol_of}
-use Rattle.in_interaction.proofs.Public.{has_value, outer_next, same_option}
-use Rattle.in_gluing.proofs.Public.{one_result}
+use Rattle.in_interaction.proofs.Public.{has_value, outer_next, same_option, one_result}
 use Rattle.in_net.specs.Renaming.{renamed}
 use Rattle.in_check.specs.Runs.{moved}
 use Rattle.in_base.proofs.Places.{is_some as there}

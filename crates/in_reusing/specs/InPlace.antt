@@ -4,14 +4,14 @@ use Rattle.std.specs.Prelude.{◌≡◌, ◌≢◌, ◌⊎◌, ◌↔◌, ℕ, S
 use Rattle.in_net.specs.Interactions.{Redex, IsRedex, IsOfPair, IsStep}
 use Rattle.in_net.specs.Nets.{Point, Signature, Net, IsNet, IsPoint}
 use Rattle.in_check.specs.Runs.{moved}
-use Rattle.in_overwriting.specs.Overwriting.{NoneLeadsBack, AreSides, IsSide}
+use Rattle.in_overwriting.specs.Overwriting.{NoneLeadsBack, AreSidesOf, IsSide, IsSideAt}
 use Rattle.in_reducer.specs.Aside.{IsAside, IsReusing}
 
 -- both sides of each wire of the right member get each other, and what else stays keeps its partner. Nothing else has one: in particular no
 -- port of the pair, unless a new agent has its number
 pub record IsOverwrittenInPlace (sig : Signature) (before : Net ℕ) (x : Redex ℕ ℕ) (name : ℕ → ℕ) (after : Net ℕ) : Type 0 where
   pub agents : (y : ℕ) (s : ℕ) → (after.symbol y ≡ Some s) ↔ (((y ≢ x.one) × (y ≢ x.two) × (before.symbol y ≡ Some s)) ⊎ ((k : ℕ) × (name k ≡ y) × (x.member.symbol k ≡ Some s)))
-  pub written : (u v : Point ℕ) → AreSides sig before x name u v → after.partner u ≡ Some v
+  pub written : (u v : Point ℕ) → AreSidesOf x.member (IsSideAt sig before x name) u v → after.partner u ≡ Some v
   pub kept : (u v : Point ℕ) → (IsOfPair x u → ⊥) → (IsSide sig before x name u → ⊥) → before.partner u ≡ Some v → after.partner u ≡ Some v
   pub points : (u v : Point ℕ) → after.partner u ≡ Some v → IsPoint sig after u
   pub free : after.free ≡ before.free

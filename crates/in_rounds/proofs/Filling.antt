@@ -20,6 +20,10 @@ pub data Change (a' a'' : ArenaView) (s : StockParts) (n : ℕ) : Type 0 where
   Lends : state_at a' n ≡ Vacant → state_at a'' n ≡ Leased → holders n (s.bag ∷ []) ≡ 1 → Change a' a'' s n
   Stays : state_at a'' n ≡ state_at a' n → holders n (s.bag ∷ []) ≡ 0 → Change a' a'' s n
 
+-- .. and so it is with each cell
+abbrev pub Changes : ArenaView → ArenaView → StockParts → Type 0
+Changes a' a'' s = (n : ℕ) → Change a' a'' s n
+
 -- the stock was empty, and is of an arena with as many cells
 module _ (share : Need) (a a' a'' : ArenaView) (s : StockParts) (all : HasAllCells a) (count : length a'.states ≡ length a.states) (adds : AddsTo share a' (empty_stock a share) a'' s) where
   lends : (n k : ℕ) → slice_get adds.0.cells k ≡ Some (record { 0 = n }) → Change a' a'' s n
@@ -36,7 +40,7 @@ module _ (share : Need) (a a' a'' : ArenaView) (s : StockParts) (all : HasAllCel
   change_by n (inr same) (inl at) = lends n at.0 at.1
   change_by n (inr same) (inr none) = Stays (ap (λ v. state_at v n) adds.0.arena ∙ same) (out_of_one s.bag n (ap (λ v. state_at v n) adds.0.bag ∙ none ∙ none_in_empty a n))
 
-  pub change : (n : ℕ) → Change a' a'' s n
+  pub change : Changes a' a'' s
   change n = change_by n (one_or_same a' adds.0.cells Leased n) (one_or_same (empty_bag a) adds.0.cells Vacant n)
 
 -- it has all cells that are on lease, where none was

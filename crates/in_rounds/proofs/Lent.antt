@@ -15,7 +15,7 @@ use Rattle.in_compile.specs.Stocks.{StockParts, AddsTo, HasRoom, IsStockOf, empt
 use Rattle.in_compile.proofs.Public.{count_all, cells_all, memory_all, none_in_empty}
 use Rattle.in_claims.specs.Seats.{BoardView}
 use Rattle.in_rounds.specs.Holding.{holders}
-use Rattle.in_rounds.proofs.Filling.{Change, change}
+use Rattle.in_rounds.proofs.Filling.{Change, Changes, change}
 use Rattle.in_rounds.proofs.Filling.Change.{Lends, Stays}
 use Rattle.in_rounds.proofs.Holding.{leased_of, each_of, bags_are_of_one, no_bags, of_one_by, holders-append}
 use Rattle.in_rounds.specs.Bringing.{in_hand, in_hands}
@@ -45,7 +45,7 @@ no_more (suc k) never = absurd (never (omega arith))
 -- ---- one more share
 
 module _ (bs : List ArenaView) (share : Need) (a a' a'' : ArenaView) (s : StockParts) (all : HasAllCells a) (lent : AreLentOut bs a a') (adds : AddsTo share a' (empty_stock a share) a'' s) where
-  changes : (n : ℕ) → Change a' a'' s n
+  changes : Changes a' a'' s
   changes n = change share a a' a'' s all lent.count adds n
 
   -- what is free is in no bag

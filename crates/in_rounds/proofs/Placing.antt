@@ -14,7 +14,7 @@ use Rattle.in_compile.specs.Cells.{count_of, IsEnough}
 use Rattle.in_compile.specs.Placing.{PlacedParts, AreCellsOf, TakesCells}
 use Rattle.in_compile.specs.Stocks.{StockParts, held, with_all}
 use Rattle.in_compile.specs.Templates.{TemplateParts, TemplatesParts, IsLargestNeed, template_at}
-use Rattle.in_compile.proofs.Public.{one_or_same, one_of_all, cells_all, memory_all}
+use Rattle.in_compile.proofs.Public.{as_left, one_of_all, cells_all, memory_all}
 use Rattle.in_rounds.specs.Holding.{holders, is_own}
 use Rattle.in_rounds.proofs.Holding.{InOrOut, in_or_out, in_one, out_of_one}
 use Rattle.in_rounds.proofs.Holding.InOrOut.{IsHere, IsOut}
@@ -29,18 +29,13 @@ module _ (need : Need) (s s' : StockParts) (p : PlacedParts) (takes : TakesCells
       let at = cells.only n in_it in
       ap (λ v. state_at v n) takes.bag ∙ one_of_all s.bag p.cells Leased (record { 0 = n }) at.0 (vacant_inside s.bag n (was n in_it)) at.1
 
-  -- another cell is the stock's where it was
-  left : (n : ℕ) → state_at p.bag n ≡ Leased → ((k : ℕ) × (slice_get p.cells k ≡ Some (record { 0 = n }))) ⊎ (state_at (with_all s.bag p.cells Leased) n ≡ state_at s.bag n) → state_at s'.bag n ≡ state_at s.bag n
-  left n out (inl at) = absurd (cells.each at.0 (record { 0 = n }) at.1 (subst IsLeased (sym out) tt))
-  left n out (inr same) = ap (λ v. state_at v n) takes.bag ∙ same
-
   count_by : (n : ℕ) → InOrOut p.bag n → holders n (s'.bag ∷ []) + holders n (p.bag ∷ []) ≡ holders n (s.bag ∷ [])
   count_by n (IsHere in_it one) =
       let none = out_of_one s'.bag n (gone n in_it) in
       let had = in_one s.bag n (λ leased. subst IsLeased (was n in_it) leased) in
       omega (arith, none, one, had)
   count_by n (IsOut out none) =
-      let same = ap (λ x. cond {A = ℕ} (is_own x) 1 0) (left n out (one_or_same s.bag p.cells Leased n)) in omega (arith, none, same)
+      let same = ap (λ x. cond {A = ℕ} (is_own x) 1 0) (as_left need s s' p takes cells n out) in omega (arith, none, same)
 
   pub placed_count : (n : ℕ) → holders n (s'.bag ∷ []) + holders n (p.bag ∷ []) ≡ holders n (s.bag ∷ [])
   placed_count n = count_by n (in_or_out p.bag n)

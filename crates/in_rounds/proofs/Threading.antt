@@ -1,7 +1,7 @@
 -- Parts that others have begun, and that come back.
 use Rattle.std.proofs.Common.{◌≡◌, ◌≤◌, List, [], ◌∷◌, ◌++◌, length, All, refl, sym, ap, ◌∙◌, subst, arith}
 use Rattle.std.specs.List.{AllZip}
-use Rattle.std.proofs.lemmas.List.{append-nil, append_assoc, length-append, get_or_append_left, get_or_at}
+use Rattle.std.proofs.lemmas.List.{append-nil, append_assoc, length-append, get_or_append_left, get_or_at, nil_from_length}
 use Rattle.in_base.proofs.Options.{snoc_parts}
 use Rattle.in_rounds.specs.declared.threads.Begun.{Begun}
 use Rattle.in_rounds.specs.declared.threads.Begun.TheVariants.{There, Here}
@@ -31,10 +31,6 @@ all_zip-push R [] [] x y all one = (one, tt)
 all_zip-push R [] (w ∷ ws) x y all one = absurd all
 all_zip-push R (v ∷ vs) [] x y all one = absurd all
 all_zip-push R (v ∷ vs) (w ∷ ws) x y all one = (all.0, all_zip-push R vs ws x y all.1 one)
-
-no_items : {X : Type 0} (xs : List X) → length xs ≡ 0 → xs ≡ []
-no_items [] none = refl
-no_items (x ∷ xs) none = absurd (omega arith)
 
 pub last_of : {X : Type 0} (P : X → Type 0) (xs ys : List X) (x : X) → xs ≡ ys ++ x ∷ [] → All P xs → P x
 last_of P xs ys x split all = subst P (get_or_at ys x [] x (length ys) refl) (subst (All P) split all (length ys) x (omega (arith, length-append ys (x ∷ []))))
@@ -87,8 +83,8 @@ module _ (P W : Type 0) (is_worked : W → P → P → Type 0) where
   pub finish : (w : W) (mine own : P) (all rest back got done before : List P) (bs cs : List (Begun P W)) → all ≡ rest ++ back → length rest ≡ 0 → Mirrors is_worked w back bs →
       ((v : W) (ps : List P) → Mirrors is_worked v ps bs → Ends is_worked v ps got cs) → length cs ≡ 0 → is_worked w mine own → before ≡ own ∷ [] → done ≡ before ++ got → AllZip (is_worked w) (mine ∷ all) done
   finish w mine own all rest back got done before bs cs split none m ends empty own_is first list =
-      let whole : all ≡ back = split ∙ ap (λ zs. zs ++ back) (no_items rest none) in
-      let end = subst (Ends is_worked w all got) (no_items cs empty) (ends w all (subst (λ ps. Mirrors is_worked w ps bs) (sym whole) m)) in
+      let whole : all ≡ back = split ∙ ap (λ zs. zs ++ back) (nil_from_length rest none) in
+      let end = subst (Ends is_worked w all got) (nil_from_length cs empty) (ends w all (subst (λ ps. Mirrors is_worked w ps bs) (sym whole) m)) in
       subst (AllZip (is_worked w) (mine ∷ all)) (sym (list ∙ ap (λ zs. zs ++ got) first)) (own_is, all_back w all got end)
 
 pub some_back : {P : Type 0} (all rest back : List P) → all ≡ rest ++ back → length back ≤ length all

@@ -44,12 +44,16 @@ is_leased (Live w es) h = absurd h
 abbrev pub IsAlike : State → State → Type 0
 IsAlike x y = (y ≡ x) ⊎ (((x ≡ Leased) × (y ≡ Vacant)) ⊎ ((x ≡ Vacant) × (y ≡ Leased)))
 
+-- .. and so it is with each cell of an arena
+abbrev pub AreAlike : ArenaView → ArenaView → Type 0
+AreAlike a b = (n : ℕ) → n < length a.states → IsAlike (state_at a n) (state_at b n)
+
 alike : (x y : State) → IsAlike x y → rested y ≡ rested x
 alike x y (inl e) = ap rested e
 alike x y (inr (inl h)) = ap rested h.1 ∙ sym (ap rested h.0)
 alike x y (inr (inr h)) = ap rested h.1 ∙ sym (ap rested h.0)
 
-module _ (a b : ArenaView) (memory : b.memory ≡ a.memory) (cells : b.cells ≡ a.cells) (many : length b.states ≡ length a.states) (each : (n : ℕ) → n < length a.states → IsAlike (state_at a n) (state_at b n)) where
+module _ (a b : ArenaView) (memory : b.memory ≡ a.memory) (cells : b.cells ≡ a.cells) (many : length b.states ≡ length a.states) (each : AreAlike a b) where
   pub rest_same : at_rest b ≡ at_rest a
   rest_same =
       let states = rested_same a.states b.states many (λ n l. alike (state_at a n) (state_at b n) (each n l)) in
@@ -68,7 +72,7 @@ module _ (a b : ArenaView) (memory : b.memory ≡ a.memory) (cells : b.cells ≡
     h.1,
   )
 
-module _ (r : Body) (b : ArenaView) (memory : b.memory ≡ r.arena.memory) (cells : b.cells ≡ r.arena.cells) (many : length b.states ≡ length r.arena.states) (each : (n : ℕ) → n < length r.arena.states → IsAlike (state_at r.arena n) (state_at b n)) where
+module _ (r : Body) (b : ArenaView) (memory : b.memory ≡ r.arena.memory) (cells : b.cells ≡ r.arena.cells) (many : length b.states ≡ length r.arena.states) (each : AreAlike r.arena b) where
   pub view_same : reducer_view (over b r) ≡ reducer_view r
   view_same =
       let rest = rest_same r.arena b memory cells many each in
@@ -102,7 +106,7 @@ module _ (r : Body) (b : ArenaView) (memory : b.memory ≡ r.arena.memory) (cell
 
 -- one bag
 module _ (a b bag : ArenaView) (of : IsBagOf bag a) (back : Regains (λ _. Vacant) a bag b) where
-  pub back_alike : (n : ℕ) → n < length a.states → IsAlike (state_at a n) (state_at b n)
+  pub back_alike : AreAlike a b
   back_alike n l = go (leased_or (state_at bag n))
     where
       go : (state_at bag n ≡ Leased) ⊎ IsInBag bag n → IsAlike (state_at a n) (state_at b n)
@@ -128,7 +132,7 @@ module _ (bs : List ArenaView) (a b : ArenaView) (have : HaveAllLeased bs a) (ba
   some_or_none zero = inr refl
   some_or_none (suc k) = inl (omega arith)
 
-  pub all_alike : (n : ℕ) → n < length a.states → IsAlike (state_at a n) (state_at b n)
+  pub all_alike : AreAlike a b
   all_alike n l = go (some_or_none (holders n bs))
     where
       go : (0 < holders n bs) ⊎ (holders n bs ≡ 0) → IsAlike (state_at a n) (state_at b n)
@@ -151,7 +155,7 @@ module _ (bs : List ArenaView) (a b : ArenaView) (lent : AreLentOut bs a b) wher
   one_or_none zero l = inr refl
   one_or_none (suc k) l = inl (omega (arith, l))
 
-  pub lent_alike : (n : ℕ) → n < length a.states → IsAlike (state_at a n) (state_at b n)
+  pub lent_alike : AreAlike a b
   lent_alike n l = go (one_or_none (holders n bs) (lent.bags.once n))
     where
       go : (holders n bs ≡ 1) ⊎ (holders n bs ≡ 0) → IsAlike (state_at a n) (state_at b n)

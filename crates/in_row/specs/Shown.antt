@@ -1,11 +1,11 @@
--- What an owner of words shows of a net: what stands in the first word of each cell, and where each end leads to.
+-- What an owner of words shows of a net: the content of the first word of each cell, and where each end leads to.
 use Rattle.std.specs.Prelude.{ℕ, List, get_or, Option, Some, None, option_map}
 use Rattle.in_row.specs.Ends.{Layout, RowEnd, encode, decode}
 
 abbrev pub Slots : Type 0
 Slots = List (Option (Option ℕ))
 
--- what stands in a word, if it is here and was written
+-- the content of a word, if it is here and was written
 abbrev pub written : Option (Option ℕ) → Option ℕ
 written None = None
 written (Some w) = w

@@ -13,7 +13,7 @@ IsBaseOf base words = base.ptr ≡ words.at
 abbrev pub HasWords : Cells ℕ → Slots → Cells ℕ → Type 0
 HasWords old slots new = (new.at ≡ old.at) × (new.slots ≡ slots)
 
--- in two words stand the numbers of words that are here
+-- two words have the numbers of words that are here
 abbrev pub CanMend : Slots → ℕ → ℕ → Type 0
 CanMend ws a b = (x : ℕ) × (y : ℕ) × (get_or ws a None ≡ Some (Some x)) × (get_or ws b None ≡ Some (Some y)) × IsHere ws x × IsHere ws y
 

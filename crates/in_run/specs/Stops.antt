@@ -13,7 +13,7 @@ IsStop limit m k Normal = m.queue ≡ []
 IsStop limit m k Limit = (m.queue ≢ []) × (k ≡ limit)
 IsStop limit m k (Full c need free) = (m.queue ≢ []) × (k < limit) × IsShortAt m 0 c need free
 
--- none of them stands
+-- none of them is true
 abbrev pub GoesOn : ℕ → MachineParts → ℕ → Type 0
 GoesOn limit m k = (0 < length m.queue) × (k < limit) × HasRoomAt m 0
 

@@ -4,7 +4,7 @@ use Rattle.in_open_nets.specs.declared.open_nets.OpenPoint.{OpenPoint}
 use Rattle.in_open_nets.specs.declared.open_nets.OpenPoint.TheVariants.{Port, Free}
 use Rattle.in_simple_deriving.specs.declared.plans.Fate.{Fate}
 use Rattle.in_simple_deriving.specs.declared.plans.Fate.TheVariants.{Derived, Outside}
-use Rattle.in_simple_deriving.specs.declared.plans.Plan.{Plan}
+use Rattle.in_simple_deriving.specs.declared.plans.TaskPlan.{TaskPlan}
 use Rattle.in_open_nets.specs.Constructions.{IsIn}
 use Rattle.in_open_nets.specs.Derivations.{is_port_in}
 use Rattle.in_open_nets.specs.OpenNets.{OpenNet, IsWire, IsOpenNet}
@@ -27,11 +27,11 @@ leads_away t n i (Free k) off not = tt
 pub later_port : (t : ℕ → Bool) (n i : ℕ) (q : OpenPoint) → LeadsAway t n i q → (j : ℕ) → q ≡ Port n j → i < j
 later_port t n i q away j e = (subst (LeadsAway t n i) e away).1 refl
 
-pub past : (p : Plan) (m : ℕ) (f : Fate) → (f ≡ Derived) ⊎ (f ≡ Outside) → HasFate p m f → IsIn m (nodes_in p.rest) → IsIn m (nodes_in p.done)
+pub past : (p : TaskPlan) (m : ℕ) (f : Fate) → (f ≡ Derived) ⊎ (f ≡ Outside) → HasFate p m f → IsIn m (nodes_in p.rest) → IsIn m (nodes_in p.done)
 past p m f (inl e) h here = (subst (HasFate p m) e h).1
 past p m f (inr e) h here = absurd (not_both (nodes_in p.rest m) here (subst (HasFate p m) e h))
 
-module _ (o : OpenNet) (net : IsOpenNet o) (n : ℕ) (p : Plan) (i w : ℕ) (q : OpenPoint) (wire : IsWire o w (Port n i) q) where
+module _ (o : OpenNet) (net : IsOpenNet o) (n : ℕ) (p : TaskPlan) (i w : ℕ) (q : OpenPoint) (wire : IsWire o w (Port n i) q) where
   pub along : (l k : ℕ) → q ≡ Port l k → IsWire o w (Port n i) (Port l k)
   along l k e = subst (λ z. IsWire o w (Port n i) z) e wire
 

@@ -3,7 +3,7 @@ use Rattle.std.proofs.Common.{◌≡◌, ◌↔◌, ℕ, Bool, false, ◌||◌, 
 use mathlib.Core.Path.{fun_ext}
 use Rattle.in_open_nets.specs.declared.open_nets.OpenPoint.{OpenPoint}
 use Rattle.in_open_nets.specs.declared.open_nets.OpenPoint.TheVariants.{Port}
-use Rattle.in_simple_deriving.specs.declared.plans.Joint.TheVariants as joint
+use Rattle.in_simple_deriving.specs.declared.plans.StackStep.TheVariants as joint
 use Rattle.in_open_nets.specs.Constructions.{IsIn, AreParts}
 use Rattle.in_open_nets.specs.OpenNets.{OpenNet, IsClass, IsAgent, IsWire, IsOpenNet}
 use Rattle.in_open_nets.specs.declared.derivations.Step.{Step}

@@ -3,9 +3,9 @@ use Rattle.std.proofs.Math.Bool.{or_comm}
 use Rattle.std.proofs.Common.{◌≡◌, ◌≢◌, ◌⊎◌, ◌↔◌, ◌<◌, ◌+◌, ℕ, suc, Bool, false, ◌||◌, nat_eq, List, [], ◌∷◌, ◌++◌, length, slice_get, append_assoc, refl, sym, subst, ap, inl, inr, ◌∙◌, eq-eqb, eqb-true, arith}
 use Rattle.in_open_nets.specs.declared.open_nets.OpenPoint.{OpenPoint}
 use Rattle.in_open_nets.specs.declared.open_nets.OpenPoint.TheVariants.{Port}
-use Rattle.in_simple_deriving.specs.declared.plans.Joint.{Joint}
-use Rattle.in_simple_deriving.specs.declared.plans.Joint.TheVariants as joint
-use Rattle.in_simple_deriving.specs.declared.plans.Plan.{Plan}
+use Rattle.in_simple_deriving.specs.declared.plans.StackStep.{StackStep}
+use Rattle.in_simple_deriving.specs.declared.plans.StackStep.TheVariants as joint
+use Rattle.in_simple_deriving.specs.declared.plans.TaskPlan.{TaskPlan}
 use Rattle.in_simple_deriving.specs.declared.plans.Task.{Task}
 use Rattle.in_simple_deriving.specs.declared.plans.Task.TheVariants.{Derive, Make}
 use Rattle.in_open_nets.specs.Constructions.{IsIn, AreParts}
@@ -34,7 +34,7 @@ module _ (o : OpenNet) where
   pub puts_none : PutsShapes o [] []
   puts_none below = sym (none_more below)
 
-  pub puts_make : (ts : List Task) (j : Joint) (xs ys : List Shape) (y : Shape) → PutsShapes o ts (xs ++ ys) → Fits o j ys y → PutsShapes o (ts ++ Make j ∷ []) (xs ++ y ∷ [])
+  pub puts_make : (ts : List Task) (j : StackStep) (xs ys : List Shape) (y : Shape) → PutsShapes o ts (xs ++ ys) → Fits o j ys y → PutsShapes o (ts ++ Make j ∷ []) (xs ++ y ∷ [])
   puts_make ts j xs ys y p f below =
       subst (λ z. RunsTasks o (ts ++ Make j ∷ []) below z) (append_assoc below xs (y ∷ []))
       (runs_make o ts j below (below ++ xs) ys y (subst (λ z. RunsTasks o ts below z) (sym (append_assoc below xs ys)) (p below)) f)
@@ -43,10 +43,10 @@ module _ (o : OpenNet) where
   puts_derive ts c xs p below =
       subst (λ z. RunsTasks o (ts ++ Derive c ∷ []) below z) (append_assoc below xs (shape (nodes_in c) no_wires ∷ [])) (runs_derive o ts c below (below ++ xs) (p below))
 
-pub skips_none : (p : Plan) → Skips 0 p p
+pub skips_none : (p : TaskPlan) → Skips 0 p p
 skips_none p = record { rest = refl; done = refl; puts = λ o net xs f. f }
 
-pub skips_more : (k : ℕ) (p q r : Plan) → Skips k p q → r ≡ with_task q (Make joint.Empty) → Skips (k + 1) p r
+pub skips_more : (k : ℕ) (p q r : TaskPlan) → Skips k p q → r ≡ with_task q (Make joint.Empty) → Skips (k + 1) p r
 skips_more k p q r s e = record {
   rest = ap (λ z. z.rest) e ∙ s.rest;
   done = ap (λ z. z.done) e ∙ s.done;
@@ -74,7 +74,7 @@ module _ (o : OpenNet) (net : IsOpenNet o) (n : ℕ) where
 
   -- ---- what is derived
 
-  module _ (t : ℕ) (p : Plan) (h : IsPlanAtTurn o n t p) where
+  module _ (t : ℕ) (p : TaskPlan) (h : IsPlanAtTurn o n t p) where
     pub not_root : (m : ℕ) → IsIn m (nodes_in p.rest) → m ≢ n
     not_root m a e = not_both (nodes_in p.rest m) a (subst (λ z. nodes_in p.rest z ≡ false) (sym e) h.out)
 
@@ -89,7 +89,7 @@ module _ (o : OpenNet) (net : IsOpenNet o) (n : ℕ) where
         (h.done k).1 (x.0, x.1, part, x.3, x.4, (part.2 k).1 (link_join o (Without n (nodes_in p.rest)) (without o net (nodes_in p.rest) (in_net o net n t p h) n) part.0 m k ((part.2 m).0 x.5) on))
 
     -- the component of a node that isn't derived yet
-    module _ (l : ℕ) (q : Plan) (here : IsIn l (nodes_in p.rest)) (off : nodes_in p.done l ≡ false) (d : DerivesNear o l p q) where
+    module _ (l : ℕ) (q : TaskPlan) (here : IsIn l (nodes_in p.rest)) (off : nodes_in p.done l ≡ false) (d : DerivesNear o l p q) where
       abbrev before : ℕ → Bool
       before m = nat_eq m n || nodes_in p.done m
 
@@ -136,7 +136,7 @@ module _ (o : OpenNet) (net : IsOpenNet o) (n : ℕ) where
       both_put : PutsNet o n p → PutsShapes o q.tasks (shape before no_wires ∷ shape (nodes_in d.component) no_wires ∷ [])
       both_put f = subst (λ z. PutsShapes o z (shape before no_wires ∷ shape (nodes_in d.component) no_wires ∷ [])) (sym d.tasks) (puts_derive o p.tasks d.component (shape before no_wires ∷ []) f)
 
-      pub net_join : (r : Plan) (i w k : ℕ) → PutsNet o n p → IsWire o w (Port n i) (Port l k) → (IsAgent o n → i ≡ 0) → ((j : ℕ) → class_in o n i ≡ class_in o n j → (v : ℕ) (s : OpenPoint) → IsWire o v (Port n j) s → i ≡ j) → r ≡ with_task q (Make (joint.Cut w)) → PutsNet o n r
+      pub net_join : (r : TaskPlan) (i w k : ℕ) → PutsNet o n p → IsWire o w (Port n i) (Port l k) → (IsAgent o n → i ≡ 0) → ((j : ℕ) → class_in o n i ≡ class_in o n j → (v : ℕ) (s : OpenPoint) → IsWire o v (Port n j) s → i ≡ j) → r ≡ with_task q (Make (joint.Cut w)) → PutsNet o n r
       net_join r i w k f wire firm only e =
           subst (PutsNet o n) (sym e)
           (puts_make o q.tasks (joint.Cut w) [] (shape before no_wires ∷ shape (nodes_in d.component) no_wires ∷ []) (shape after no_wires) (both_put f)
@@ -151,7 +151,7 @@ module _ (o : OpenNet) (net : IsOpenNet o) (n : ℕ) where
               let x = port_place l m' k j' (net.once w v (Port n i) (Port l k) (Port m' j') wire g2).1 in
               ((r, sym s), (sym x.0, sym x.1))
 
-      pub net_beside : (r : Plan) → PutsNet o n p → ((i w m j : ℕ) → IsWire o w (Port n i) (Port m j) → IsIn m (nodes_in d.component) → ⊥) → r ≡ with_task q (Make joint.Mix) → PutsNet o n r
+      pub net_beside : (r : TaskPlan) → PutsNet o n p → ((i w m j : ℕ) → IsWire o w (Port n i) (Port m j) → IsIn m (nodes_in d.component) → ⊥) → r ≡ with_task q (Make joint.Mix) → PutsNet o n r
       net_beside r f off_n e =
           subst (PutsNet o n) (sym e)
           (puts_make o q.tasks joint.Mix [] (shape before no_wires ∷ shape (nodes_in d.component) no_wires ∷ []) (shape after no_wires) (both_put f)
@@ -163,7 +163,7 @@ module _ (o : OpenNet) (net : IsOpenNet o) (n : ℕ) where
               off_n i' w m' j' (subst (λ z. IsWire o w (Port z i') (Port m' j')) r g) b
 
   -- a class node alone
-  pub net_given : (p q : Plan) → IsPlanAtTurn o n 0 p → p.tasks ≡ [] → IsClass o n → q ≡ with_task p (Make (joint.Given n)) → PutsNet o n q
+  pub net_given : (p q : TaskPlan) → IsPlanAtTurn o n 0 p → p.tasks ≡ [] → IsClass o n → q ≡ with_task p (Make (joint.Given n)) → PutsNet o n q
   net_given p q h start c e =
       subst (PutsNet o n) (sym e)
       (puts_make o p.tasks (joint.Given n) [] [] (net_of n p.done) (subst (λ z. PutsShapes o z []) (sym start) (puts_none o))
@@ -181,7 +181,7 @@ module _ (o : OpenNet) (net : IsOpenNet o) (n : ℕ) where
           net.apart w (Port n i) (Port n j) g (ap (λ z. Port n z) f)
 
   -- no port of n meets what has a later turn
-  pub untouched : (p : Plan) (m : ℕ) → HasTurn o n p m (suc (ports_of o n) + m) → (c : ℕ → Bool) → IsPart o n (nodes_in p.rest) c → IsIn m c → (i w l k : ℕ) → IsWire o w (Port n i) (Port l k) → IsIn l c → ⊥
+  pub untouched : (p : TaskPlan) (m : ℕ) → HasTurn o n p m (suc (ports_of o n) + m) → (c : ℕ → Bool) → IsPart o n (nodes_in p.rest) c → IsIn m c → (i w l k : ℕ) → IsWire o w (Port n i) (Port l k) → IsIn l c → ⊥
   untouched p m turn c part here i w l k wire inside = go (turn c part here)
     where
       go : ComesAt o n c (suc (ports_of o n) + m) → ⊥
@@ -193,7 +193,7 @@ module _ (o : OpenNet) (net : IsOpenNet o) (n : ℕ) where
       go (inr x) = x.0 i (w, l, k, wire, inside)
 
   -- a node that n doesn't touch, and its component
-  pub net_other : (p : Plan) (m : ℕ) → (h : IsPlanAtTurn o n (suc (ports_of o n) + m) p) → (q r : Plan) → IsIn m (nodes_in p.rest) → nodes_in p.done m ≡ false → DerivesNear o m p q → PutsNet o n p → r ≡ with_task q (Make joint.Mix) → PutsNet o n r
+  pub net_other : (p : TaskPlan) (m : ℕ) → (h : IsPlanAtTurn o n (suc (ports_of o n) + m) p) → (q r : TaskPlan) → IsIn m (nodes_in p.rest) → nodes_in p.done m ≡ false → DerivesNear o m p q → PutsNet o n p → r ≡ with_task q (Make joint.Mix) → PutsNet o n r
   net_other p m h q r here off d f e =
       let part = reached_part o net n p.rest d.component m h.out here d.reached in
       net_beside (suc (ports_of o n) + m) p h m q here off d r f
@@ -212,7 +212,7 @@ module _ (o : OpenNet) (net : IsOpenNet o) (n : ℕ) where
       ]
 
   -- at the end all of the part is built
-  pub net_whole : (part : List Bool) (p : Plan) → IsPlanAtTurn o n (suc (ports_of o n) + length o.nodes) p → PutsNet o n p → IsRest n part p.rest → IsIn n (nodes_in part) → PutsShapes o p.tasks (shape (nodes_in part) no_wires ∷ [])
+  pub net_whole : (part : List Bool) (p : TaskPlan) → IsPlanAtTurn o n (suc (ports_of o n) + length o.nodes) p → PutsNet o n p → IsRest n part p.rest → IsIn n (nodes_in part) → PutsShapes o p.tasks (shape (nodes_in part) no_wires ∷ [])
   net_whole part p h f r here = subst (λ z. PutsShapes o p.tasks (z ∷ [])) (shape_same (net_of n p.done) (nodes_in part) no_wires same (λ w. refl)) f
     where
       inside : (m : ℕ) → IsIn m (nodes_in p.rest) → m < length o.nodes

@@ -5,8 +5,8 @@ use Rattle.in_open_nets.specs.declared.open_nets.Node.{Node}
 use Rattle.in_open_nets.specs.declared.open_nets.Node.TheVariants.{AgentNode, ClassNode}
 use Rattle.in_open_nets.specs.declared.open_nets.OpenNode.{OpenNode}
 use Rattle.in_open_nets.specs.declared.open_nets.OpenPoint.TheVariants.{Port}
-use Rattle.in_simple_deriving.specs.declared.plans.Joint.{Joint}
-use Rattle.in_simple_deriving.specs.declared.plans.Joint.TheVariants.{Link, Cut}
+use Rattle.in_simple_deriving.specs.declared.plans.StackStep.{StackStep}
+use Rattle.in_simple_deriving.specs.declared.plans.StackStep.TheVariants.{Link, Cut}
 use Rattle.in_open_nets.specs.Constructions.{IsIn}
 use Rattle.in_open_nets.specs.declared.derivations.Step.{Step}
 use Rattle.in_open_nets.specs.OpenNets.{OpenNet, IsOpenNet, IsAgentNode, IsWire}
@@ -40,7 +40,7 @@ module _ (o : OpenNet) (net : IsOpenNet o) where
       let i = turn_one a.0 b.0 (slice_get o.nodes n) (net.points v (Port n a.0) a.1 a.2) (net.points w (Port n b.0) b.1 b.2) (a.3 ∙ sym b.3) in
       (net.once v w (Port n a.0) a.1 b.1 a.2 (subst (λ z. IsWire o w (Port n z) b.1) (sym i) b.2)).0
 
-  one_joined : (n k : ℕ) (m : Manner) (js is : List Joint) → JoinsInManner o n k m js → JoinsInManner o n k m is → js ≡ is
+  one_joined : (n k : ℕ) (m : Manner) (js is : List StackStep) → JoinsInManner o n k m js → JoinsInManner o n k m is → js ≡ is
   one_joined n k begins js is h g = h ∙ sym g
   one_joined n k beside js is h g = h ∙ sym g
   one_joined n k cut js is h g = h.2 ∙ ap (λ w. Cut w ∷ []) (one_wire_at n k h.0 g.0 h.1 g.1) ∙ sym g.2
@@ -59,7 +59,7 @@ module _ (o : OpenNet) (net : IsOpenNet o) where
   one_left : (s t u : ℕ → Bool) (n : ℕ) → IsLeft n s t → IsLeft n s u → t ≡ u
   one_left s t u n f g = fun_ext (λ m. same_test (t m) (u m) (λ h. (g m).1 ((f m).0 h)) (λ h. (f m).1 ((g m).0 h)))
 
-  one : (g : Stage) (js is : List Joint) → Inside o g → Comes o g js → Comes o g is → js ≡ is
+  one : (g : Stage) (js is : List StackStep) → Inside o g → Comes o g js → Comes o g is → js ≡ is
   one _ _ _ inside (taken s t n js f left h) (taken _ u m is f1 left1 k) =
       let e = one_first o net s n m f f1 in
       let same : t ≡ u = one_left s t u n left (subst (λ z. IsLeft z s u) (sym e) left1) in
@@ -81,7 +81,7 @@ module _ (o : OpenNet) (net : IsOpenNet o) where
   one _ _ _ inside (nothing s n k none) (link _ _ _ v is1 l1 j1) = absurd (none.1 v l1)
   one _ _ _ inside (nothing s n k none) (nothing _ _ _ none1) = refl
 
-  one_joints : (js is : List Joint) → AreJointsOf o js → AreJointsOf o is → js ≡ is
+  one_joints : (js is : List StackStep) → AreJointsOf o js → AreJointsOf o is → js ≡ is
   one_joints _ _ (with_nodes s js some all h) (with_nodes t is some1 all1 k) =
       ap (λ z. z ++ links_from o true 0 (length o.wires)) (one (part s) js is (λ m z. (all m).0 z) h (subst (λ z. Comes o (part z) is) (sym (all_one o net s t all all1)) k))
   one_joints _ _ (with_nodes s js some all h) (without none) = absurd (omega (arith, some, none))
@@ -93,14 +93,14 @@ module _ (o : OpenNet) (net : IsOpenNet o) where
 
 -- ---- tasks
 
-pub record IsSplit (o : OpenNet) (xs ys : List Task) (js : List Joint) : Type 0 where
-  pub one : List Joint
-  pub other : List Joint
+pub record IsSplit (o : OpenNet) (xs ys : List Task) (js : List StackStep) : Type 0 where
+  pub one : List StackStep
+  pub other : List StackStep
   pub first : Yields o xs one
   pub second : Yields o ys other
   pub whole : one ++ other ≡ js
 
-pub split : (o : OpenNet) (xs ys : List Task) (js : List Joint) → Yields o (xs ++ ys) js → IsSplit o xs ys js
+pub split : (o : OpenNet) (xs ys : List Task) (js : List StackStep) → Yields o (xs ++ ys) js → IsSplit o xs ys js
 split o [] ys js h = record { one = []; other = js; first = done; second = h; whole = refl }
 split o (Make j ∷ xs) ys _ (made _ _ js h) =
     let r = split o xs ys js h in record { one = j ∷ r.one; other = r.other; first = made j xs r.one r.first; second = r.second; whole = ap (λ z. j ∷ z) r.whole }

@@ -5,8 +5,8 @@ use Rattle.in_open_nets.specs.declared.open_nets.Node.{Node}
 use Rattle.in_open_nets.specs.declared.open_nets.Node.TheVariants.{AgentNode, ClassNode}
 use Rattle.in_open_nets.specs.declared.open_nets.OpenNode.{OpenNode}
 use Rattle.in_open_nets.specs.declared.open_nets.OpenPoint.TheVariants.{Port}
-use Rattle.in_simple_deriving.specs.declared.plans.Joint.{Joint}
-use Rattle.in_simple_deriving.specs.declared.plans.Plan.{Plan}
+use Rattle.in_simple_deriving.specs.declared.plans.StackStep.{StackStep}
+use Rattle.in_simple_deriving.specs.declared.plans.TaskPlan.{TaskPlan}
 use Rattle.in_simple_deriving.specs.declared.plans.Task.{Task}
 use Rattle.in_simple_deriving.specs.declared.plans.Task.TheVariants.{Derive, Make}
 use Rattle.in_open_nets.specs.Constructions.{IsIn}
@@ -60,7 +60,7 @@ turn_class o n i a = go (slice_get o.nodes n) a
     go None h = absurd h
     go (Some m) h = at m m.node h
 
-pub plan_make : (o : OpenNet) (n t : ℕ) (p : Plan) (j : Joint) → IsPlanAtTurn o n t p → IsPlanAtTurn o n t (with_task p (Make j))
+pub plan_make : (o : OpenNet) (n t : ℕ) (p : TaskPlan) (j : StackStep) → IsPlanAtTurn o n t p → IsPlanAtTurn o n t (with_task p (Make j))
 plan_make o n t p j h = record {
   rest_size = h.rest_size;
   done_size = h.done_size;
@@ -72,21 +72,21 @@ plan_make o n t p j h = record {
   left = h.left;
 }
 
-pub keeps_make : (old p q : Plan) (j : Joint) → KeepsPlan old p → q ≡ with_task p (Make j) → KeepsPlan old q
+pub keeps_make : (old p q : TaskPlan) (j : StackStep) → KeepsPlan old p → q ≡ with_task p (Make j) → KeepsPlan old q
 keeps_make old p q j h e = λ o n t k.
     let x = h o n t k in
     subst (λ z. StaysForRest o n t old z) (sym e) (plan_make o n t p j x.0, x.1)
 
-pub keeps_same : (p : Plan) → KeepsPlan p p
+pub keeps_same : (p : TaskPlan) → KeepsPlan p p
 keeps_same p = λ o n t k. (k, refl)
 
-pub goes_make : (o : OpenNet) (n t : ℕ) (old p q : Plan) (j : Joint) → StaysForRest o n t old p → q ≡ with_task p (Make j) → StaysForRest o n t old q
+pub goes_make : (o : OpenNet) (n t : ℕ) (old p q : TaskPlan) (j : StackStep) → StaysForRest o n t old p → q ≡ with_task p (Make j) → StaysForRest o n t old q
 goes_make o n t old p q j h e = subst (λ z. StaysForRest o n t old z) (sym e) (plan_make o n t p j h.0, h.1)
 
-pub goes_keep : (o : OpenNet) (n t : ℕ) (old p q : Plan) → StaysForRest o n t old p → KeepsPlan p q → StaysForRest o n t old q
+pub goes_keep : (o : OpenNet) (n t : ℕ) (old p q : TaskPlan) → StaysForRest o n t old p → KeepsPlan p q → StaysForRest o n t old q
 goes_keep o n t old p q h k = let x = k o n t h.0 in (x.0, x.1 ∙ h.1)
 
-pub goes_on : (o : OpenNet) (n t u : ℕ) (old p q : Plan) → StaysForRest o n t old p → StaysForRest o n u p q → StaysForRest o n u old q
+pub goes_on : (o : OpenNet) (n t u : ℕ) (old p q : TaskPlan) → StaysForRest o n t old p → StaysForRest o n u p q → StaysForRest o n u old q
 goes_on o n t u old p q h k = (k.0, k.1 ∙ h.1)
 
 module _ (o : OpenNet) (net : IsOpenNet o) (n : ℕ) where
@@ -112,7 +112,7 @@ module _ (o : OpenNet) (net : IsOpenNet o) (n : ℕ) where
   )
   lists_down s t none (Make x ∷ ts) h = lists_down s t none ts h
 
-  pub plan_start : (p : Plan) → length p.rest ≡ length o.nodes → length p.done ≡ length o.nodes → nodes_in p.rest n ≡ false → ((m : ℕ) → nodes_in p.done m ≡ false) → p.tasks ≡ [] → ((i : ℕ) → PortSplits o p.rest n i) → IsLeftOf o n p.rest → IsPlanAtTurn o n 0 p
+  pub plan_start : (p : TaskPlan) → length p.rest ≡ length o.nodes → length p.done ≡ length o.nodes → nodes_in p.rest n ≡ false → ((m : ℕ) → nodes_in p.done m ≡ false) → p.tasks ≡ [] → ((i : ℕ) → PortSplits o p.rest n i) → IsLeftOf o n p.rest → IsPlanAtTurn o n 0 p
   plan_start p a b out off e splits left = record {
     rest_size = a;
     done_size = b;
@@ -124,7 +124,7 @@ module _ (o : OpenNet) (net : IsOpenNet o) (n : ℕ) where
     left = left;
   }
 
-  pub plan_skip : (t : ℕ) (p : Plan) → IsPlanAtTurn o n t p → NoneAt (nodes_in p.rest) t → IsPlanAtTurn o n (suc t) p
+  pub plan_skip : (t : ℕ) (p : TaskPlan) → IsPlanAtTurn o n t p → NoneAt (nodes_in p.rest) t → IsPlanAtTurn o n (suc t) p
   plan_skip t p h none = record {
     rest_size = h.rest_size;
     done_size = h.done_size;
@@ -142,10 +142,10 @@ module _ (o : OpenNet) (net : IsOpenNet o) (n : ℕ) where
     left = h.left;
   }
 
-  pub in_net : (t : ℕ) (p : Plan) → IsPlanAtTurn o n t p → (m : ℕ) → IsIn m (nodes_in p.rest) → m < length o.nodes
+  pub in_net : (t : ℕ) (p : TaskPlan) → IsPlanAtTurn o n t p → (m : ℕ) → IsIn m (nodes_in p.rest) → m < length o.nodes
   in_net t p h m k = let a = in_length p.rest m k in let b = h.rest_size in omega arith
 
-  pub plan_derive : (t : ℕ) (p : Plan) (c d : List Bool) → IsPlanAtTurn o n t p → length c ≡ length o.nodes → length d ≡ length o.nodes → ((m : ℕ) → nodes_in d m ≡ (nodes_in p.done m || nodes_in c m)) → IsPart o n (nodes_in p.rest) (nodes_in c) → ComesAt o n (nodes_in c) t → IsPlanAtTurn o n (suc t) (record { tasks = p.tasks ++ Derive c ∷ []; rest = p.rest; done = d })
+  pub plan_derive : (t : ℕ) (p : TaskPlan) (c d : List Bool) → IsPlanAtTurn o n t p → length c ≡ length o.nodes → length d ≡ length o.nodes → ((m : ℕ) → nodes_in d m ≡ (nodes_in p.done m || nodes_in c m)) → IsPart o n (nodes_in p.rest) (nodes_in c) → ComesAt o n (nodes_in c) t → IsPlanAtTurn o n (suc t) (record { tasks = p.tasks ++ Derive c ∷ []; rest = p.rest; done = d })
   plan_derive t p c d h size size' both part comes = record {
     rest_size = h.rest_size;
     done_size = size';
@@ -182,7 +182,7 @@ module _ (o : OpenNet) (net : IsOpenNet o) (n : ℕ) where
       not_n : (m : ℕ) → IsIn m (nodes_in rest) → m ≢ n
       not_n m h e = not_both (nodes_in rest m) h (subst (λ z. nodes_in rest z ≡ false) (sym e) out)
 
-  pub derive_goes : (t near : ℕ) (p q : Plan) → IsPlanAtTurn o n t p → IsIn near (nodes_in p.rest) → HasTurn o n p near t → DerivesNear o near p q → StaysForRest o n (suc t) p q
+  pub derive_goes : (t near : ℕ) (p q : TaskPlan) → IsPlanAtTurn o n t p → IsIn near (nodes_in p.rest) → HasTurn o n p near t → DerivesNear o near p q → StaysForRest o n (suc t) p q
   derive_goes t near p q h here now d =
       let part = reached_part p.rest d.component near h.out here d.reached in
       let inside = (d.reached near).1 (alone near here) in
@@ -190,7 +190,7 @@ module _ (o : OpenNet) (net : IsOpenNet o) (n : ℕ) where
       let e : record { tasks = p.tasks ++ Derive d.component ∷ []; rest = p.rest; done = q.done } ≡ q = plan_same p q (p.tasks ++ Derive d.component ∷ []) d.tasks d.same in
       (subst (λ z. IsPlanAtTurn o n (suc t) z) e x, d.same)
     where
-      plan_same : (p q : Plan) (ts : List Task) → q.tasks ≡ ts → q.rest ≡ p.rest → ◌≡◌ {A = Plan} (record { tasks = ts; rest = p.rest; done = q.done }) q
+      plan_same : (p q : TaskPlan) (ts : List Task) → q.tasks ≡ ts → q.rest ≡ p.rest → ◌≡◌ {A = TaskPlan} (record { tasks = ts; rest = p.rest; done = q.done }) q
       plan_same p q ts e f = ap (λ z. record { tasks = z; rest = p.rest; done = q.done }) (sym e) ∙ ap (λ z. record { tasks = q.tasks; rest = z; done = q.done }) (sym f)
 
   -- each node of a component is one of the rest
@@ -198,7 +198,7 @@ module _ (o : OpenNet) (net : IsOpenNet o) (n : ℕ) where
   part_inside s inside d part m h = link_first (open_graph o) (Without n s) m part.0 (link_back o (Without n s) (without o net s inside n) part.0 m ((part.2 m).0 h))
 
   -- a component with a done node has an earlier turn
-  done_before : (t : ℕ) (p : Plan) → IsPlanAtTurn o n t p → (d : ℕ → Bool) (l m : ℕ) → IsPart o n (nodes_in p.rest) d → ComesAt o n d l → IsIn m d → IsIn m (nodes_in p.done) → l < t
+  done_before : (t : ℕ) (p : TaskPlan) → IsPlanAtTurn o n t p → (d : ℕ → Bool) (l m : ℕ) → IsPart o n (nodes_in p.rest) d → ComesAt o n d l → IsIn m d → IsIn m (nodes_in p.done) → l < t
   done_before t p h d l m part comes inside here =
       let x = (h.done m).0 here in
       let e = meet_same o net (nodes_in p.rest) (in_net t p h) n x.0 d x.2 part m x.5 inside in
@@ -206,14 +206,14 @@ module _ (o : OpenNet) (net : IsOpenNet o) (n : ℕ) where
       let g = x.4 in
       omega arith
 
-  undone_after : (t : ℕ) (p : Plan) → IsPlanAtTurn o n t p → (d : ℕ → Bool) (l m : ℕ) → IsPart o n (nodes_in p.rest) d → ComesAt o n d l → IsIn m d → nodes_in p.done m ≡ false → t ≤ l
+  undone_after : (t : ℕ) (p : TaskPlan) → IsPlanAtTurn o n t p → (d : ℕ → Bool) (l m : ℕ) → IsPart o n (nodes_in p.rest) d → ComesAt o n d l → IsIn m d → nodes_in p.done m ≡ false → t ≤ l
   undone_after t p h d l m part comes inside off = elim (at_most t l) [
     | inl g ↦ g
     | inr g ↦ absurd (not_both (nodes_in p.done m) ((h.done m).1 (d, l, part, comes, g, inside)) off)
   ]
 
   -- at the turn of port i: the component that it touches, if it isn't done
-  pub port_turn : (p : Plan) (i w l k : ℕ) → IsPlanAtTurn o n (turn o n i) p → IsWire o w (Port n i) (Port l k) → IsIn l (nodes_in p.rest) → nodes_in p.done l ≡ false → HasTurn o n p l (turn o n i)
+  pub port_turn : (p : TaskPlan) (i w l k : ℕ) → IsPlanAtTurn o n (turn o n i) p → IsWire o w (Port n i) (Port l k) → IsIn l (nodes_in p.rest) → nodes_in p.done l ≡ false → HasTurn o n p l (turn o n i)
   port_turn p i w l k h wire here off c part inside =
       let q = comes_at o net (nodes_in p.rest) (in_net (turn o n i) p h) n c l inside (in_net (turn o n i) p h l here) in
       let low = undone_after (turn o n i) p h c q.0 l part q.1 inside off in
@@ -224,7 +224,7 @@ module _ (o : OpenNet) (net : IsOpenNet o) (n : ℕ) where
       go k' (inr x) low = absurd (x.0 i (w, l, k, wire, inside))
 
   -- .. and none, if it touches none or one that is done
-  pub port_none : (p : Plan) (i : ℕ) → i < ports_of o n → IsPlanAtTurn o n (turn o n i) p → ((w l k : ℕ) → IsWire o w (Port n i) (Port l k) → IsIn l (nodes_in p.rest) → IsIn l (nodes_in p.done)) → NoneAt (nodes_in p.rest) (turn o n i)
+  pub port_none : (p : TaskPlan) (i : ℕ) → i < ports_of o n → IsPlanAtTurn o n (turn o n i) p → ((w l k : ℕ) → IsWire o w (Port n i) (Port l k) → IsIn l (nodes_in p.rest) → IsIn l (nodes_in p.done)) → NoneAt (nodes_in p.rest) (turn o n i)
   port_none p i b h all d part (inl x) =
       let t = x.1 in
       let e : x.0 ≡ i = turn_one_port o net n x.0 i (in_ports o net t.0 n x.0 (Port t.1 t.2) t.3) b x.2 in
@@ -256,7 +256,7 @@ module _ (o : OpenNet) (net : IsOpenNet o) (n : ℕ) where
   class_none s a d part (inr x) = let c = x.1.2 in absurd (omega arith)
 
   -- after the ports, the components by their first nodes
-  pub node_turn : (p : Plan) (m : ℕ) → IsPlanAtTurn o n (suc (ports_of o n) + m) p → IsIn m (nodes_in p.rest) → nodes_in p.done m ≡ false → HasTurn o n p m (suc (ports_of o n) + m)
+  pub node_turn : (p : TaskPlan) (m : ℕ) → IsPlanAtTurn o n (suc (ports_of o n) + m) p → IsIn m (nodes_in p.rest) → nodes_in p.done m ≡ false → HasTurn o n p m (suc (ports_of o n) + m)
   node_turn p m h here off c part inside =
       let t = suc (ports_of o n) + m in
       let q = comes_at o net (nodes_in p.rest) (in_net t p h) n c m inside (in_net t p h m here) in
@@ -271,7 +271,7 @@ module _ (o : OpenNet) (net : IsOpenNet o) (n : ℕ) where
           absurd (omega arith)
       go k' (inr x) low = let u = x.1.3 m inside in let v = x.1.2 in omega arith
 
-  pub node_none : (p : Plan) (m : ℕ) → IsPlanAtTurn o n (suc (ports_of o n) + m) p → (IsIn m (nodes_in p.rest) → IsIn m (nodes_in p.done)) → NoneAt (nodes_in p.rest) (suc (ports_of o n) + m)
+  pub node_none : (p : TaskPlan) (m : ℕ) → IsPlanAtTurn o n (suc (ports_of o n) + m) p → (IsIn m (nodes_in p.rest) → IsIn m (nodes_in p.done)) → NoneAt (nodes_in p.rest) (suc (ports_of o n) + m)
   node_none p m h all d part (inl x) =
       let b = in_ports o net x.1.0 n x.0 (Port x.1.1 x.1.2) x.1.3 in
       let u = turn_one_port_most o net n x.0 b in
@@ -287,7 +287,7 @@ module _ (o : OpenNet) (net : IsOpenNet o) (n : ℕ) where
       absurd (omega arith)
 
   -- where all that is left is derived
-  pub none_later : (t : ℕ) (p : Plan) → IsPlanAtTurn o n t p → missing p.done ≤ missing p.rest → (d : ℕ → Bool) (l : ℕ) → IsPart o n (nodes_in p.rest) d → ComesAt o n d l → t ≤ l → ⊥
+  pub none_later : (t : ℕ) (p : TaskPlan) → IsPlanAtTurn o n t p → missing p.done ≤ missing p.rest → (d : ℕ → Bool) (l : ℕ) → IsPart o n (nodes_in p.rest) d → ComesAt o n d l → t ≤ l → ⊥
   none_later t p h few d l part comes low =
       let m = part.0 in
       let inside : IsIn m d = (part.2 m).1 (alone m part.1) in
@@ -298,7 +298,7 @@ module _ (o : OpenNet) (net : IsOpenNet o) (n : ℕ) where
       let f = done_before t p h d l m part comes inside (all m part.1.0) in
       absurd (omega arith)
 
-  pub plan_end : (p : Plan) → IsPlanAtTurn o n (suc (ports_of o n) + length o.nodes) p → Lists o n (nodes_in p.rest) 0 p.tasks
+  pub plan_end : (p : TaskPlan) → IsPlanAtTurn o n (suc (ports_of o n) + length o.nodes) p → Lists o n (nodes_in p.rest) 0 p.tasks
   plan_end p h = subst (λ z. Lists o n (nodes_in p.rest) 0 z) (none_more p.tasks) (h.lists [] (λ d l part comes low. last d l part comes low))
     where
       none_more : (ts : List Task) → ts ++ [] ≡ ts
@@ -350,20 +350,20 @@ module _ (o : OpenNet) (net : IsOpenNet o) (n : ℕ) where
   lists_part part rest r low (Make x ∷ ts) h = lists_part part rest r low ts h
 
   -- port by port
-  pub port_pass : (p : Plan) (i : ℕ) → i < ports_of o n → IsPlanAtTurn o n (turn o n i) p → ((w l k : ℕ) → IsWire o w (Port n i) (Port l k) → IsIn l (nodes_in p.rest) → IsIn l (nodes_in p.done)) → StaysForRest o n (suc (turn o n i)) p p
+  pub port_pass : (p : TaskPlan) (i : ℕ) → i < ports_of o n → IsPlanAtTurn o n (turn o n i) p → ((w l k : ℕ) → IsWire o w (Port n i) (Port l k) → IsIn l (nodes_in p.rest) → IsIn l (nodes_in p.done)) → StaysForRest o n (suc (turn o n i)) p p
   port_pass p i b h all = (plan_skip (turn o n i) p h (port_none p i b h all), refl)
 
-  pub port_derive : (p q : Plan) (i w l k : ℕ) → IsPlanAtTurn o n (turn o n i) p → IsWire o w (Port n i) (Port l k) → IsIn l (nodes_in p.rest) → nodes_in p.done l ≡ false → DerivesNear o l p q → StaysForRest o n (suc (turn o n i)) p q
+  pub port_derive : (p q : TaskPlan) (i w l k : ℕ) → IsPlanAtTurn o n (turn o n i) p → IsWire o w (Port n i) (Port l k) → IsIn l (nodes_in p.rest) → nodes_in p.done l ≡ false → DerivesNear o l p q → StaysForRest o n (suc (turn o n i)) p q
   port_derive p q i w l k h wire here off d = derive_goes (turn o n i) l p q h here (port_turn p i w l k h wire here off) d
 
-  pub node_pass : (p : Plan) (m : ℕ) → IsPlanAtTurn o n (suc (ports_of o n) + m) p → (IsIn m (nodes_in p.rest) → IsIn m (nodes_in p.done)) → StaysForRest o n (suc (suc (ports_of o n) + m)) p p
+  pub node_pass : (p : TaskPlan) (m : ℕ) → IsPlanAtTurn o n (suc (ports_of o n) + m) p → (IsIn m (nodes_in p.rest) → IsIn m (nodes_in p.done)) → StaysForRest o n (suc (suc (ports_of o n) + m)) p p
   node_pass p m h all = (plan_skip (suc (ports_of o n) + m) p h (node_none p m h all), refl)
 
-  pub node_derive : (p q : Plan) (m : ℕ) → IsPlanAtTurn o n (suc (ports_of o n) + m) p → IsIn m (nodes_in p.rest) → nodes_in p.done m ≡ false → DerivesNear o m p q → StaysForRest o n (suc (suc (ports_of o n) + m)) p q
+  pub node_derive : (p q : TaskPlan) (m : ℕ) → IsPlanAtTurn o n (suc (ports_of o n) + m) p → IsIn m (nodes_in p.rest) → nodes_in p.done m ≡ false → DerivesNear o m p q → StaysForRest o n (suc (suc (ports_of o n) + m)) p q
   node_derive p q m h here off d = derive_goes (suc (ports_of o n) + m) m p q h here (node_turn p m h here off) d
 
-  pub agent_start : (p : Plan) → IsAgent o n → IsPlanAtTurn o n 0 p → StaysForRest o n 1 p p
+  pub agent_start : (p : TaskPlan) → IsAgent o n → IsPlanAtTurn o n 0 p → StaysForRest o n 1 p p
   agent_start p a h = (plan_skip 0 p h (agent_none (nodes_in p.rest) a), refl)
 
-  pub class_last : (old p : Plan) → IsClass o n → StaysForRest o n (ports_of o n) old p → StaysForRest o n (suc (ports_of o n)) old p
+  pub class_last : (old p : TaskPlan) → IsClass o n → StaysForRest o n (ports_of o n) old p → StaysForRest o n (suc (ports_of o n)) old p
   class_last old p a h = (plan_skip (ports_of o n) p h.0 (class_none (nodes_in p.rest) a), h.1)

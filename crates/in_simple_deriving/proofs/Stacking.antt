@@ -1,7 +1,7 @@
 -- A joint turns one stack of nets into another.
 use Rattle.std.proofs.Common.{◌≡◌, ◌⊎◌, ◌-◌, drop, Result, Ok, Err, OnOk, ◌≤◌, ◌+◌, ℕ, zero, suc, Bool, cond, Some, List, [], ◌∷◌, ◌++◌, length, slice_get, refl, sym, subst, ap, inl, inr, ◌∙◌, append_assoc, arith, take}
-use Rattle.in_simple_deriving.specs.declared.plans.Joint.{Joint}
-use Rattle.in_simple_deriving.specs.declared.plans.Joint.TheVariants as joint
+use Rattle.in_simple_deriving.specs.declared.plans.StackStep.{StackStep}
+use Rattle.in_simple_deriving.specs.declared.plans.StackStep.TheVariants as joint
 use Rattle.in_simple_deriving.specs.declared.plans.Task.{Task}
 use Rattle.in_simple_deriving.specs.declared.plans.Task.TheVariants.{Derive, Make}
 use Rattle.in_open_nets.specs.OpenNets.{OpenNet}
@@ -209,7 +209,7 @@ module _ (o : OpenNet) where
           )
       last i step' (suc l) e h = cc
 
-  pub stack_make : (j : Joint) (s : List Step) (r : List ℕ) (s' : List Step) (r' : List ℕ) (base xs : List Shape) (x : Shape) → IsStack o s r (base ++ xs) → Fits o j xs x → MakesStep j s r s' r' → IsStack o s' r' (base ++ x ∷ [])
+  pub stack_make : (j : StackStep) (s : List Step) (r : List ℕ) (s' : List Step) (r' : List ℕ) (base xs : List Shape) (x : Shape) → IsStack o s r (base ++ xs) → Fits o j xs x → MakesStep j s r s' r' → IsStack o s' r' (base ++ x ∷ [])
   stack_make j s r s' r' base xs x k fits makes = go (part_at k.parts (length s) r k.tops base xs k.roots_are k.shaped)
     where
       go : Parted k.parts (length s) r k.tops base xs → IsStack o s' r' (base ++ x ∷ [])
@@ -226,7 +226,7 @@ module _ (o : OpenNet) where
   runs_app (Derive d ∷ ts) us a b c r q = runs_app ts us (a ++ shape (nodes_in d) no_wires ∷ []) b c r q
   runs_app (Make j ∷ ts) us a b c r q = (r.0, r.1, r.2, r.3, r.4, runs_app ts us (r.0 ++ r.2 ∷ []) b c r.5 q)
 
-  pub runs_make : (ts : List Task) (j : Joint) (a below xs : List Shape) (x : Shape) → RunsTasks o ts a (below ++ xs) → Fits o j xs x → RunsTasks o (ts ++ Make j ∷ []) a (below ++ x ∷ [])
+  pub runs_make : (ts : List Task) (j : StackStep) (a below xs : List Shape) (x : Shape) → RunsTasks o ts a (below ++ xs) → Fits o j xs x → RunsTasks o (ts ++ Make j ∷ []) a (below ++ x ∷ [])
   runs_make ts j a below xs x r f = runs_app ts (Make j ∷ []) a (below ++ xs) (below ++ x ∷ []) r (below, xs, x, refl, f, refl)
 
   pub runs_derive : (ts : List Task) (c : List Bool) (a b : List Shape) → RunsTasks o ts a b → RunsTasks o (ts ++ Derive c ∷ []) a (b ++ shape (nodes_in c) no_wires ∷ [])
@@ -283,13 +283,13 @@ take_many n count s r r2 last s' r' d g h k below names e l =
         empty [] z = refl
         empty (y ∷ ys) z = absurd (omega arith)
 
-pub makes_graft : (j : Joint) (n count : ℕ) (s : List Step) (r r2 last : List ℕ) (s' : List Step) (r' : List ℕ) → j ≡ joint.Graft n count → last ≡ drop (length r - count) r → AreLast count r r2 → s' ≡ s ++ Graft n last ∷ [] → r' ≡ r2 ++ length s ∷ [] → MakesStep j s r s' r'
+pub makes_graft : (j : StackStep) (n count : ℕ) (s : List Step) (r r2 last : List ℕ) (s' : List Step) (r' : List ℕ) → j ≡ joint.Graft n count → last ≡ drop (length r - count) r → AreLast count r r2 → s' ≡ s ++ Graft n last ∷ [] → r' ≡ r2 ++ length s ∷ [] → MakesStep j s r s' r'
 makes_graft j n count s r r2 last s' r' e d g h k = subst (λ z. MakesStep z s r s' r') (sym e) (λ below names. take_many n count s r r2 last s' r' d g h k below names)
 
-pub makes_cut : (j : Joint) (w : ℕ) (s : List Step) (r r1 r2 : List ℕ) (s' : List Step) (r' : List ℕ) (a b : ℕ) → j ≡ joint.Cut w → IsLastLeft b r r1 → IsLastLeft a r1 r2 → s' ≡ s ++ Cut w a b ∷ [] → r' ≡ r2 ++ length s ∷ [] → MakesStep j s r s' r'
+pub makes_cut : (j : StackStep) (w : ℕ) (s : List Step) (r r1 r2 : List ℕ) (s' : List Step) (r' : List ℕ) (a b : ℕ) → j ≡ joint.Cut w → IsLastLeft b r r1 → IsLastLeft a r1 r2 → s' ≡ s ++ Cut w a b ∷ [] → r' ≡ r2 ++ length s ∷ [] → MakesStep j s r s' r'
 makes_cut j w s r r1 r2 s' r' a b e p q h k = subst (λ z. MakesStep z s r s' r') (sym e) (λ below names. take_two (Cut w) s r r1 r2 s' r' a b p q h k below names)
 
-pub makes_mix : (j : Joint) (s : List Step) (r r1 r2 : List ℕ) (s' : List Step) (r' : List ℕ) (a b : ℕ) → j ≡ joint.Mix → IsLastLeft b r r1 → IsLastLeft a r1 r2 → s' ≡ s ++ Mix a b ∷ [] → r' ≡ r2 ++ length s ∷ [] → MakesStep j s r s' r'
+pub makes_mix : (j : StackStep) (s : List Step) (r r1 r2 : List ℕ) (s' : List Step) (r' : List ℕ) (a b : ℕ) → j ≡ joint.Mix → IsLastLeft b r r1 → IsLastLeft a r1 r2 → s' ≡ s ++ Mix a b ∷ [] → r' ≡ r2 ++ length s ∷ [] → MakesStep j s r s' r'
 makes_mix j s r r1 r2 s' r' a b e p q h k = subst (λ z. MakesStep z s r s' r') (sym e) (λ below names. take_two Mix s r r1 r2 s' r' a b p q h k below names)
 
 pub on_both : {A B : Type 0} (r : Result A B) (P Q R : Type 0) → (P → Q → R) → OnOk r P → OnOk r Q → OnOk r R
@@ -309,7 +309,7 @@ taken_at r below names count e many =
 
 -- ---- under way
 
-pub under_make : (o : OpenNet) (j : Joint) (ts : List Task) (s : List Step) (r : List ℕ) (s' : List Step) (r' : List ℕ) → MakesStep j s r s' r' → IsUnderWay o (Make j ∷ ts) s r → IsUnderWay o ts s' r'
+pub under_make : (o : OpenNet) (j : StackStep) (ts : List Task) (s : List Step) (r : List ℕ) (s' : List Step) (r' : List ℕ) → MakesStep j s r s' r' → IsUnderWay o (Make j ∷ ts) s r → IsUnderWay o ts s' r'
 under_make o j ts s r s' r' m u = record {
   whole = u.whole;
   all = u.all;

@@ -5,9 +5,9 @@ use Rattle.in_open_nets.specs.declared.open_nets.Node.TheVariants.{AgentNode, Cl
 use Rattle.in_open_nets.specs.declared.open_nets.OpenNode.{OpenNode}
 use Rattle.in_open_nets.specs.declared.open_nets.OpenPoint.{OpenPoint}
 use Rattle.in_open_nets.specs.declared.open_nets.OpenPoint.TheVariants.{Port, Free}
-use Rattle.in_simple_deriving.specs.declared.plans.Joint.{Joint}
-use Rattle.in_simple_deriving.specs.declared.plans.Joint.TheVariants.{Empty, Link, Given, Graft, Cut, Mix}
-use Rattle.in_simple_deriving.specs.declared.plans.Plan.{Plan}
+use Rattle.in_simple_deriving.specs.declared.plans.StackStep.{StackStep}
+use Rattle.in_simple_deriving.specs.declared.plans.StackStep.TheVariants.{Empty, Link, Given, Graft, Cut, Mix}
+use Rattle.in_simple_deriving.specs.declared.plans.TaskPlan.{TaskPlan}
 use Rattle.in_simple_deriving.specs.declared.plans.Task.{Task}
 use Rattle.in_simple_deriving.specs.declared.plans.Task.TheVariants.{Derive, Make}
 use Rattle.in_open_nets.specs.Constructions.{IsIn}
@@ -27,40 +27,40 @@ use Rattle.in_simple_deriving.proofs.Planning.{NoneAt, agent_none, class_none, n
 
 -- ---- tasks that are steps alone
 
-yields_none : (o : OpenNet) (js : List Joint) → Yields o [] js → js ≡ []
+yields_none : (o : OpenNet) (js : List StackStep) → Yields o [] js → js ≡ []
 yields_none o _ done = refl
 
-pub yields_makes : (o : OpenNet) (ms js : List Joint) → Yields o (map Make ms) js → js ≡ ms
+pub yields_makes : (o : OpenNet) (ms js : List StackStep) → Yields o (map Make ms) js → js ≡ ms
 yields_makes o [] js h = yields_none o js h
 yields_makes o (m ∷ ms) _ (made _ _ js h) = ap (λ z. m ∷ z) (yields_makes o ms js h)
 
-pub yields_part : (o : OpenNet) (c : List Bool) (ms js : List Joint) → Yields o (Derive c ∷ map Make ms) js → (ls : List Joint) × Comes o (part (nodes_in c)) ls × (js ≡ ls ++ ms)
+pub yields_part : (o : OpenNet) (c : List Bool) (ms js : List StackStep) → Yields o (Derive c ∷ map Make ms) js → (ls : List StackStep) × Comes o (part (nodes_in c)) ls × (js ≡ ls ++ ms)
 yields_part o c ms _ (derived _ _ is js h rest) = (is, h, ap (λ z. is ++ z) (yields_makes o ms js rest))
 
 pub empties_more : (k : ℕ) → map Make (empties k) ++ Make Empty ∷ [] ≡ map Make (empties (suc k))
 empties_more zero = refl
 empties_more (suc k) = ap (λ z. Make Empty ∷ z) (empties_more k)
 
-pub more_empties : (k : ℕ) (p q r : Plan) → WithEmpties k p q → r ≡ with_task q (Make Empty) → WithEmpties (k + 1) p r
+pub more_empties : (k : ℕ) (p q r : TaskPlan) → WithEmpties k p q → r ≡ with_task q (Make Empty) → WithEmpties (k + 1) p r
 more_empties k p q r h e =
     let next : suc k ≡ k + 1 = omega arith in
     ap (λ x. x.tasks) e ∙ ap (λ z. z ++ Make Empty ∷ []) h ∙ append_assoc p.tasks (map Make (empties k)) (Make Empty ∷ []) ∙ ap (λ z. p.tasks ++ z) (empties_more k) ∙ ap (λ z. p.tasks ++ map Make (empties z)) next
 
 -- ---- one task or more
 
-module _ (o : OpenNet) (n k : ℕ) (pre : List Joint) (p q : Plan) (takes : TakesJoints o n k pre p) (same : q.rest ≡ p.rest) where
-  in_rest : (g : ℕ) (js : List Joint) → Comes o (turns (nodes_in p.rest) n g) js → Comes o (turns (nodes_in q.rest) n g) js
+module _ (o : OpenNet) (n k : ℕ) (pre : List StackStep) (p q : TaskPlan) (takes : TakesJoints o n k pre p) (same : q.rest ≡ p.rest) where
+  in_rest : (g : ℕ) (js : List StackStep) → Comes o (turns (nodes_in p.rest) n g) js → Comes o (turns (nodes_in q.rest) n g) js
   in_rest g js h = subst (λ z. Comes o (turns (nodes_in z) n g) js) (sym same) h
 
-  pub takes_makes : (ms : List Joint) → q.tasks ≡ p.tasks ++ map Make ms → TakesJoints o n k (pre ++ ms) q
+  pub takes_makes : (ms : List StackStep) → q.tasks ≡ p.tasks ++ map Make ms → TakesJoints o n k (pre ++ ms) q
   takes_makes ms e = λ js y.
       let s = split o p.tasks (map Make ms) js (subst (λ z. Yields o z js) e y) in
       let a = takes s.one s.first in
       (a.0, in_rest k a.0 a.1, sym s.whole ∙ ap (λ z. z ++ s.other) a.2 ∙ ap (λ z. (a.0 ++ pre) ++ z) (yields_makes o ms s.other s.second) ∙ append_assoc a.0 pre ms)
 
   -- the turn k, at which these joints come
-  turn_taken : (is ls : List Joint) → pre ≡ before o n k → Comes o (turns (nodes_in p.rest) n k) is → Comes o (at (nodes_in p.rest) n k) ls → (js : List Joint) → js ≡ (is ++ pre) ++ ls →
-      (js1 : List Joint) × Comes o (turns (nodes_in q.rest) n (suc k)) js1 × (js ≡ js1 ++ [])
+  turn_taken : (is ls : List StackStep) → pre ≡ before o n k → Comes o (turns (nodes_in p.rest) n k) is → Comes o (at (nodes_in p.rest) n k) ls → (js : List StackStep) → js ≡ (is ++ pre) ++ ls →
+      (js1 : List StackStep) × Comes o (turns (nodes_in q.rest) n (suc k)) js1 × (js ≡ js1 ++ [])
   turn_taken is ls e h g js f = (
     is ++ (before o n k ++ ls),
     in_rest (suc k) (is ++ (before o n k ++ ls)) (next (nodes_in p.rest) n k is ls h g),
@@ -72,7 +72,7 @@ module _ (o : OpenNet) (n k : ℕ) (pre : List Joint) (p q : Plan) (takes : Take
       let a = takes js (subst (λ z. Yields o z js) f y) in
       turn_taken a.0 [] e a.1 (nothing (nodes_in p.rest) n k none) js (a.2 ∙ sym (append-nil (a.0 ++ pre)))
 
-  pub takes_task : pre ≡ before o n k → (task : Task) (ms : List Joint) → q.tasks ≡ p.tasks ++ task ∷ map Make ms → Brings o (nodes_in p.rest) n k task → JoinsInManner o n k (manner o n k) ms → TakesJoints o n (suc k) [] q
+  pub takes_task : pre ≡ before o n k → (task : Task) (ms : List StackStep) → q.tasks ≡ p.tasks ++ task ∷ map Make ms → Brings o (nodes_in p.rest) n k task → JoinsInManner o n k (manner o n k) ms → TakesJoints o n (suc k) [] q
   takes_task e _ ms f (a_component c is_part comes) joined = λ js y.
       let s = split o p.tasks (Derive c ∷ map Make ms) js (subst (λ z. Yields o z js) f y) in
       let a = takes s.one s.first in
@@ -158,16 +158,16 @@ module _ (o : OpenNet) (n : ℕ) where
       (manner_past k (omega (arith, lt)) ∙ ap (λ b. cond b cut beside) (ne_eqb k (ports_of o n) (λ e. omega (arith, lt, e))))
       (ap (λ b. cond b cut beside) (le-ltb k (ports_of o n) (omega (arith, lt))))
 
-  abbrev aux_before : ℕ → List Joint
+  abbrev aux_before : ℕ → List StackStep
   aux_before k = empties (class_in o n k - class_in o n (k - 1) - 1)
 
-  abbrev last_before : ℕ → List Joint
+  abbrev last_before : ℕ → List StackStep
   last_before k = cond (nat_eq k (ports_of o n)) (empties (classes_of o n - class_in o n (k - 1)) ++ Graft n (classes_of o n) ∷ []) []
 
-  abbrev agent_before : ℕ → List Joint
+  abbrev agent_before : ℕ → List StackStep
   agent_before k = cond (nat_lt k (ports_of o n)) (aux_before k) (last_before k)
 
-  nil : List Joint
+  nil : List StackStep
   nil = []
 
   pub before_aux : (k : ℕ) → IsAgent o n → k < ports → before o n k ≡ aux_before k
@@ -194,10 +194,10 @@ module _ (o : OpenNet) (n : ℕ) where
 
   -- ---- the start
 
-  pub agent_takes : (p : Plan) → IsAgent o n → p.tasks ≡ [] → TakesJoints o n 0 [] p
+  pub agent_takes : (p : TaskPlan) → IsAgent o n → p.tasks ≡ [] → TakesJoints o n 0 [] p
   agent_takes p h e = λ js y. (first_joint o n, start (nodes_in p.rest) n, yields_none o js (subst (λ z. Yields o z js) e y) ∙ sym (ap (λ z. z ++ []) (first_agent h)))
 
-  pub class_takes : (p q : Plan) → IsClass o n → p.tasks ≡ [] → q ≡ with_task p (Make (Given n)) → TakesJoints o n 0 [] q
+  pub class_takes : (p q : TaskPlan) → IsClass o n → p.tasks ≡ [] → q ≡ with_task p (Make (Given n)) → TakesJoints o n 0 [] q
   class_takes p q h e f = λ js y. (
     first_joint o n,
     start (nodes_in q.rest) n,
@@ -211,7 +211,7 @@ module _ (o : OpenNet) (net : IsOpenNet o) (n : ℕ) where
   no_link t k w q wire bad v l = bad (subst (LeadsAway t n k) (net.once v w (Port n k) l.point q l.wire wire).1 l.away)
 
   -- at an auxiliary port
-  module _ (p : Plan) (i w : ℕ) (agent : IsAgent o n) (aux : 0 < i) (lt : i < ports_of o n) (h : IsPlanAtTurn o n (turn o n i) p) where
+  module _ (p : TaskPlan) (i w : ℕ) (agent : IsAgent o n) (aux : 0 < i) (lt : i < ports_of o n) (h : IsPlanAtTurn o n (turn o n i) p) where
     own_turn : turn o n i ≡ i
     own_turn = turn_agent o n i agent (λ e. absurd (omega (arith, aux, e)))
 
@@ -236,13 +236,13 @@ module _ (o : OpenNet) (net : IsOpenNet o) (n : ℕ) where
       ),
     )
 
-    pub comes_component : (q : Plan) (l k : ℕ) → IsWire o w (Port n i) (Port l k) → IsIn l (nodes_in p.rest) → nodes_in p.done l ≡ false → DerivesNear o l p q → WhatComes o n i p q true
+    pub comes_component : (q : TaskPlan) (l k : ℕ) → IsWire o w (Port n i) (Port l k) → IsIn l (nodes_in p.rest) → nodes_in p.done l ≡ false → DerivesNear o l p q → WhatComes o n i p q true
     comes_component q l k wire here off d =
         let is_part = reached_part o net n p.rest d.component l h.out here d.reached in
         let inside = (d.reached l).1 (alone l here) in
         (Derive d.component, d.tasks, a_component d.component is_part (subst (ComesAt o n (nodes_in d.component)) own_turn (port_turn o net n p i w l k h wire here off (nodes_in d.component) is_part inside)))
 
-    pub comes_link : (q : Plan) (z : OpenPoint) → IsWire o w (Port n i) z → LeadsAway (nodes_in p.rest) n i z → q ≡ with_task p (Make (Link w)) → WhatComes o n i p q true
+    pub comes_link : (q : TaskPlan) (z : OpenPoint) → IsWire o w (Port n i) z → LeadsAway (nodes_in p.rest) n i z → q ≡ with_task p (Make (Link w)) → WhatComes o n i p q true
     comes_link q z wire away e = (Make (Link w), ap (λ x. x.tasks) e, a_link w (record { agent = agent; auxiliary = aux; port = lt; point = z; wire = wire; away = away }))
 
   -- ---- a port to which a component is cut
@@ -257,7 +257,7 @@ module _ (o : OpenNet) (net : IsOpenNet o) (n : ℕ) where
       let lt = l.port in
       absurd (omega (arith, e, lt))
 
-  pub join_nothing : (p : Plan) (i : ℕ) → i < ports_of o n → (IsAgent o n → i ≡ 0) → IsPlanAtTurn o n (turn o n i) p → ((v l k : ℕ) → IsWire o v (Port n i) (Port l k) → IsIn l (nodes_in p.rest) → IsIn l (nodes_in p.done)) →
+  pub join_nothing : (p : TaskPlan) (i : ℕ) → i < ports_of o n → (IsAgent o n → i ≡ 0) → IsPlanAtTurn o n (turn o n i) p → ((v l k : ℕ) → IsWire o v (Port n i) (Port l k) → IsIn l (nodes_in p.rest) → IsIn l (nodes_in p.done)) →
       TakesJoints o n (turn o n i) (before o n (turn o n i)) p → TakesJoints o n (suc (turn o n i)) [] p
   join_nothing p i lt principal h all takes =
       takes_nothing o n (turn o n i) (before o n (turn o n i)) p p takes refl refl refl ((λ c is_part comes. port_none o net n p i lt h all c is_part comes), λ w l. join_link (nodes_in p.rest) i w principal l)
@@ -268,7 +268,7 @@ module _ (o : OpenNet) (net : IsOpenNet o) (n : ℕ) where
     | inr c ↦ ap (manner o n) (turn_class o n i c) ∙ manner_given o n i c lt
   ]
 
-  pub join_takes : (p q r : Plan) (i w l k : ℕ) → i < ports_of o n → (IsAgent o n → i ≡ 0) → IsPlanAtTurn o n (turn o n i) p → IsWire o w (Port n i) (Port l k) → IsIn l (nodes_in p.rest) → nodes_in p.done l ≡ false → DerivesNear o l p q → r ≡ with_task q (Make (Cut w)) →
+  pub join_takes : (p q r : TaskPlan) (i w l k : ℕ) → i < ports_of o n → (IsAgent o n → i ≡ 0) → IsPlanAtTurn o n (turn o n i) p → IsWire o w (Port n i) (Port l k) → IsIn l (nodes_in p.rest) → nodes_in p.done l ≡ false → DerivesNear o l p q → r ≡ with_task q (Make (Cut w)) →
       TakesJoints o n (turn o n i) (before o n (turn o n i)) p → TakesJoints o n (suc (turn o n i)) [] r
   join_takes p q r i w l k lt principal h wire here off d e takes =
       let is_part = reached_part o net n p.rest d.component l h.out here d.reached in
@@ -290,15 +290,15 @@ module _ (o : OpenNet) (net : IsOpenNet o) (n : ℕ) where
   other_link t m w l = let lt = l.port in absurd (omega (arith, lt))
 
   -- at a turn that no component has
-  pub over_nothing : (p : Plan) (m : ℕ) → NoneAt o net n (nodes_in p.rest) (suc (ports_of o n) + m) → TakesJoints o n (suc (ports_of o n) + m) [] p → TakesJoints o n (suc (suc (ports_of o n) + m)) [] p
+  pub over_nothing : (p : TaskPlan) (m : ℕ) → NoneAt o net n (nodes_in p.rest) (suc (ports_of o n) + m) → TakesJoints o n (suc (ports_of o n) + m) [] p → TakesJoints o n (suc (suc (ports_of o n) + m)) [] p
   over_nothing p m none takes =
       takes_nothing o n (suc (ports_of o n) + m) [] p p takes refl (sym (before_other o n (suc (ports_of o n) + m) (omega arith))) refl ((λ c is_part comes. none c is_part comes), λ w l. other_link (nodes_in p.rest) m w l)
 
-  pub other_nothing : (p : Plan) (m : ℕ) → IsPlanAtTurn o n (suc (ports_of o n) + m) p → (IsIn m (nodes_in p.rest) → IsIn m (nodes_in p.done)) → TakesJoints o n (suc (ports_of o n) + m) [] p → TakesJoints o n (suc (suc (ports_of o n) + m)) [] p
+  pub other_nothing : (p : TaskPlan) (m : ℕ) → IsPlanAtTurn o n (suc (ports_of o n) + m) p → (IsIn m (nodes_in p.rest) → IsIn m (nodes_in p.done)) → TakesJoints o n (suc (ports_of o n) + m) [] p → TakesJoints o n (suc (suc (ports_of o n) + m)) [] p
   other_nothing p m h all takes =
       over_nothing p m (node_none o net n p m h all) takes
 
-  pub other_takes : (p q r : Plan) (m : ℕ) → IsPlanAtTurn o n (suc (ports_of o n) + m) p → IsIn m (nodes_in p.rest) → nodes_in p.done m ≡ false → DerivesNear o m p q → r ≡ with_task q (Make Mix) → TakesJoints o n (suc (ports_of o n) + m) [] p →
+  pub other_takes : (p q r : TaskPlan) (m : ℕ) → IsPlanAtTurn o n (suc (ports_of o n) + m) p → IsIn m (nodes_in p.rest) → nodes_in p.done m ≡ false → DerivesNear o m p q → r ≡ with_task q (Make Mix) → TakesJoints o n (suc (ports_of o n) + m) [] p →
       TakesJoints o n (suc (suc (ports_of o n) + m)) [] r
   other_takes p q r m h here off d e takes =
       let is_part = reached_part o net n p.rest d.component m h.out here d.reached in
@@ -311,7 +311,7 @@ module _ (o : OpenNet) (net : IsOpenNet o) (n : ℕ) where
   -- ---- the ports of a class
 
   -- the first port of a class brings something
-  pub first_brings : (p q : Plan) (i begun : ℕ) → IsAgent o n → 0 < i → i < ports_of o n → IsPlanAtTurn o n (turn o n i) p → HasClasses o n i begun p → begun < class_in o n i → AddsNothing o n i p q → ⊥
+  pub first_brings : (p q : TaskPlan) (i begun : ℕ) → IsAgent o n → 0 < i → i < ports_of o n → IsPlanAtTurn o n (turn o n i) p → HasClasses o n i begun p → begun < class_in o n i → AddsNothing o n i p q → ⊥
   first_brings p q i begun agent aux lt h classes less none =
       let wire = net.joined (Port n i) (at_ports i (slice_get o.nodes n) lt) in
       by_point wire.0 wire.1 wire.2
@@ -345,7 +345,7 @@ module _ (o : OpenNet) (net : IsOpenNet o) (n : ℕ) where
                   let principal = (net.principal n 0 agent (at_ports 0 (slice_get o.nodes n) (omega (arith, lt)))).1 refl in
                   omega (arith, same, class, principal, less)
 
-  pub first_takes : (p q r : Plan) (i skipped : ℕ) → IsAgent o n → i < ports_of o n → class_in o n i ≡ suc (class_in o n (i - 1) + skipped) → TakesJoints o n i [] p → q.rest ≡ p.rest → WithEmpties skipped p q → r.rest ≡ q.rest → WhatComes o n i q r true →
+  pub first_takes : (p q r : TaskPlan) (i skipped : ℕ) → IsAgent o n → i < ports_of o n → class_in o n i ≡ suc (class_in o n (i - 1) + skipped) → TakesJoints o n i [] p → q.rest ≡ p.rest → WithEmpties skipped p q → r.rest ≡ q.rest → WhatComes o n i q r true →
       TakesJoints o n (suc i) [] r
   first_takes p q r i skipped agent lt class takes same empty same1 comes =
       takes_task o n i (empties skipped) q r (takes_makes o n i [] p q takes same (empties skipped) empty) same1
@@ -355,13 +355,13 @@ module _ (o : OpenNet) (net : IsOpenNet o) (n : ℕ) where
   none_before : (i : ℕ) → IsAgent o n → i < ports_of o n → class_in o n i ≡ class_in o n (i - 1) → [] ≡ before o n i
   none_before i agent lt class = sym (before_aux o n i agent lt ∙ ap empties (let e : class_in o n i - class_in o n (i - 1) - 1 ≡ 0 = omega (arith, class) in e))
 
-  pub further_takes : (p q r : Plan) (i : ℕ) → IsAgent o n → i < ports_of o n → class_in o n i ≡ class_in o n (i - 1) → TakesJoints o n i [] p → q.rest ≡ p.rest → WhatComes o n i p q true → r ≡ with_task q (Make Mix) → TakesJoints o n (suc i) [] r
+  pub further_takes : (p q r : TaskPlan) (i : ℕ) → IsAgent o n → i < ports_of o n → class_in o n i ≡ class_in o n (i - 1) → TakesJoints o n i [] p → q.rest ≡ p.rest → WhatComes o n i p q true → r ≡ with_task q (Make Mix) → TakesJoints o n (suc i) [] r
   further_takes p q r i agent lt class takes same comes e =
       takes_task o n i [] p r takes (ap (λ x. x.rest) e ∙ same) (none_before i agent lt class) comes.0 (Mix ∷ [])
       (ap (λ x. x.tasks) e ∙ ap (λ z. z ++ Make Mix ∷ []) comes.1 ∙ append_assoc p.tasks (comes.0 ∷ []) (Make Mix ∷ [])) comes.2
       (subst (λ m. JoinsInManner o n i m (Mix ∷ [])) (sym (manner_further o n i agent lt (omega (arith, class)))) refl)
 
-  pub further_nothing : (p q : Plan) (i : ℕ) → IsAgent o n → i < ports_of o n → class_in o n i ≡ class_in o n (i - 1) → TakesJoints o n i [] p → q.rest ≡ p.rest → WhatComes o n i p q false → TakesJoints o n (suc i) [] q
+  pub further_nothing : (p q : TaskPlan) (i : ℕ) → IsAgent o n → i < ports_of o n → class_in o n i ≡ class_in o n (i - 1) → TakesJoints o n i [] p → q.rest ≡ p.rest → WhatComes o n i p q false → TakesJoints o n (suc i) [] q
   further_nothing p q i agent lt class takes same comes = takes_nothing o n i [] p q takes same (none_before i agent lt class) comes.0 comes.1
 
   -- ---- whole nodes
@@ -383,24 +383,24 @@ module _ (o : OpenNet) (net : IsOpenNet o) (n : ℕ) where
   agent_nothing : (t : ℕ → Bool) → IsAgent o n → NothingAt o t n 0
   agent_nothing t agent = ((λ c is_part comes. agent_none o net n t agent c is_part comes), λ w l. let a = l.auxiliary in absurd (omega (arith, a)))
 
-  pub agent_first : (p : Plan) → IsAgent o n → 0 < ports_of o n → TakesJoints o n 0 [] p → TakesJoints o n 1 [] p
+  pub agent_first : (p : TaskPlan) → IsAgent o n → 0 < ports_of o n → TakesJoints o n 0 [] p → TakesJoints o n 1 [] p
   agent_first p agent some takes = takes_nothing o n 0 [] p p takes refl (sym (before_aux o n 0 agent some ∙ ap empties (let e : class_in o n 0 - class_in o n 0 - 1 ≡ 0 = omega arith in e))) refl (agent_nothing (nodes_in p.rest) agent)
 
   -- an agent without ports
-  pub agent_alone : (p : Plan) → IsAgent o n → ports_of o n ≡ 0 → TakesJoints o n (ports_of o n) (before o n (ports_of o n)) p → TakesJoints o n (suc (ports_of o n)) [] p
+  pub agent_alone : (p : TaskPlan) → IsAgent o n → ports_of o n ≡ 0 → TakesJoints o n (ports_of o n) (before o n (ports_of o n)) p → TakesJoints o n (suc (ports_of o n)) [] p
   agent_alone p agent none takes = takes_nothing o n (ports_of o n) (before o n (ports_of o n)) p p takes refl refl refl (subst (NothingAt o (nodes_in p.rest) n) (sym none) (agent_nothing (nodes_in p.rest) agent))
 
-  pub agent_grafts : (p q : Plan) (count : ℕ) → IsAgent o n → count ≡ classes_of o n → TakesJoints o n (ports_of o n) (empties (classes_of o n - class_in o n (ports_of o n - 1))) p → q ≡ with_task p (Make (Graft n count)) → TakesJoints o n (ports_of o n) (before o n (ports_of o n)) q
+  pub agent_grafts : (p q : TaskPlan) (count : ℕ) → IsAgent o n → count ≡ classes_of o n → TakesJoints o n (ports_of o n) (empties (classes_of o n - class_in o n (ports_of o n - 1))) p → q ≡ with_task p (Make (Graft n count)) → TakesJoints o n (ports_of o n) (before o n (ports_of o n)) q
   agent_grafts p q count agent many takes e =
       subst (λ z. TakesJoints o n (ports_of o n) z q) (sym (before_principal o n agent))
       (takes_makes o n (ports_of o n) (empties (classes_of o n - class_in o n (ports_of o n - 1))) p q takes (ap (λ x. x.rest) e) (Graft n (classes_of o n) ∷ []) (ap (λ x. x.tasks) e ∙ ap (λ c. p.tasks ++ Make (Graft n c) ∷ []) many))
 
-  pub class_end : (p : Plan) → IsClass o n → TakesJoints o n (ports_of o n) [] p → TakesJoints o n (suc (ports_of o n)) [] p
+  pub class_end : (p : TaskPlan) → IsClass o n → TakesJoints o n (ports_of o n) [] p → TakesJoints o n (suc (ports_of o n)) [] p
   class_end p class takes =
       takes_nothing o n (ports_of o n) [] p p takes refl (sym (before_given o n (ports_of o n) class)) refl
       ((λ c is_part comes. class_none o net n (nodes_in p.rest) class c is_part comes), λ w l. absurd (class_no_agent (slice_get o.nodes n) class l.agent))
 
-  pub part_taken : (whole : List Bool) (p : Plan) → IsFirst o whole n → IsRest n whole p.rest → TakesJoints o n (suc (ports_of o n) + length o.nodes) [] p → TakesPart o (nodes_in whole) p.tasks
+  pub part_taken : (whole : List Bool) (p : TaskPlan) → IsFirst o whole n → IsRest n whole p.rest → TakesJoints o n (suc (ports_of o n) + length o.nodes) [] p → TakesPart o (nodes_in whole) p.tasks
   part_taken whole p first left takes = λ js y.
       let a = takes js y in
       taken (nodes_in whole) (nodes_in p.rest) n js first left (subst (Comes o (turns (nodes_in p.rest) n (suc (ports_of o n) + length o.nodes))) (sym (a.2 ∙ append-nil a.0)) a.1)
@@ -411,7 +411,7 @@ module _ (o : OpenNet) (net : IsOpenNet o) (n : ℕ) where
 abbrev pub LinksCome : OpenNet → ℕ → Bool → List Task → List Task → Type 0
 LinksCome o b came ts all = ts ++ map Make (links_from o came b (length o.wires - b)) ≡ all
 
-abbrev links_by : OpenNet → ℕ → ℕ → Bool → Bool → List Joint
+abbrev links_by : OpenNet → ℕ → ℕ → Bool → Bool → List StackStep
 links_by o b n came loose = cond loose (Link b ∷ (cond came (Mix ∷ []) [] ++ links_from o true (b + 1) n)) (links_from o came (b + 1) n)
 
 module _ (o : OpenNet) (b : ℕ) (ts all : List Task) (lt : b < length o.wires) where

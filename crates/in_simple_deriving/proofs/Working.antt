@@ -1,6 +1,6 @@
 -- The procedure's tasks decide which sub-net is the first stuck one, and grow fewer.
 use Rattle.std.proofs.Common.{◌≡◌, ◌⊎◌, ◌<◌, ◌≤◌, ℕ, suc, Bool, true, false, ◌||◌, List, [], ◌∷◌, ◌++◌, length, refl, sym, subst, ap, inl, inr, ◌∙◌, arith}
-use Rattle.in_simple_deriving.specs.declared.plans.Joint.{Joint}
+use Rattle.in_simple_deriving.specs.declared.plans.StackStep.{StackStep}
 use Rattle.in_simple_deriving.specs.declared.plans.Task.{Task}
 use Rattle.in_simple_deriving.specs.declared.plans.Task.TheVariants.{Derive, Make}
 use Rattle.in_open_nets.specs.Constructions.{IsIn}
@@ -17,7 +17,7 @@ use Rattle.std.proofs.lemmas.Bool.{or_cases, or_left, or_right, or_from, false_f
 
 -- ---- steps alone
 
-pub makes_more : (ts : List Task) (x : Joint) → AreMakes ts → AreMakes (ts ++ Make x ∷ [])
+pub makes_more : (ts : List Task) (x : StackStep) → AreMakes ts → AreMakes (ts ++ Make x ∷ [])
 makes_more [] x h = tt
 makes_more (Derive c ∷ ts) x h = h
 makes_more (Make y ∷ ts) x h = makes_more ts x h
@@ -72,7 +72,7 @@ start_work o (Derive c ∷ ts) h = record {
 pub pass_same : (a : List Task) → PassesSteps a a
 pass_same a = ((λ o h. h), λ m. refl)
 
-pub pass_make : (a b : List Task) (x : Joint) → PassesSteps a (Make x ∷ b) → PassesSteps a b
+pub pass_make : (a b : List Task) (x : StackStep) → PassesSteps a (Make x ∷ b) → PassesSteps a b
 pass_make a b x h = ((λ o w. go o (h.0 o w)), h.1)
   where
     go : (o : OpenNet) → IsWork o (Make x ∷ b) → IsWork o b

@@ -2,14 +2,14 @@
 use Rattle.std.specs.Prelude.{ℕ, Bool, true, false, List, [], ◌∷◌, slice_get, Option, Some, None}
 use Rattle.in_open_nets.specs.declared.open_nets.OpenPoint.{OpenPoint}
 use Rattle.in_open_nets.specs.declared.open_nets.OpenPoint.TheVariants.{Port, Free}
-use Rattle.in_simple_deriving.specs.declared.plans.Joint.{Joint}
-use Rattle.in_simple_deriving.specs.declared.plans.Joint.TheVariants as joint
+use Rattle.in_simple_deriving.specs.declared.plans.StackStep.{StackStep}
+use Rattle.in_simple_deriving.specs.declared.plans.StackStep.TheVariants as joint
 use Rattle.in_open_nets.specs.declared.derivations.Step.{Step}
 use Rattle.in_open_nets.specs.declared.derivations.Step.TheVariants.{Empty, Link, Given, Graft, Cut, Mix}
 use Rattle.in_open_nets.specs.OpenNets.{OpenNet}
 
 -- how many of the last steps that none names a joint takes, and the step that it makes of them
-abbrev pub count_of : Joint → ℕ
+abbrev pub count_of : StackStep → ℕ
 count_of joint.Empty = 0
 count_of (joint.Link w) = 0
 count_of (joint.Given n) = 0
@@ -22,7 +22,7 @@ over_two f [] = Empty
 over_two f (a ∷ []) = Empty
 over_two f (a ∷ b ∷ more) = f a b
 
-abbrev pub step_of : Joint → List ℕ → Step
+abbrev pub step_of : StackStep → List ℕ → Step
 step_of joint.Empty names = Empty
 step_of (joint.Link w) names = Link w
 step_of (joint.Given n) names = Given n

@@ -4,9 +4,9 @@ use Rattle.in_open_nets.specs.declared.open_nets.OpenPoint.{OpenPoint}
 use Rattle.in_open_nets.specs.declared.open_nets.OpenPoint.TheVariants.{Port, Free}
 use Rattle.in_simple_deriving.specs.declared.plans.Fate.{Fate}
 use Rattle.in_simple_deriving.specs.declared.plans.Fate.TheVariants.{Waits, Derived, Outside}
-use Rattle.in_simple_deriving.specs.declared.plans.Joint.{Joint}
-use Rattle.in_simple_deriving.specs.declared.plans.Joint.TheVariants.{Link}
-use Rattle.in_simple_deriving.specs.declared.plans.Plan.{Plan}
+use Rattle.in_simple_deriving.specs.declared.plans.StackStep.{StackStep}
+use Rattle.in_simple_deriving.specs.declared.plans.StackStep.TheVariants.{Link}
+use Rattle.in_simple_deriving.specs.declared.plans.TaskPlan.{TaskPlan}
 use Rattle.in_simple_deriving.specs.declared.plans.Task.{Task}
 use Rattle.in_simple_deriving.specs.declared.plans.Task.TheVariants.{Derive, Make}
 use Rattle.in_open_nets.specs.Constructions.{IsIn}
@@ -24,34 +24,34 @@ use Rattle.in_open_nets.specs.Members.{nodes_in}
 abbrev pub net_of : ℕ → List Bool → Shape
 net_of n done = shape (λ m. nat_eq m n || nodes_in done m) no_wires
 
-abbrev pub PutsNet : OpenNet → ℕ → Plan → Type 0
+abbrev pub PutsNet : OpenNet → ℕ → TaskPlan → Type 0
 PutsNet o n p = PutsShapes o p.tasks (net_of n p.done ∷ [])
 
 -- ---- the node at the other end of a wire
 
-abbrev pub HasFate : Plan → ℕ → Fate → Type 0
+abbrev pub HasFate : TaskPlan → ℕ → Fate → Type 0
 HasFate p m (Waits l) = (l ≡ m) × IsIn m (nodes_in p.rest) × (nodes_in p.done m ≡ false)
 HasFate p m Derived = IsIn m (nodes_in p.rest) × IsIn m (nodes_in p.done)
 HasFate p m Outside = nodes_in p.rest m ≡ false
 
-abbrev pub HasFateAt : Plan → OpenPoint → Fate → Type 0
+abbrev pub HasFateAt : TaskPlan → OpenPoint → Fate → Type 0
 HasFateAt p q (Waits l) = (k : ℕ) × (q ≡ Port l k) × IsIn l (nodes_in p.rest) × (nodes_in p.done l ≡ false)
 HasFateAt p q Derived = (l : ℕ) × (k : ℕ) × (q ≡ Port l k) × IsIn l (nodes_in p.rest) × IsIn l (nodes_in p.done)
 HasFateAt p q Outside = is_port_in (nodes_in p.rest) q ≡ 0
 
 -- both sets have a test for each node of the net, and the rest is what n left
-abbrev pub IsSizedPlan : OpenNet → ℕ → Plan → Type 0
+abbrev pub IsSizedPlan : OpenNet → ℕ → TaskPlan → Type 0
 IsSizedPlan o n p = (length p.rest ≡ length o.nodes) × (length p.done ≡ length o.nodes) × IsLeftOf o n p.rest
 
 -- what waits is a node of the rest
-abbrev pub IsLeftOver : Plan → Fate → Type 0
+abbrev pub IsLeftOver : TaskPlan → Fate → Type 0
 IsLeftOver p (Waits l) = IsIn l (nodes_in p.rest)
 IsLeftOver p Derived = Unit {0}
 IsLeftOver p Outside = Unit {0}
 
 -- the component of what waits is derived and joined; else nothing changes
-abbrev pub JoinsFate : OpenNet → Joint → Plan → Fate → Plan → Type 0
-JoinsFate o j old (Waits l) new = (next : Plan) × DerivesNear o l old next × (new ≡ with_task next (Make j))
+abbrev pub JoinsFate : OpenNet → StackStep → TaskPlan → Fate → TaskPlan → Type 0
+JoinsFate o j old (Waits l) new = (next : TaskPlan) × DerivesNear o l old next × (new ≡ with_task next (Make j))
 JoinsFate o j old Derived new = new ≡ old
 JoinsFate o j old Outside new = new ≡ old
 
@@ -100,7 +100,7 @@ pub record PutsClasses (o : OpenNet) (rest : List Bool) (n b begun : ℕ) (tasks
   pub most : (i : ℕ) → IsBelow b i → i < ports_of o n → class_in o n i ≤ begun
   pub done_is : (m : ℕ) → IsIn m (nodes_in done) ↔ ((i : ℕ) × IsBelow b i × Meets o rest n i m)
 
-abbrev pub HasClasses : OpenNet → ℕ → ℕ → ℕ → Plan → Type 0
+abbrev pub HasClasses : OpenNet → ℕ → ℕ → ℕ → TaskPlan → Type 0
 HasClasses o n b begun p = PutsClasses o p.rest n b begun p.tasks p.done
 
 -- a port below b is of the last of these classes, where there are some
@@ -108,7 +108,7 @@ abbrev pub IsBegunClass : OpenNet → ℕ → ℕ → ℕ → Type 0
 IsBegunClass o n b begun = (begun ≡ 0) ⊎ ((i : ℕ) × IsBelow b i × (i < ports_of o n) × (class_in o n i ≡ begun))
 
 -- what a port adds: the component that it meets, which is not derived yet, or the Link of a wire that leads off
-pub record AddsPort (o : OpenNet) (n i : ℕ) (old new : Plan) (x : Shape) : Type 0 where
+pub record AddsPort (o : OpenNet) (n i : ℕ) (old new : TaskPlan) (x : Shape) : Type 0 where
   pub puts : (xs : List Shape) → PutsShapes o old.tasks xs → PutsShapes o new.tasks (xs ++ x ∷ [])
   pub nodes : (m : ℕ) → IsIn m x.nodes ↔ Meets o old.rest n i m
   pub links : (w : ℕ) → IsIn w x.links ↔ LeadsOff o old.rest n i w
@@ -117,12 +117,12 @@ pub record AddsPort (o : OpenNet) (n i : ℕ) (old new : Plan) (x : Shape) : Typ
   pub done : (m : ℕ) → IsIn m (nodes_in new.done) ↔ (IsIn m (nodes_in old.done) ⊎ IsIn m x.nodes)
 
 -- .. or nothing, where all that it meets is derived, and its wire is of an earlier port
-pub record AddsNothing (o : OpenNet) (n i : ℕ) (old new : Plan) : Type 0 where
+pub record AddsNothing (o : OpenNet) (n i : ℕ) (old new : TaskPlan) : Type 0 where
   pub same : new ≡ old
   pub met : (m : ℕ) → Meets o old.rest n i m → IsIn m (nodes_in old.done)
   pub past : (w : ℕ) → LeadsOff o old.rest n i w → (j : ℕ) × (j < i) × IsWire o w (Port n i) (Port n j)
 
-abbrev pub WhatPort : OpenNet → ℕ → ℕ → Plan → Plan → Bool → Type 0
+abbrev pub WhatPort : OpenNet → ℕ → ℕ → TaskPlan → TaskPlan → Bool → Type 0
 WhatPort o n i old new true = (x : Shape) × AddsPort o n i old new x
 WhatPort o n i old new false = AddsNothing o n i old new
 
@@ -132,7 +132,7 @@ with_empty zero xs = xs
 with_empty (suc k) xs = with_empty k xs ++ shape (λ n. false) no_wires ∷ []
 
 -- .. which come on top of what the tasks put, and nothing else changes
-pub record Skips (count : ℕ) (old new : Plan) : Type 0 where
+pub record Skips (count : ℕ) (old new : TaskPlan) : Type 0 where
   pub rest : new.rest ≡ old.rest
   pub done : new.done ≡ old.done
   pub puts : (o : OpenNet) → IsOpenNet o → (xs : List Shape) → PutsShapes o old.tasks xs → PutsShapes o new.tasks (with_empty count xs)
@@ -140,8 +140,8 @@ pub record Skips (count : ℕ) (old new : Plan) : Type 0 where
 -- ---- the order of the tasks
 
 -- the tasks yield the joints at the turns below k, and then these
-abbrev pub TakesJoints : OpenNet → ℕ → ℕ → List Joint → Plan → Type 0
-TakesJoints o n k more p = (js : List Joint) → Yields o p.tasks js → (is : List Joint) × Comes o (turns (nodes_in p.rest) n k) is × (js ≡ is ++ more)
+abbrev pub TakesJoints : OpenNet → ℕ → ℕ → List StackStep → TaskPlan → Type 0
+TakesJoints o n k more p = (js : List StackStep) → Yields o p.tasks js → (is : List StackStep) × Comes o (turns (nodes_in p.rest) n k) is × (js ≡ is ++ more)
 
 -- the component that comes at the turn k, or the Link of a wire there that leads away
 pub data Brings (o : OpenNet) (t : ℕ → Bool) (n k : ℕ) : Task → Type 0 where
@@ -149,14 +149,14 @@ pub data Brings (o : OpenNet) (t : ℕ → Bool) (n k : ℕ) : Task → Type 0 w
   a_link : (w : ℕ) → LinksAt o t n k w → Brings o t n k (Make (Link w))
 
 -- one more task for what comes at a turn, or none, where nothing comes
-abbrev pub WhatComes : OpenNet → ℕ → ℕ → Plan → Plan → Bool → Type 0
+abbrev pub WhatComes : OpenNet → ℕ → ℕ → TaskPlan → TaskPlan → Bool → Type 0
 WhatComes o n k old new true = (task : Task) × (new.tasks ≡ old.tasks ++ task ∷ []) × Brings o (nodes_in old.rest) n k task
 WhatComes o n k old new false = (new.tasks ≡ old.tasks) × NothingAt o (nodes_in old.rest) n k
 
 -- `count` Empties more
-abbrev pub WithEmpties : ℕ → Plan → Plan → Type 0
+abbrev pub WithEmpties : ℕ → TaskPlan → TaskPlan → Type 0
 WithEmpties count old new = new.tasks ≡ old.tasks ++ map Make (empties count)
 
 -- the tasks yield the joints of a part
 abbrev pub TakesPart : OpenNet → (ℕ → Bool) → List Task → Type 0
-TakesPart o s tasks = (js : List Joint) → Yields o tasks js → Comes o (part s) js
+TakesPart o s tasks = (js : List StackStep) → Yields o tasks js → Comes o (part s) js

@@ -1,7 +1,7 @@
 -- What the procedure that looks for a derivation keeps true. Sets of nodes are lists of tests, node by node.
 use Rattle.std.specs.Prelude.{◌≡◌, ◌⊎◌, ◌↔◌, ℕ, suc, ◌<◌, ◌≤◌, Bool, false, ◌||◌, List, [], ◌∷◌, ◌++◌, length}
-use Rattle.in_simple_deriving.specs.declared.plans.Plan.{Plan}
-use Rattle.in_simple_deriving.specs.declared.plans.Room.{Room}
+use Rattle.in_simple_deriving.specs.declared.plans.TaskPlan.{TaskPlan}
+use Rattle.in_simple_deriving.specs.declared.plans.PartSets.{PartSets}
 use Rattle.in_simple_deriving.specs.declared.plans.Task.{Task}
 use Rattle.in_simple_deriving.specs.declared.plans.Task.TheVariants.{Derive, Make}
 use Rattle.in_open_nets.specs.Constructions.{IsIn, count}
@@ -36,7 +36,7 @@ abbrev pub AreBefore : OpenNet → ℕ → (ℕ → Bool) → ℕ → List Bool 
 AreBefore o n s turn done = (m : ℕ) → IsIn m (nodes_in done) ↔ ((d : ℕ → Bool) × (l : ℕ) × IsPart o n s d × ComesAt o n d l × (l < turn) × IsIn m d)
 
 -- a plan for the rest, without n, has reached a turn
-pub record IsPlanAtTurn (o : OpenNet) (n : ℕ) (turn : ℕ) (p : Plan) : Type 0 where
+pub record IsPlanAtTurn (o : OpenNet) (n : ℕ) (turn : ℕ) (p : TaskPlan) : Type 0 where
   pub rest_size : length p.rest ≡ length o.nodes
   pub done_size : length p.done ≡ length o.nodes
   pub out : nodes_in p.rest n ≡ false
@@ -47,15 +47,15 @@ pub record IsPlanAtTurn (o : OpenNet) (n : ℕ) (turn : ℕ) (p : Plan) : Type 0
   pub left : IsLeftOf o n p.rest
 
 -- .. and is for the same rest
-abbrev pub StaysForRest : OpenNet → ℕ → ℕ → Plan → Plan → Type 0
+abbrev pub StaysForRest : OpenNet → ℕ → ℕ → TaskPlan → TaskPlan → Type 0
 StaysForRest o n turn old new = IsPlanAtTurn o n turn new × (new.rest ≡ old.rest)
 
 -- the component of a node has this turn
-abbrev pub HasTurn : OpenNet → ℕ → Plan → ℕ → ℕ → Type 0
+abbrev pub HasTurn : OpenNet → ℕ → TaskPlan → ℕ → ℕ → Type 0
 HasTurn o n p near turn = (c : ℕ → Bool) → IsPart o n (nodes_in p.rest) c → IsIn near c → ComesAt o n c turn
 
 -- the component of near is derived too
-pub record DerivesNear (o : OpenNet) (near : ℕ) (old new : Plan) : Type 0 where
+pub record DerivesNear (o : OpenNet) (near : ℕ) (old new : TaskPlan) : Type 0 where
   pub component : List Bool
   pub size : length component ≡ length o.nodes
   pub reached : IsReached o old.rest near component
@@ -65,15 +65,15 @@ pub record DerivesNear (o : OpenNet) (near : ℕ) (old new : Plan) : Type 0 wher
   pub both : (m : ℕ) → nodes_in new.done m ≡ (nodes_in component m || nodes_in old.done m)
 
 -- with one more task
-abbrev pub with_task : Plan → Task → Plan
+abbrev pub with_task : TaskPlan → Task → TaskPlan
 with_task p t = record { tasks = p.tasks ++ t ∷ []; rest = p.rest; done = p.done }
 
 -- there is room for each node of the net
-abbrev pub HasRoomForNodes : OpenNet → Room → Type 0
+abbrev pub HasRoomForNodes : OpenNet → PartSets → Type 0
 HasRoomForNodes o r = (length r.tests ≡ length o.nodes) × (length r.done ≡ length o.nodes)
 
 -- what is true of a plan stays so
-abbrev pub KeepsPlan : Plan → Plan → Type 0
+abbrev pub KeepsPlan : TaskPlan → TaskPlan → Type 0
 KeepsPlan old new = (o : OpenNet) (n t : ℕ) → IsPlanAtTurn o n t old → StaysForRest o n t old new
 
 -- only steps

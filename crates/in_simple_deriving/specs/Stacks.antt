@@ -3,7 +3,7 @@
 use Rattle.std.specs.Prelude.{◌≡◌, ◌≢◌, ◌⊎◌, ◌↔◌, ℕ, ◌+◌, ◌-◌, ◌<◌, ◌≤◌, Bool, true, false, cond, ◌||◌, ◌&&◌, nat_lt, List, [], ◌∷◌, ◌++◌, length}
 use Rattle.in_open_nets.specs.declared.open_nets.OpenPoint.{OpenPoint}
 use Rattle.in_open_nets.specs.declared.open_nets.OpenPoint.TheVariants.{Port}
-use Rattle.in_simple_deriving.specs.declared.plans.Joint.{Joint}
+use Rattle.in_simple_deriving.specs.declared.plans.StackStep.{StackStep}
 use Rattle.in_simple_deriving.specs.declared.plans.Task.{Task}
 use Rattle.in_simple_deriving.specs.declared.plans.Task.TheVariants.{Derive, Make}
 use Rattle.in_open_nets.specs.Constructions.{IsIn}
@@ -72,10 +72,10 @@ abbrev pub AreLast : ℕ → List ℕ → List ℕ → Type 0
 AreLast count old new = (gone : List ℕ) × (old ≡ new ++ gone) × ((length gone ≡ count) ⊎ ((new ≡ []) × (length gone ≤ count)))
 
 -- one more step, over the last ones that none names
-abbrev pub MakesStep : Joint → List Step → List ℕ → List Step → List ℕ → Type 0
+abbrev pub MakesStep : StackStep → List Step → List ℕ → List Step → List ℕ → Type 0
 MakesStep j steps roots steps' roots' = (below names : List ℕ) → roots ≡ below ++ names → length names ≡ count_of j → (steps' ≡ steps ++ step_of j names ∷ []) × (roots' ≡ below ++ length steps ∷ [])
 
--- a step over these parts builds y, wherever it stands
+-- a step over these parts builds y, wherever it is in the list
 pub record BuildsOver (o : OpenNet) (step : Step) (names : List ℕ) (from : List Part) (y : Part) : Type 0 where
   pub names_are : named step ≡ names
   pub own_once : (n : ℕ) → times n (own_nodes step) ≡ cond (is_among n (own_nodes step)) 1 0
@@ -86,17 +86,17 @@ pub record BuildsOver (o : OpenNet) (step : Step) (names : List ℕ) (from : Lis
   pub joins : Joins o step from y
 
 -- over nets of the shapes xs, a joint builds one of the shape x
-pub record Fits (o : OpenNet) (j : Joint) (xs : List Shape) (x : Shape) : Type 0 where
+pub record Fits (o : OpenNet) (j : StackStep) (xs : List Shape) (x : Shape) : Type 0 where
   pub many : length xs ≡ count_of j
   pub builds : (names : List ℕ) (from : List Part) → length names ≡ count_of j → HaveShapes o xs from → (y : Part) × HasShape o x y × BuildsOver o (step_of j names) names from y
 
 -- ---- tasks
 
 -- the joints that the tasks yield
-pub data Yields (o : OpenNet) : List Task → List Joint → Type 0 where
+pub data Yields (o : OpenNet) : List Task → List StackStep → Type 0 where
   done : Yields o [] []
-  made : (j : Joint) (ts : List Task) (js : List Joint) → Yields o ts js → Yields o (Make j ∷ ts) (j ∷ js)
-  derived : (c : List Bool) (ts : List Task) (is js : List Joint) → Comes o (part (nodes_in c)) is → Yields o ts js → Yields o (Derive c ∷ ts) (is ++ js)
+  made : (j : StackStep) (ts : List Task) (js : List StackStep) → Yields o ts js → Yields o (Make j ∷ ts) (j ∷ js)
+  derived : (c : List Bool) (ts : List Task) (is js : List StackStep) → Comes o (part (nodes_in c)) is → Yields o ts js → Yields o (Derive c ∷ ts) (is ++ js)
 
 -- the tasks turn one stack into the other, where each part that is to be derived comes with no open Link
 abbrev pub RunsTasks : OpenNet → List Task → List Shape → List Shape → Type 0
@@ -136,7 +136,7 @@ pub record IsUnderWay (o : OpenNet) (tasks : List Task) (steps : List Step) (roo
   pub shapes : List Shape
   pub stack : IsStack o steps roots shapes
   pub runs : RunsTasks o tasks shapes (shape whole (loose_in o) ∷ [])
-  pub order : (js : List Joint) → Yields o tasks js → AreTaken o (steps_from js steps roots)
+  pub order : (js : List StackStep) → Yields o tasks js → AreTaken o (steps_from js steps roots)
 
 -- what is under way stays so
 abbrev pub AdvancesTasks : List Task → List Step → List ℕ → List Task → List Step → List ℕ → Type 0

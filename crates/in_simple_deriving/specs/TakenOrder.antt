@@ -9,8 +9,8 @@ use Rattle.std.specs.Prelude.{◌≡◌, ◌↔◌, ℕ, zero, suc, ◌+◌, ◌
 use Rattle.in_open_nets.specs.declared.open_nets.Node.TheVariants.{AgentNode, ClassNode}
 use Rattle.in_open_nets.specs.declared.open_nets.OpenPoint.{OpenPoint}
 use Rattle.in_open_nets.specs.declared.open_nets.OpenPoint.TheVariants.{Port, Free}
-use Rattle.in_simple_deriving.specs.declared.plans.Joint.{Joint}
-use Rattle.in_simple_deriving.specs.declared.plans.Joint.TheVariants.{Empty, Link, Given, Graft, Cut, Mix}
+use Rattle.in_simple_deriving.specs.declared.plans.StackStep.{StackStep}
+use Rattle.in_simple_deriving.specs.declared.plans.StackStep.TheVariants.{Empty, Link, Given, Graft, Cut, Mix}
 use Rattle.in_open_nets.specs.Constructions.{IsIn}
 use Rattle.in_open_nets.specs.declared.derivations.Step.{Step}
 use Rattle.in_open_nets.specs.OpenNets.{OpenNet, IsAgent, IsNode, IsWire, class_in, classes_of}
@@ -21,16 +21,16 @@ use Rattle.in_open_nets.specs.Stuck.{ComesAt, IsFirstToSplit, IsPart, ports_of, 
 -- ---- the joints at a node, turn by turn: what comes at a turn, what before it, and what joins it to that which came so far
 
 -- a given number of Empties
-abbrev pub empties : ℕ → List Joint
+abbrev pub empties : ℕ → List StackStep
 empties zero = []
 empties (suc k) = Empty ∷ empties k
 
 -- a class node is first; an agent comes after its classes
-abbrev pub first_joint : OpenNet → ℕ → List Joint
+abbrev pub first_joint : OpenNet → ℕ → List StackStep
 first_joint o n = elim (slice_get o.nodes n) [ None ↦ [] | Some m ↦ elim m.node [ AgentNode y ↦ [] | ClassNode y c ↦ Given n ∷ [] ] ]
 
 -- before an agent's port an Empty for each class that has no port, and before its principal port the Graft
-abbrev pub before : OpenNet → ℕ → ℕ → List Joint
+abbrev pub before : OpenNet → ℕ → ℕ → List StackStep
 before o n k = elim (slice_get o.nodes n) [
   | None ↦ []
   | Some m ↦ elim m.node [
@@ -62,7 +62,7 @@ abbrev pub IsWireAt : OpenNet → ℕ → ℕ → ℕ → Type 0
 IsWireAt o n k w = (i : ℕ) × (q : OpenPoint) × IsWire o w (Port n i) q × (turn o n i ≡ k)
 
 -- these joints, none or one, join in that manner what comes
-abbrev pub JoinsInManner : OpenNet → ℕ → ℕ → Manner → List Joint → Type 0
+abbrev pub JoinsInManner : OpenNet → ℕ → ℕ → Manner → List StackStep → Type 0
 JoinsInManner o n k begins js = js ≡ []
 JoinsInManner o n k beside js = js ≡ Mix ∷ []
 JoinsInManner o n k cut js = (w : ℕ) × IsWireAt o n k w × (js ≡ Cut w ∷ [])
@@ -99,31 +99,31 @@ pub data Stage : Type 0 where
 
 -- the first node that splits s is taken out, and its turns come one after another: at each the component that comes then, or the Link of a
 -- wire that leads away, or nothing
-pub data Comes (o : OpenNet) : Stage → List Joint → Type 0 where
-  taken : (s t : ℕ → Bool) (n : ℕ) (js : List Joint) → IsFirstToSplit o n s → IsLeft n s t → Comes o (turns t n (suc (ports_of o n) + length o.nodes)) js → Comes o (part s) js
+pub data Comes (o : OpenNet) : Stage → List StackStep → Type 0 where
+  taken : (s t : ℕ → Bool) (n : ℕ) (js : List StackStep) → IsFirstToSplit o n s → IsLeft n s t → Comes o (turns t n (suc (ports_of o n) + length o.nodes)) js → Comes o (part s) js
   start : (t : ℕ → Bool) (n : ℕ) → Comes o (turns t n zero) (first_joint o n)
-  next : (t : ℕ → Bool) (n k : ℕ) (js is : List Joint) → Comes o (turns t n k) js → Comes o (at t n k) is → Comes o (turns t n (suc k)) (js ++ (before o n k ++ is))
-  component : (t : ℕ → Bool) (n k : ℕ) (c : ℕ → Bool) (js is : List Joint) → IsPart o n t c → ComesAt o n c k → Comes o (part c) js → JoinsInManner o n k (manner o n k) is → Comes o (at t n k) (js ++ is)
-  link : (t : ℕ → Bool) (n k w : ℕ) (is : List Joint) → LinksAt o t n k w → JoinsInManner o n k (manner o n k) is → Comes o (at t n k) (Link w ∷ is)
+  next : (t : ℕ → Bool) (n k : ℕ) (js is : List StackStep) → Comes o (turns t n k) js → Comes o (at t n k) is → Comes o (turns t n (suc k)) (js ++ (before o n k ++ is))
+  component : (t : ℕ → Bool) (n k : ℕ) (c : ℕ → Bool) (js is : List StackStep) → IsPart o n t c → ComesAt o n c k → Comes o (part c) js → JoinsInManner o n k (manner o n k) is → Comes o (at t n k) (js ++ is)
+  link : (t : ℕ → Bool) (n k w : ℕ) (is : List StackStep) → LinksAt o t n k w → JoinsInManner o n k (manner o n k) is → Comes o (at t n k) (Link w ∷ is)
   nothing : (t : ℕ → Bool) (n k : ℕ) → NothingAt o t n k → Comes o (at t n k) []
 
 -- ---- the whole open net
 
 -- a given number of wires from w on: a Link of each between two free ends, beside what came so far; Empty where nothing came
-abbrev pub links_from : OpenNet → Bool → ℕ → ℕ → List Joint
+abbrev pub links_from : OpenNet → Bool → ℕ → ℕ → List StackStep
 links_from o came w zero = cond came [] (Empty ∷ [])
 links_from o came w (suc n) = cond (loose_in o w) (Link w ∷ (cond came (Mix ∷ []) [] ++ links_from o true (w + 1) n)) (links_from o came (w + 1) n)
 
 -- the nodes, where there are some, and then these Links
-pub data AreJointsOf (o : OpenNet) : List Joint → Type 0 where
-  with_nodes : (s : ℕ → Bool) (js : List Joint) → 0 < length o.nodes → ((n : ℕ) → IsIn n s ↔ IsNode o n) → Comes o (part s) js → AreJointsOf o (js ++ links_from o true 0 (length o.wires))
+pub data AreJointsOf (o : OpenNet) : List StackStep → Type 0 where
+  with_nodes : (s : ℕ → Bool) (js : List StackStep) → 0 < length o.nodes → ((n : ℕ) → IsIn n s ↔ IsNode o n) → Comes o (part s) js → AreJointsOf o (js ++ links_from o true 0 (length o.wires))
   without : length o.nodes ≡ 0 → AreJointsOf o (links_from o false 0 (length o.wires))
 
 -- each joint as a step over the last steps that none names
-abbrev pub steps_from : List Joint → List Step → List ℕ → List Step
+abbrev pub steps_from : List StackStep → List Step → List ℕ → List Step
 steps_from [] steps roots = steps
 steps_from (j ∷ js) steps roots = steps_from js (steps ++ step_of j (drop (length roots - count_of j) roots) ∷ []) (take (length roots - count_of j) roots ++ length steps ∷ [])
 
 -- the steps that `derive` returns
 abbrev pub AreTaken : OpenNet → List Step → Type 0
-AreTaken o steps = (js : List Joint) × AreJointsOf o js × (steps ≡ steps_from js [] [])
+AreTaken o steps = (js : List StackStep) × AreJointsOf o js × (steps ≡ steps_from js [] [])

@@ -3,7 +3,7 @@
 //! `procedure` keeps a stack of tasks for `derive`: a part that is to be derived, or a step over those that came last. `plans` says which components
 //! and steps follow where a node is taken out of a part, and puts them on the stack. It asks one question at each port, the fate of the node at the
 //! other end (`Fate`: it waits, it is derived, it is outside), and goes through three stages that keep what was shown so far: the classes of the
-//! node are begun (`Begun`), some of them are there (`Classes`), the node is in its net (`Joined`). So a level of deriving costs what its parts are,
+//! node are begun (`BegunPlan`), some of them are there (`Classes`), the node is in its net (`JoinedPlan`). So a level of deriving costs what its parts are,
 //! however large the net is. A part that no node splits is the first stuck one.
 #![tactic(auto)]
 

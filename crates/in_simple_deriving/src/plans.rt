@@ -20,7 +20,7 @@ use std::marker::Model;
 
 /// A step over those that came last.
 #[derive(Clone, Copy)]
-pub(crate) enum Joint {
+pub(crate) enum StackStep {
     Empty,
     Link(u32),
     Given(u32),
@@ -35,7 +35,7 @@ pub(crate) enum Joint {
 #[derive(Drop)]
 pub(crate) enum Task {
     Derive(NodeList),
-    Make(Joint),
+    Make(StackStep),
 }
 
 /// The fate of a node, or of the other end of a wire.
@@ -59,27 +59,27 @@ fn leads_back(point: OpenPoint, node: usize, port: usize) -> bool
 }
 
 /// Sets that are made once for all parts: which nodes are in a part, and which ones are derived.
-pub(crate) struct Room {
+pub(crate) struct PartSets {
     pub(crate) tests: Scratch,
     pub(crate) done: DoneNodes,
 }
 
 // By hand, so that each drop is a call: a derived one is written out in each proof, at each way out.
-impl Drop for Room {
+impl Drop for PartSets {
     fn drop(self) {
-        let Room { tests: _, done: _ } = self;
+        let PartSets { tests: _, done: _ } = self;
     }
 }
 
-impl Room {
+impl PartSets {
     /// For `count` nodes.
-    pub(crate) fn new(alloc: Global, count: usize) -> Result<Room, AllocError>
+    pub(crate) fn new(alloc: Global, count: usize) -> Result<PartSets, AllocError>
         ensures tests { IfOk result (λ room. length room.tests ≡ count) }
         ensures done { IfOk result (λ room. length room.done ≡ count) }
     {
         let tests = Scratch::new(alloc, count)?;
         let done = DoneNodes::new(alloc, count)?;
-        Ok(Room { tests, done })
+        Ok(PartSets { tests, done })
     }
 
     /// For the nodes of a list.
@@ -88,7 +88,7 @@ impl Room {
         ensures nodes { IfOk result (λ part. part.nodes ≡ list) }
         ensures done { IfOk result (λ part. part.done ≡ self.done) }
     {
-        let Room { tests, done } = self;
+        let PartSets { tests, done } = self;
         let nodes = NodeSet::of(list, tests)?;
         Ok(Opened { nodes, done })
     }
@@ -118,27 +118,27 @@ impl Opened {
     }
 
     /// The room that it took.
-    pub(crate) fn close(self) -> Room
+    pub(crate) fn close(self) -> PartSets
         ensures tests { result.tests ≡ self.nodes }
         ensures done { result.done ≡ self.done }
     {
         let Opened { nodes, done } = self;
         let tests = nodes.into_tests();
-        Room { tests, done }
+        PartSets { tests, done }
     }
 }
 
 /// The tasks of a part without one node, the nodes that are left, and those that the tasks derive.
-struct Plan {
+struct TaskPlan {
     tasks: Items<Task>,
     rest: NodeSet,
     done: DoneNodes,
 }
 
 // By hand, so that each drop is a call: a derived one is written out in each proof, at each way out.
-impl Drop for Plan {
+impl Drop for TaskPlan {
     fn drop(self) {
-        let Plan {
+        let TaskPlan {
             tasks: _,
             rest: _,
             done: _,
@@ -146,9 +146,9 @@ impl Drop for Plan {
     }
 }
 
-impl Plan {
+impl TaskPlan {
     /// One more step.
-    fn make(mut self, joint: Joint) -> Result<Plan, AllocError>
+    fn make(mut self, joint: StackStep) -> Result<TaskPlan, AllocError>
         ensures { IfOk result (λ plan. plan ≡ with_task self (Make joint)) }
     {
         self.tasks.push(Task::Make(joint))?;
@@ -156,14 +156,14 @@ impl Plan {
     }
 
     /// Its tasks, and the room that it took.
-    fn into_tasks(self) -> (Items<Task>, Room)
+    fn into_tasks(self) -> (Items<Task>, PartSets)
         ensures tasks { result.0 ≡ self.tasks }
         ensures tests { result.1.tests ≡ self.rest }
         ensures done { result.1.done ≡ self.done }
     {
-        let Plan { tasks, rest, done } = self;
+        let TaskPlan { tasks, rest, done } = self;
         let tests = rest.into_tests();
-        (tasks, Room { tests, done })
+        (tasks, PartSets { tests, done })
     }
 
     /// The fate of a node.
@@ -196,7 +196,7 @@ impl Plan {
         wired: &Wired,
         node: usize,
         near: u32,
-    ) -> Result<Plan, AllocError>
+    ) -> Result<TaskPlan, AllocError>
         requires node { node < length wired.now.nodes }
         requires size { IsSizedPlan wired.now node self }
         requires near { IsIn near (nodes_in self.rest) }
@@ -218,8 +218,8 @@ impl Plan {
         wired: &Wired,
         node: usize,
         fate: Fate,
-        joint: Joint,
-    ) -> Result<Plan, AllocError>
+        joint: StackStep,
+    ) -> Result<TaskPlan, AllocError>
         requires node { node < length wired.now.nodes }
         requires size { IsSizedPlan wired.now node self }
         requires waits { IsLeftOver self fate }
@@ -239,7 +239,7 @@ impl Plan {
         wired: &Wired,
         node: usize,
         port: usize,
-    ) -> Result<(Plan, bool), AllocError>
+    ) -> Result<(TaskPlan, bool), AllocError>
         requires port { IsAuxiliaryPort wired.now node port }
         requires plan { IsPlanAtTurn wired.now node port self }
         ensures plan { IfOk result (λ r. StaysForRest wired.now node (suc port) self r.0) }
@@ -254,7 +254,7 @@ impl Plan {
                 if leads_back(point, node, port) {
                     Ok((self, false))
                 } else {
-                    Ok((self.make(Joint::Link(wire))?, true))
+                    Ok((self.make(StackStep::Link(wire))?, true))
                 }
             }
         }
@@ -262,27 +262,27 @@ impl Plan {
 }
 
 /// Nothing, for classes with no port.
-fn skip(plan: Plan, classes: usize) -> Result<Plan, AllocError>
+fn skip(plan: TaskPlan, classes: usize) -> Result<TaskPlan, AllocError>
     ensures plan { IfOk result (KeepsPlan plan) }
     ensures skips { IfOk result (Skips classes plan) }
     ensures tasks { IfOk result (WithEmpties classes plan) }
 {
     let mut skipped = plan;
     for class in 0..classes {
-        skipped = skipped.make(Joint::Empty)?;
+        skipped = skipped.make(StackStep::Empty)?;
     }
     Ok(skipped)
 }
 
 /// A plan with no task yet, for a part without a node that splits it.
 #[derive(Drop)]
-struct Begun<'a> {
+struct BegunPlan<'a> {
     wired: &'a Wired<'a>,
     node: usize,
-    plan: Plan,
+    plan: TaskPlan,
 }
 
-impl<'a> Model for Begun<'a> {
+impl<'a> Model for BegunPlan<'a> {
     ghost use Rattle.in_simple_deriving.specs.Progress.{Progress, StartsPlan, progress};
 
     ghost Value = { Progress };
@@ -297,7 +297,7 @@ impl<'a> Model for Begun<'a> {
 struct Classes<'a> {
     wired: &'a Wired<'a>,
     node: usize,
-    plan: Plan,
+    plan: TaskPlan,
     port: usize,
     begun: usize,
 }
@@ -314,14 +314,14 @@ impl<'a> Model for Classes<'a> {
 
 /// A plan that puts one net: that of the node, with the components whose turns come before this one.
 #[derive(Drop)]
-struct Joined<'a> {
+struct JoinedPlan<'a> {
     wired: &'a Wired<'a>,
     node: usize,
-    plan: Plan,
+    plan: TaskPlan,
     turn: usize,
 }
 
-impl<'a> Model for Joined<'a> {
+impl<'a> Model for JoinedPlan<'a> {
     ghost use Rattle.in_simple_deriving.specs.Progress.{PlansNet, Progress, progress};
 
     ghost Value = { Progress };
@@ -331,14 +331,14 @@ impl<'a> Model for Joined<'a> {
     ghost invariant = { λ j. PlansNet j.wired.now j.node j.turn j.plan };
 }
 
-impl<'a> Begun<'a> {
+impl<'a> BegunPlan<'a> {
     /// A plan with no task yet, and the list of the part.
     fn of(
         alloc: Global,
         wired: &'a Wired<'a>,
         part: Opened,
         node: usize,
-    ) -> Result<(Begun<'a>, NodeList), AllocError>
+    ) -> Result<(BegunPlan<'a>, NodeList), AllocError>
         requires size { length part.nodes ≡ length wired.now.nodes }
         requires done { length part.done ≡ length wired.now.nodes }
         requires here { IsIn node (nodes_in part.nodes) }
@@ -352,12 +352,12 @@ impl<'a> Begun<'a> {
         let (nodes, mut done) = part.apart();
         done.clear()?;
         let (rest, list) = nodes.without(alloc, node)?;
-        let plan = Plan {
+        let plan = TaskPlan {
             tasks: Items::new(alloc),
             rest,
             done,
         };
-        Ok((Begun { wired, node, plan }, list))
+        Ok((BegunPlan { wired, node, plan }, list))
     }
 
     /// The nets of an agent's classes, but for the last ones, which have no port.
@@ -365,7 +365,7 @@ impl<'a> Begun<'a> {
         requires { IsAgent self.net self.node }
         ensures { IfOk result (λ classes. classes ≡ until self.entry (1 + (ports_of self.entry.net self.entry.node - 1))) }
     {
-        let Begun { wired, node, plan } = self;
+        let BegunPlan { wired, node, plan } = self;
         let mut classes = Classes {
             wired,
             node,
@@ -380,7 +380,7 @@ impl<'a> Begun<'a> {
     }
 
     /// An agent: the nets of its classes, the graft, and the component at its principal port.
-    fn agent(self, alloc: Global) -> Result<Joined<'a>, AllocError>
+    fn agent(self, alloc: Global) -> Result<JoinedPlan<'a>, AllocError>
         requires { IsAgent self.net self.node }
         ensures { IfOk result (λ joined. joined ≡ after_ports self.entry) }
     {
@@ -394,14 +394,14 @@ impl<'a> Begun<'a> {
     }
 
     /// A class node, and the components at its ports.
-    fn class(self, alloc: Global) -> Result<Joined<'a>, AllocError>
+    fn class(self, alloc: Global) -> Result<JoinedPlan<'a>, AllocError>
         requires { IsClass self.net self.node }
         ensures { IfOk result (λ joined. joined ≡ after_ports self.entry) }
     {
-        let Begun { wired, node, plan } = self;
+        let BegunPlan { wired, node, plan } = self;
         let ports = wired.ports(node);
-        let plan = plan.make(Joint::Given(node as u32))?;
-        let mut joined = Joined {
+        let plan = plan.make(StackStep::Given(node as u32))?;
+        let mut joined = JoinedPlan {
             wired,
             node,
             plan,
@@ -416,7 +416,7 @@ impl<'a> Begun<'a> {
     }
 
     /// The components that the node touches.
-    fn touched(self, alloc: Global) -> Result<Joined<'a>, AllocError>
+    fn touched(self, alloc: Global) -> Result<JoinedPlan<'a>, AllocError>
         ensures { IfOk result (λ joined. joined ≡ after_ports self.entry) }
     {
         if self.wired.is_agent(self.node) {
@@ -468,7 +468,11 @@ impl<'a> Classes<'a> {
             begun,
         } = self;
         let (next, came) = plan.port(alloc, wired, node, port)?;
-        let plan = if came { next.make(Joint::Mix)? } else { next };
+        let plan = if came {
+            next.make(StackStep::Mix)?
+        } else {
+            next
+        };
         Ok(Classes {
             wired,
             node,
@@ -492,7 +496,7 @@ impl<'a> Classes<'a> {
     }
 
     /// Grafts the agent on its classes, of which the last ones have no port.
-    fn graft(self) -> Result<Joined<'a>, AllocError>
+    fn graft(self) -> Result<JoinedPlan<'a>, AllocError>
         requires { self.next ≡ 1 + (ports_of self.net self.node - 1) }
         ensures { IfOk result (λ joined. joined ≡ self.entry) }
     {
@@ -505,8 +509,8 @@ impl<'a> Classes<'a> {
         } = self;
         let classes = wired.classes(node);
         let filled = skip(plan, classes.saturating_sub(begun))?;
-        let plan = filled.make(Joint::Graft(node as u32, classes))?;
-        Ok(Joined {
+        let plan = filled.make(StackStep::Graft(node as u32, classes))?;
+        Ok(JoinedPlan {
             wired,
             node,
             plan,
@@ -515,15 +519,15 @@ impl<'a> Classes<'a> {
     }
 }
 
-impl<'a> Joined<'a> {
+impl<'a> JoinedPlan<'a> {
     /// The component that a port touches, unless it is derived, cut to what came so far.
-    fn port(self, alloc: Global, port: usize) -> Result<Joined<'a>, AllocError>
+    fn port(self, alloc: Global, port: usize) -> Result<JoinedPlan<'a>, AllocError>
         requires port { port < ports_of self.net self.node }
         requires turn { self.next ≡ turn self.net self.node port }
         requires principal { IsAgent self.net self.node → port ≡ 0 }
         ensures { IfOk result (λ joined. joined ≡ later self.entry) }
     {
-        let Joined {
+        let JoinedPlan {
             wired,
             node,
             plan,
@@ -531,8 +535,8 @@ impl<'a> Joined<'a> {
         } = self;
         let (wire, point) = wired.partner(node, port);
         let fate = plan.fate_at(point);
-        let plan = plan.join(alloc, wired, node, fate, Joint::Cut(wire))?;
-        Ok(Joined {
+        let plan = plan.join(alloc, wired, node, fate, StackStep::Cut(wire))?;
+        Ok(JoinedPlan {
             wired,
             node,
             plan,
@@ -541,20 +545,20 @@ impl<'a> Joined<'a> {
     }
 
     /// The component of a node, unless it is derived, beside what came so far.
-    fn other(self, alloc: Global, near: u32) -> Result<Joined<'a>, AllocError>
+    fn other(self, alloc: Global, near: u32) -> Result<JoinedPlan<'a>, AllocError>
         requires near { near < length self.net.nodes }
         requires turn { self.next ≡ suc (ports_of self.net self.node) + near }
         ensures { IfOk result (λ joined. joined ≡ later self.entry) }
     {
-        let Joined {
+        let JoinedPlan {
             wired,
             node,
             plan,
             turn,
         } = self;
         let fate = plan.fate(near);
-        let plan = plan.join(alloc, wired, node, fate, Joint::Mix)?;
-        Ok(Joined {
+        let plan = plan.join(alloc, wired, node, fate, StackStep::Mix)?;
+        Ok(JoinedPlan {
             wired,
             node,
             plan,
@@ -563,21 +567,21 @@ impl<'a> Joined<'a> {
     }
 
     /// The turn of the node `near`, where none whose turn is before it is left.
-    fn wait(self, near: usize) -> Joined<'a>
+    fn wait(self, near: usize) -> JoinedPlan<'a>
         requires near { near ≤ length self.net.nodes }
         requires from { suc (ports_of self.net self.node) ≤ self.next }
         requires turn { self.next ≤ suc (ports_of self.net self.node) + near }
         requires none { (m : ℕ) → self.next ≤ suc (ports_of self.net self.node) + m → m < near → nodes_in self.rest m ≡ false }
         ensures { result ≡ until self.entry (suc (ports_of self.entry.net self.entry.node) + near) }
     {
-        let Joined {
+        let JoinedPlan {
             wired,
             node,
             plan,
             turn: _,
         } = self;
         let turn = wired.ports(node) + 1 + near;
-        Joined {
+        JoinedPlan {
             wired,
             node,
             plan,
@@ -593,20 +597,20 @@ impl<'a> Joined<'a> {
     }
 
     /// The end of the turns, where no component has one any more.
-    fn end(self) -> Joined<'a>
+    fn end(self) -> JoinedPlan<'a>
         requires from { suc (ports_of self.net self.node) ≤ self.next }
         requires turn { self.next ≤ suc (ports_of self.net self.node) + length self.net.nodes }
         requires over { HasNoTurnLeft self }
         ensures { result ≡ at_end self.entry }
     {
-        let Joined {
+        let JoinedPlan {
             wired,
             node,
             plan,
             turn: _,
         } = self;
         let turn = wired.ports(node) + 1 + wired.nodes();
-        Joined {
+        JoinedPlan {
             wired,
             node,
             plan,
@@ -615,7 +619,7 @@ impl<'a> Joined<'a> {
     }
 
     /// The components that the node doesn't touch: only nodes of the part may be left. Mostly none is, since the node touches them all.
-    fn others(self, alloc: Global, part: &NodeList) -> Result<Joined<'a>, AllocError>
+    fn others(self, alloc: Global, part: &NodeList) -> Result<JoinedPlan<'a>, AllocError>
         requires turn { self.next ≡ suc (ports_of self.net self.node) }
         requires size { length part.now ≡ length self.net.nodes }
         requires rest { IsRest self.node part.now self.rest }
@@ -639,7 +643,7 @@ pub(crate) fn tasks_of(
     wired: &Wired,
     part: Opened,
     node: usize,
-) -> Result<(Items<Task>, Room), AllocError>
+) -> Result<(Items<Task>, PartSets), AllocError>
     requires size { length part.nodes ≡ length wired.now.nodes }
     requires done { length part.done ≡ length wired.now.nodes }
     requires here { IsIn node (nodes_in part.nodes) }
@@ -653,7 +657,7 @@ pub(crate) fn tasks_of(
     ensures sized { IfOk result (λ r. AreSizedTasks (length wired.now.nodes) r.0) }
     ensures room { IfOk result (λ r. HasRoomForNodes wired.now r.1) }
 {
-    let (begun, list) = Begun::of(alloc, wired, part, node)?;
+    let (begun, list) = BegunPlan::of(alloc, wired, part, node)?;
     let touched = begun.touched(alloc)?;
     let whole = touched.others(alloc, &list)?;
     Ok(whole.plan.into_tasks())

@@ -7,7 +7,7 @@ ghost use Rattle.in_simple_deriving.specs.Stacks.{AdvancesTasks, AreLast, EndsIn
 ghost use Rattle.in_simple_deriving.specs.TakenOrder.{AreTaken, links_from};
 ghost use Rattle.in_simple_deriving.specs.declared.plans.Task.TheVariants.{Derive, Make};
 
-use crate::plans::{Joint, Room, Task, tasks_of};
+use crate::plans::{PartSets, StackStep, Task, tasks_of};
 use in_base::use_promise;
 use in_open_nets::{
     Derivation, NodeList, OpenNet, OpenPoint, Part, Step, Stuck, Trials, Undone, Wired,
@@ -87,25 +87,25 @@ impl Work {
     }
 
     /// A step over the last ones that none names.
-    fn make(&mut self, alloc: Global, joint: Joint) -> Result<(), AllocError>
+    fn make(&mut self, alloc: Global, joint: StackStep) -> Result<(), AllocError>
         ensures tasks { self.new.tasks ≡ self.old.tasks }
         ensures made { OnOk result (MakesStep joint self.old.steps self.old.roots self.new.steps self.new.roots) }
     {
         match joint {
-            Joint::Empty => self.push(Step::Empty),
-            Joint::Link(wire) => self.push(Step::Link { wire }),
-            Joint::Given(node) => self.push(Step::Given { node }),
-            Joint::Graft(node, count) => {
+            StackStep::Empty => self.push(Step::Empty),
+            StackStep::Link(wire) => self.push(Step::Link { wire }),
+            StackStep::Given(node) => self.push(Step::Given { node }),
+            StackStep::Graft(node, count) => {
                 let classes = last_of(alloc, &self.roots, count)?;
                 self.forget(count);
                 self.push(Step::Graft { node, classes })
             }
-            Joint::Cut(wire) => {
+            StackStep::Cut(wire) => {
                 let b = self.pop();
                 let a = self.pop();
                 self.push(Step::Cut { wire, a, b })
             }
-            Joint::Mix => {
+            StackStep::Mix => {
                 let b = self.pop();
                 let a = self.pop();
                 self.push(Step::Mix { a, b })
@@ -150,15 +150,15 @@ fn loose(alloc: Global, open: &OpenNet, begun: bool) -> Result<Items<Task>, Allo
     let mut some = begun;
     for wire in 0..open.wires() {
         if is_loose(open, wire) {
-            tasks.push(Task::Make(Joint::Link(wire as u32)))?;
+            tasks.push(Task::Make(StackStep::Link(wire as u32)))?;
             if some {
-                tasks.push(Task::Make(Joint::Mix))?;
+                tasks.push(Task::Make(StackStep::Mix))?;
             }
             some = true;
         }
     }
     if !some {
-        tasks.push(Task::Make(Joint::Empty))?;
+        tasks.push(Task::Make(StackStep::Empty))?;
     }
     Ok(tasks)
 }
@@ -203,8 +203,8 @@ fn take(
     work: &mut Work,
     trials: &mut Trials,
     list: NodeList,
-    room: Room,
-) -> Result<(Option<Stuck>, Room), AllocError>
+    room: PartSets,
+) -> Result<(Option<Stuck>, PartSets), AllocError>
     requires work { IsWork wired.now (Derive list ∷ reverse work.old.tasks) }
     requires steps { IsUnderWay wired.now (Derive list ∷ reverse work.old.tasks) work.old.steps work.old.roots }
     requires cycles { trials.old.cycles ≡ wired.now }
@@ -239,7 +239,7 @@ fn finish(
     wired: &Wired,
     work: &mut Work,
     trials: &mut Trials,
-    room: Room,
+    room: PartSets,
 ) -> Result<Option<Stuck>, AllocError>
     requires work { IsWork wired.now (reverse work.old.tasks) }
     requires steps { IsUnderWay wired.now (reverse work.old.tasks) work.old.steps work.old.roots }
@@ -261,7 +261,7 @@ fn finish(
 
 /// A derivation, or the first stuck sub-net.
 #[derive(Drop)]
-enum Outcome {
+enum DerivingOutcome {
     Derived(Derivation),
     First(Stuck),
 }
@@ -272,8 +272,8 @@ fn come_to(
     open: &OpenNet,
     wired: &Wired,
     trials: &mut Trials,
-    room: Room,
-) -> Result<Outcome, AllocError>
+    room: PartSets,
+) -> Result<DerivingOutcome, AllocError>
     requires net { wired.now ≡ «open».now }
     requires cycles { trials.old.cycles ≡ wired.now }
     requires room { HasRoomForNodes wired.now room }
@@ -287,19 +287,19 @@ fn come_to(
                 steps,
                 roots: _,
             } = work;
-            Ok(Outcome::Derived(Derivation { steps }))
+            Ok(DerivingOutcome::Derived(Derivation { steps }))
         }
-        Some(stuck) => Ok(Outcome::First(stuck)),
+        Some(stuck) => Ok(DerivingOutcome::First(stuck)),
     }
 }
 
 /// Runs the procedure on an open net.
-fn attempt(alloc: Global, open: &OpenNet) -> Result<Outcome, AllocError>
+fn attempt(alloc: Global, open: &OpenNet) -> Result<DerivingOutcome, AllocError>
     ensures { IfOk result (IsDerivingOutcome «open».now) }
 {
     let wired = Wired::of(alloc, open)?;
     let mut trials = Trials::new(alloc, &wired)?;
-    let room = Room::new(alloc, wired.nodes())?;
+    let room = PartSets::new(alloc, wired.nodes())?;
     come_to(alloc, open, &wired, &mut trials, room)
 }
 
@@ -311,8 +311,8 @@ pub fn derive(alloc: Global, open: &OpenNet) -> Result<Derivation, Undone>
     ensures order { IfOk result (λ derivation. AreTaken «open».now derivation.steps) }
 {
     match attempt(alloc, open) {
-        Ok(Outcome::Derived(derivation)) => Ok(derivation),
-        Ok(Outcome::First(stuck)) => Err(Undone::Stuck(stuck)),
+        Ok(DerivingOutcome::Derived(derivation)) => Ok(derivation),
+        Ok(DerivingOutcome::First(stuck)) => Err(Undone::Stuck(stuck)),
         Err(error) => Err(Undone::Memory(error)),
     }
 }

@@ -1,6 +1,6 @@
 -- Faults of names: what is wrong with the types, symbols and free names of a program, and which of its faults is the first one.
 -- Lafont 1990 declares the type and sign of each port of a symbol, and lets an agent be of a declared symbol. That types and
--- symbols are two namespaces, the codes, and where a fault stands are this project's own choice.
+-- symbols are two namespaces, the codes, and the place of a fault are this project's own choice.
 use Rattle.std.specs.Prelude.{◌≡◌, ◌⊎◌, ℕ, List, [], ◌∷◌, map}
 use Rattle.in_base.specs.Lists.{AnyByRecursion, IsAmong}
 use Rattle.in_syntax.specs.declared.faults.Code.{Code}
@@ -23,7 +23,7 @@ IsSymbolName s name = AnyByRecursion (λ d. d.name.text ≡ name) s.symbols
 
 -- ---- declared twice
 
--- at the place stands a name of the list that stands earlier in the list as well
+-- the place is that of a name of the list that occurs earlier in the list as well
 abbrev pub IsRepeatedAt : List Name → Place → Type 0
 IsRepeatedAt [] p = ⊥
 IsRepeatedAt (n ∷ ns) p = AnyByRecursion (λ m. (m.text ≡ n.text) × (m.place ≡ p)) ns ⊎ IsRepeatedAt ns p
@@ -37,11 +37,11 @@ pub data IsDeclaredTwiceAt (s : Source) (p : Place) : Type 0 where
 
 -- ---- unknown types
 
--- at the place stands the port's type, which isn't declared
+-- the place is that of the port's type, which isn't declared
 abbrev pub IsUntypedAt : Source → Place → SourcePort → Type 0
 IsUntypedAt s p port = (IsTypeName s port.kind.text → ⊥) × (port.kind.place ≡ p)
 
--- at the place stands an unknown type: of a principal port, of an auxiliary port in a class, or of a free name
+-- the place is that of an unknown type: of a principal port, of an auxiliary port in a class, or of a free name
 pub data IsUnknownTypeAt (s : Source) (p : Place) : Type 0 where
   of_principal : AnyByRecursion (λ d. IsUntypedAt s p d.port) s.symbols → IsUnknownTypeAt s p
   of_auxiliary : AnyByRecursion (λ d. AnyByRecursion (AnyByRecursion (IsUntypedAt s p)) d.classes) s.symbols → IsUnknownTypeAt s p
@@ -54,7 +54,7 @@ pub data HasPart (P : Term → Type 0) : Term → Type 0 where
   itself : (t : Term) → P t → HasPart P t
   argument : (t a : Term) → IsAmong a (out-Term t).args → HasPart P a → HasPart P t
 
--- at the place stands the term's name, before its arguments, and is no symbol's
+-- the place is that of the term's name, before its arguments, which is no symbol's
 pub record IsUnknownHead (s : Source) (p : Place) (t : Term) : Type 0 where
   pub unknown : IsSymbolName s (out-Term t).name.text → ⊥
   pub arguments : (out-Term t).args ≡ [] → ⊥
@@ -68,7 +68,7 @@ OfAHead P r = P r.first ⊎ P r.second
 abbrev pub HasPartIn : (Term → Type 0) → List Equation → Type 0
 HasPartIn P = AnyByRecursion (λ e. HasPart P e.left ⊎ HasPart P e.right)
 
--- at the place stands a name that is no symbol's: before ( in an equation of the net or of a rule, before [ in a rule, or before ( in a
+-- the place is that of a name that is no symbol's: before ( in an equation of the net or of a rule, before [ in a rule, or before ( in a
 -- term of a head
 pub data IsUnknownHeadAt (s : Source) (p : Place) : Type 0 where
   in_equation : HasPartIn (IsUnknownHead s p) s.net.equations → IsUnknownHeadAt s p
@@ -84,7 +84,7 @@ pub data IsFaultAt (s : Source) : Code → Place → Type 0 where
   unknown_type : (p : Place) → IsUnknownTypeAt s p → IsFaultAt s E05 p
   unknown_symbol : (p : Place) → IsUnknownHeadAt s p → IsFaultAt s E06 p
 
--- none of them stands earlier; of two at one place the lower code counts
+-- none of them is earlier; of two at one place the lower code counts
 abbrev pub IsFirstFault : Source → Code → Place → Type 0
 IsFirstFault s = IsFirstOf (IsFaultAt s)
 

@@ -66,7 +66,7 @@ pub record Goes (s : Spot) (text : List ℕ) (ts : List Token) (t : Spot) (rest 
   pub utf8 : IsUtf8 rest
   pub shorter : length rest < length text
 
--- what stands at a spot and a text
+-- the next move in a text from a spot: its end, a part that is passed, or a fault
 abbrev pub IsMove : Spot → List ℕ → Move → Type 0
 IsMove s text move.End = chars text ≡ []
 IsMove s text (move.Past token t rest) = Goes s text (option_to_list token) t rest.now

@@ -126,13 +126,17 @@ IsAt _ s = Unit {0}
 
 -- ---- what is expected
 
--- after these signs: just the tokens that are expected continue with some program, wherever they stand, and names are of the sort of this section
+-- after these signs: just the tokens that are expected continue with some program, wherever they are, and names are of the sort of this section
 pub record IsExpected (text : List ℕ) (front : List Sign) (e : Expected) : Type 0 where
   pub tokens : (t : Token) → IsTrue (takes e (sign_of text t)) ↔ Begins (front ++ sign_of text t ∷ [])
   pub sort : IsAt e (section front)
 
+-- what is noted of a text's tokens and the result on them
+abbrev pub Noting : Type 1
+Noting = List ℕ → List Token → Result Source Fault → Expected → Type 0
+
 -- what is noted of tokens: nothing more where they are a program, and at a fault what is expected after the signs before it
-abbrev pub IsNotedOf : List ℕ → List Token → Result Source Fault → Expected → Type 0
+abbrev pub IsNotedOf : Noting
 IsNotedOf text tokens (Ok source) e = e ≡ expected.Nothing
 IsNotedOf text tokens (Err (Refused r)) e =
     (at : ℕ) × IsOutcomeOfSigns (signs_of text tokens) (fault r.code at) × IsExpected text (take at (signs_of text tokens)) e

@@ -52,6 +52,10 @@ pub record Marked : Type 0 where
 abbrev pub marked : Bool → Sign → Marked
 marked past s = record { sign = s; past = past }
 
+-- signs with their marks, one after another
+abbrev pub Spelling : Type 0
+Spelling = List Marked
+
 -- a sign that passes no limit
 abbrev pub within : Sign → Marked
 within = marked false
@@ -65,69 +69,69 @@ abbrev pub plain : TokenKind → Marked
 plain k = within (Plain k)
 
 -- with a comma between each two
-abbrev pub separated : List (List Marked) → List Marked
+abbrev pub separated : List Spelling → Spelling
 separated [] = []
 separated (a ∷ more) = a ++ flat_map (λ b. plain kind.Comma ∷ b) more
 
 -- each spelled with its number, where the first one's is given
-abbrev pub numbered : {A : Type 0} → (ℕ → A → List Marked) → ℕ → List A → List (List Marked)
+abbrev pub numbered : {A : Type 0} → (ℕ → A → Spelling) → ℕ → List A → List Spelling
 numbered spell number [] = []
 numbered spell number (x ∷ more) = spell number x ∷ numbered spell (number + 1) more
 
 -- port = name ("+" | "-")
-abbrev pub spell_port : Bool → SourcePort → List Marked
+abbrev pub spell_port : Bool → SourcePort → Spelling
 spell_port past p = marked past (Named p.kind) ∷ plain (cond p.output kind.Plus kind.Minus) ∷ []
 
 -- an auxiliary port by its number in the symbol: the seventeenth and later ones pass the limit
-abbrev pub spell_auxiliary : ℕ → SourcePort → List Marked
+abbrev pub spell_auxiliary : ℕ → SourcePort → Spelling
 spell_auxiliary number p = spell_port (nat_lt max_ports number) p
 
 -- class = "{" port ("," port)* "}"
-abbrev pub spell_class : ℕ → List SourcePort → List Marked
+abbrev pub spell_class : ℕ → List SourcePort → Spelling
 spell_class number c = plain kind.OpenBrace ∷ separated (numbered spell_auxiliary number c) ++ plain kind.CloseBrace ∷ []
 
 -- class*, with the numbers of ports going on from class to class
-abbrev pub spell_classes : ℕ → List (List SourcePort) → List Marked
+abbrev pub spell_classes : ℕ → List (List SourcePort) → Spelling
 spell_classes number [] = []
 spell_classes number (c ∷ more) = spell_class number c ++ spell_classes (number + length c) more
 
 -- "symbol" name ":" port class* ";", of a symbol by its number: the name of the 513th and of later ones passes the limit
-abbrev pub spell_symbol : ℕ → SourceSymbol → List Marked
+abbrev pub spell_symbol : ℕ → SourceSymbol → Spelling
 spell_symbol number s =
     plain kind.Symbol ∷ marked (nat_lt max_symbols number) (Named s.name) ∷ plain kind.Colon ∷ spell_port false s.port
     ++ spell_classes 1 s.classes ++ plain kind.Semicolon ∷ []
 
 -- a type's name by its number: the 257th and later ones pass the limit
-abbrev pub spell_type : ℕ → Name → List Marked
+abbrev pub spell_type : ℕ → Name → Spelling
 spell_type number n = marked (nat_lt max_types number) (Named n) ∷ []
 
 -- "type" name ("," name)* ";", where the first name's number is given
-abbrev pub spell_types : ℕ → List Name → List Marked
+abbrev pub spell_types : ℕ → List Name → Spelling
 spell_types number names = plain kind.Type ∷ separated (numbered spell_type number names) ++ plain kind.Semicolon ∷ []
 
 -- [ "(" term ("," term)* ")" ]
-abbrev pub spell_arguments : List (List Marked) → List Marked
+abbrev pub spell_arguments : List Spelling → Spelling
 spell_arguments [] = []
 spell_arguments (a ∷ more) = plain kind.OpenParenthesis ∷ separated (a ∷ more) ++ plain kind.CloseParenthesis ∷ []
 
 -- one level of a term at a depth, with the spelling of each argument, one deeper, in its place
-abbrev pub spell_level : Term-F (ℕ → List Marked) → ℕ → List Marked
+abbrev pub spell_level : Term-F (ℕ → Spelling) → ℕ → Spelling
 spell_level f depth = marked (nat_lt max_depth depth) (Named f.name) ∷ spell_arguments (map (λ a. a (depth + 1)) f.args)
 
 -- term = name [ "(" term ("," term)* ")" ], at a depth: a name at depth 201 and deeper passes the limit
-abbrev pub spell_term : Term → ℕ → List Marked
-spell_term = fold-Term (ℕ → List Marked) spell_level
+abbrev pub spell_term : Term → ℕ → Spelling
+spell_term = fold-Term (ℕ → Spelling) spell_level
 
 -- term "~" term ";"
-abbrev pub spell_equation : Equation → List Marked
+abbrev pub spell_equation : Equation → Spelling
 spell_equation e = spell_term e.left 1 ++ within (Tilde e.tilde) ∷ spell_term e.right 1 ++ plain kind.Semicolon ∷ []
 
 -- a term of a head, at depth 1
-abbrev pub spell_outermost : Term → List Marked
+abbrev pub spell_outermost : Term → Spelling
 spell_outermost t = spell_term t 1
 
 -- head = name "[" [ term ("," term)* ] "]"
-abbrev pub spell_head : Head → List Marked
+abbrev pub spell_head : Head → Spelling
 spell_head h = named h.name ∷ plain kind.OpenBracket ∷ separated (map spell_outermost h.terms) ++ plain kind.CloseBracket ∷ []
 
 -- the word before the equations of a rule. It isn't reserved: after the heads of a rule it is this word, elsewhere a name as any other
@@ -143,7 +147,7 @@ abbrev pub word_at : Place → Name
 word_at p = record { text = with_word; place = p }
 
 -- [ "with" "{" (term "~" term ";")* "}" ]: the place of the word is given, where it is written
-abbrev pub spell_with : Option Place → List Equation → List Marked
+abbrev pub spell_with : Option Place → List Equation → Spelling
 spell_with None es = []
 spell_with (Some p) es = named (word_at p) ∷ plain kind.OpenBrace ∷ (flat_map spell_equation es ++ plain kind.CloseBrace ∷ [])
 
@@ -153,23 +157,23 @@ StandAfterWord None es = es ≡ []
 StandAfterWord (Some p) es = Unit {0}
 
 -- "rule" head "><" head [ "with" .. ] ";", of a rule by its number: the word `rule` of the 4,097th and of later ones passes the limit
-abbrev pub spell_rule : ℕ → Option Place → SourceRule → List Marked
+abbrev pub spell_rule : ℕ → Option Place → SourceRule → Spelling
 spell_rule number w r =
     marked (nat_lt max_rules number) (Plain kind.Rule)
     ∷ (((spell_head r.first ++ plain kind.Meets ∷ spell_head r.second) ++ spell_with w r.equations) ++ plain kind.Semicolon ∷ [])
 
 -- free = name ":" port, by its number: the name of the 257th and of later ones passes the limit
-abbrev pub spell_free : ℕ → SourceFree → List Marked
+abbrev pub spell_free : ℕ → SourceFree → Spelling
 spell_free number f = marked (nat_lt max_free number) (Named f.name) ∷ plain kind.Colon ∷ spell_port false f.port
 
 -- net = "net" "(" [ free ("," free)* ] ")" "{" (term "~" term ";")* "}"
-abbrev pub spell_net : SourceNet → List Marked
+abbrev pub spell_net : SourceNet → Spelling
 spell_net n =
     plain kind.Net ∷ plain kind.OpenParenthesis ∷ separated (numbered spell_free 1 n.free)
     ++ plain kind.CloseParenthesis ∷ plain kind.OpenBrace ∷ flat_map spell_equation n.equations
     ++ plain kind.CloseBrace ∷ []
 
--- what stands before the net, in any order
+-- the declarations and rules before the net, in any order
 pub data Item : Type 0 where
   types : List Name → Item
   symbol : SourceSymbol → Item
@@ -187,13 +191,13 @@ counted c (symbol s) = record { types = c.types; symbols = c.symbols + 1; rules 
 counted c (rule w r) = record { types = c.types; symbols = c.symbols; rules = c.rules + 1 }
 
 -- item = "type" .. | "symbol" .. | "rule" .., where that much is declared before it
-abbrev pub spell_item : Counts → Item → List Marked
+abbrev pub spell_item : Counts → Item → Spelling
 spell_item c (types names) = spell_types (c.types + 1) names
 spell_item c (symbol s) = spell_symbol (c.symbols + 1) s
 spell_item c (rule w r) = spell_rule (c.rules + 1) w r
 
 -- item*
-abbrev pub spell_items : Counts → List Item → List Marked
+abbrev pub spell_items : Counts → List Item → Spelling
 spell_items c [] = []
 spell_items c (i ∷ more) = spell_item c i ++ spell_items (counted c i) more
 
@@ -210,7 +214,7 @@ pub record GrammarProgram : Type 0 where
   pub net : SourceNet
 
 -- its signs in the order of the text
-abbrev pub spelling : GrammarProgram → List Marked
+abbrev pub spelling : GrammarProgram → Spelling
 spelling p = spell_items none_yet p.items ++ spell_net p.net
 
 -- the types that an item declares

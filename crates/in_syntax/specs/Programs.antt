@@ -13,7 +13,7 @@ use Rattle.in_syntax.specs.declared.signs.Sign.{Sign}
 use Rattle.in_syntax.specs.declared.signs.Sign.TheVariants.{Named, Tilde, Plain}
 use Rattle.in_syntax.specs.declared.tree.Name.{Name}
 use Rattle.in_syntax.specs.declared.tree.Source.{Source}
-use Rattle.in_syntax.specs.Grammar.{Marked, marked, within, GrammarProgram, spelling, source_of}
+use Rattle.in_syntax.specs.Grammar.{Spelling, marked, within, GrammarProgram, spelling, source_of}
 
 -- a place is that of a part of the text
 pub record IsTextAt (text : List ℕ) (place : Place) : Type 0 where
@@ -50,11 +50,11 @@ abbrev pub signs_of : List ℕ → List Token → List Sign
 signs_of text = map (sign_of text)
 
 -- the signs without their marks
-abbrev pub signs : List Marked → List Sign
+abbrev pub signs : Spelling → List Sign
 signs = map (λ m. m.sign)
 
 -- these signs, none of which passes a limit
-abbrev pub unmarked : List Sign → List Marked
+abbrev pub unmarked : List Sign → Spelling
 unmarked = map within
 
 -- the signs are those of a program of this tree, and none of them passes a limit
@@ -71,11 +71,11 @@ Begins front = (p : GrammarProgram) × (more : List Sign) × (signs (spelling p)
 
 -- some program begins so, and passes no limit there
 abbrev pub BeginsWithin : List Sign → Type 0
-BeginsWithin front = (p : GrammarProgram) × (more : List Marked) × (spelling p ≡ unmarked front ++ more)
+BeginsWithin front = (p : GrammarProgram) × (more : Spelling) × (spelling p ≡ unmarked front ++ more)
 
 -- some program begins so, and passes a limit first at the last sign
 abbrev pub BeginsPast : List Sign → Sign → Type 0
-BeginsPast front s = (p : GrammarProgram) × (more : List Marked) × (spelling p ≡ unmarked front ++ marked true s ∷ more)
+BeginsPast front s = (p : GrammarProgram) × (more : Spelling) × (spelling p ≡ unmarked front ++ marked true s ∷ more)
 
 -- the first fault is this one, between the signs before it and those from it on: some program begins with the former, and passes no
 -- limit there; E02 if none continues with the next sign, or none ends here, E03 if one does, and its sign passes a limit

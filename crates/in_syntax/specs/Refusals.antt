@@ -55,7 +55,7 @@ code_number E15 = 15
 abbrev pub IsNoLater : Code → Place → Code → Place → Type 0
 IsNoLater c p d q = (p.from < q.from) ⊎ ((p.from ≡ q.from) × (code_number c ≤ code_number d))
 
--- of these faults, none stands earlier; of two at one place the lower code counts
+-- of these faults, none is earlier; of two at one place the lower code counts
 pub record IsFirstOf (F : Code → Place → Type 0) (c : Code) (p : Place) : Type 0 where
   pub stands : F c p
   pub first : (d : Code) (q : Place) → F d q → IsNoLater c p d q

@@ -41,6 +41,7 @@ use Rattle.in_syntax.specs.Moves as move
 use Rattle.in_syntax.specs.declared.machine.Event.{Event}
 use Rattle.in_syntax.specs.declared.machine.Event.TheVariants as event
 use Rattle.in_syntax.specs.declared.reader.Reader.{Reader}
+use Rattle.in_syntax.specs.Expecting.{Noting}
 use Rattle.in_syntax.specs.Grammar.{max_types, max_symbols, max_rules, max_free, max_ports, max_depth, is_with}
 use Rattle.in_syntax.specs.Trees.{bare, bare_head, bare_rule, with_argument, with_class, with_equation, rule_with_equation, with_term}
 use Rattle.in_syntax.specs.Programs.{signs_of, place_at}
@@ -408,7 +409,7 @@ abbrev pub IsNotedBefore : List ℕ → List Token → ℕ → Expected → Type
 IsNotedBefore text tokens i e = (last : Reader) × SignsLead start (signs_of text (take i tokens)) last × (e ≡ expected_in last.state)
 
 -- what is noted of a run that gives this
-abbrev pub Notes : List ℕ → List Token → Result Source Fault → Expected → Type 0
+abbrev pub Notes : Noting
 Notes text tokens (Ok source) e = e ≡ expected.Nothing
 Notes text tokens (Err (Refused r)) e =
     (i : ℕ) × (i ≤ length tokens) × (run start (signs_of text tokens) ≡ refused r.code (signs_of text (drop i tokens))) × IsNotedBefore text tokens i e

@@ -1,5 +1,5 @@
 -- The tokens of a program's text, and the first fault in it. Lafont 1990 writes programs without a rule for tokens:
--- what stands here is this project's own choice.
+-- the rules of this file are this project's own choice.
 use Rattle.std.specs.Prelude.{◌≡◌, ℕ, ◌<◌, ◌≤◌, Bool, false, ◌&&◌, ◌==◌, List, [], ◌∷◌, ◌++◌, length, take, Option, Some, None, unwrap_or, if◌then◌else◌, codes, IsTrue, IsFalse, slice_range}
 use Rattle.std.specs.List.{list_all}
 use Rattle.std.specs.Str.{chars, IsUtf8, bytes_eq}
@@ -65,7 +65,7 @@ name_limit = 64
 abbrev pub text_limit : ℕ
 text_limit = 1_048_576
 
--- what stands at a spot is passed, and gives these tokens: a blank or a comment none, a token itself; then come another spot and the rest of the text
+-- the text at a spot is passed, and gives these tokens: a blank or a comment none, a token itself; then come another spot and the rest of the text
 pub data Passes : Spot → List ℕ → List Token → Spot → List ℕ → Type 0 where
   blank : {s : Spot} {c : ℕ} {cs : List ℕ} → IsTrue (is_blank c) → Passes s (c ∷ cs) [] (past s c) cs
   comment : {s : Spot} (body rest : List ℕ) → IsTrue (list_all stays_in_comment body) → EndsLine rest →
@@ -78,7 +78,7 @@ pub data Reads : Spot → List ℕ → List Token → Type 0 where
   ends : {s : Spot} → Reads s [] []
   goes_on : {s t : Spot} {cs rest : List ℕ} (ts us : List Token) → Passes s cs ts t rest → Reads t rest us → Reads s cs (ts ++ us)
 
--- what stands at a spot is a fault, with a code and a spot of its own
+-- the text at a spot is a fault, with a code and a spot of its own
 pub data Faults : Spot → List ℕ → Code → Spot → Type 0 where
   stray : {s : Spot} {c : ℕ} {cs : List ℕ} → IsFalse (is_blank c) → IsFalse (c == hash) → BeginsNoToken (c ∷ cs) → Faults s (c ∷ cs) E01 s
   too_long : {s : Spot} {k : TokenKind} (w rest : List ℕ) → IsLongest w rest k → name_limit < length w → Faults s (w ++ rest) E03 s
@@ -117,7 +117,7 @@ pub record StandsIn (text : List ℕ) (t : Token) : Type 0 where
   pub utf8 : IsUtf8 (slice_range text t.place.from t.place.to)
   pub kind : kind_of (chars (slice_range text t.place.from t.place.to)) ≡ Some t.kind
 
--- after the first n bytes the tokens stand one after another
+-- after the first n bytes the tokens follow one another
 abbrev pub StandInOrder : ℕ → List Token → Type 0
 StandInOrder n [] = Unit {0}
 StandInOrder n (t ∷ ts) = (n ≤ t.place.from) × StandInOrder t.place.to ts

@@ -76,6 +76,8 @@ fn goes(state: &mut State, next: State) -> Event
 
 /// The event after this sign in this state, with these numbers of declarations before the item. It also writes the next state. Its only error is
 /// running out of memory.
+///
+/// Most tokens are in terms. The parts of all other states are in a function of their own, since a function clears its room for all parts first.
 pub fn step(
     state: &mut State,
     alloc: Global,
@@ -85,6 +87,25 @@ pub fn step(
     ensures { IfOk result (λ m. led m state.new ≡ move_of (steps.step counts state.old sign)) }
 {
     match mem::replace(state, State::Item) {
+        State::TermName(nest) => Ok(at_term_name(state, nest, sign)),
+        State::TermOpen(nest, name) => at_term_open(state, alloc, nest, name, sign),
+        State::TermEnd(nest, term) => at_term_end(state, alloc, nest, term, sign),
+        before => step_from(state, before, alloc, counts, sign),
+    }
+}
+
+/// The same from the state `before`, whatever is in `state`.
+#[inline(never)]
+fn step_from(
+    state: &mut State,
+    before: State,
+    alloc: Global,
+    counts: Counts,
+    sign: Sign,
+) -> Result<Event, AllocError>
+    ensures { IfOk result (λ m. led m state.new ≡ move_of (steps.step counts before sign)) }
+{
+    match before {
         State::Item => Ok(at_item(state, alloc, counts, sign)),
         State::TypeName(names) => at_type_name(state, counts, names, sign),
         State::TypeEnd(names) => Ok(at_type_end(state, names, sign)),

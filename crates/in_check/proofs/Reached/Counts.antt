@@ -3,6 +3,7 @@ use Rattle.std.proofs.Common.{◌≡◌, ◌≢◌, ◌≤◌, IsSome, List, [],
 use Rattle.std.specs.List.{AllByRecursion}
 use Rattle.std.proofs.lemmas.List.{length-map}
 use Rattle.in_base.proofs.Among.{among_all, in_map, of_map}
+use Rattle.in_base.proofs.Each.{all_of}
 use Rattle.in_net.specs.Nets.{Net}
 use Rattle.in_interaction.specs.Pieces.{AreDifferent}
 use Rattle.in_base.specs.Lists.{IsAmong}
@@ -10,10 +11,6 @@ use Rattle.in_interaction.proofs.Public.{has_value, few}
 use Rattle.in_check.specs.Runs.{IsRenamed}
 use Rattle.in_check.specs.NetText.{AreAgents}
 use Rattle.in_base.proofs.Places.{is_some}
-
-pub all_of : {X : Type 0} (P : X → Type 0) (xs : List X) → ((x : X) → IsAmong x xs → P x) → AllByRecursion P xs
-all_of P [] f = tt
-all_of P (x ∷ xs) f = (f x (inl refl), all_of P xs (λ y h. f y (inr h)))
 
 different_map : {X Y : Type 0} (f : X → Y) (xs : List X) → AreDifferent (map f xs) → AreDifferent xs
 different_map f [] d = tt

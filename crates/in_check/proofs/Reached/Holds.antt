@@ -11,7 +11,7 @@ use Rattle.in_interaction.specs.Ahead.{MeetsPair, pair, pair_later, WaitsAt, fre
 use Rattle.in_net.proofs.Public.{port_agent, port_place, symbol_of}
 use Rattle.in_check.specs.NetText.{Words, TextPart, Bytes, Head, Variable, listed, bracketed, arity_of, agent_term, term_at, term, free_lines, pair_lines, text_parts, StandsTimes, agents_of, IsQueue, IsAuxiliary}
 use Rattle.in_base.proofs.Places.{is_some}
-use Rattle.in_check.proofs.Reached.Counts.{all_of}
+use Rattle.in_base.proofs.Each.{all_of}
 
 module _ {X : Type 0} (x : X) where
   nowhere_join : (xs ys : List X) → StandsTimes 0 x xs → StandsTimes 0 x ys → StandsTimes 0 x (xs ++ ys)

@@ -8,7 +8,7 @@ use Rattle.in_net.specs.Nets.{Point, Port, Free, Signature, Net, IsNet}
 use Rattle.in_interaction.specs.Pieces.{AreDifferent}
 use Rattle.in_net.proofs.Public.{symbol_of, port_agent, port_place}
 use Rattle.in_check.specs.NetText.{AreAgents, IsQueue, agents_of}
-use Rattle.in_check.proofs.Reached.Counts.{all_of}
+use Rattle.in_base.proofs.Each.{all_of}
 use Rattle.in_base.proofs.Places.{is_some}
 
 among_or_not : (x : ℕ) (xs : List ℕ) → IsAmong x xs ⊎ (IsAmong x xs → ⊥)

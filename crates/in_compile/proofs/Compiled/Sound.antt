@@ -22,7 +22,7 @@ use Rattle.in_open_nets_of_programs.specs.Opening.{AreAllThere}
 use Rattle.in_compile.specs.declared.joints.Joint.{Joint}
 use Rattle.in_compile.specs.declared.joints.Joint.TheVariants.{ToAgent, ToBoundary}
 use Rattle.in_compile.specs.Cells.{is_of, takes, count_of}
-use Rattle.in_compile.specs.Members.{AgentParts, MemberParts, joint_of, joint_at, has_class, IsMemberOf, IsSoundMember}
+use Rattle.in_compile.specs.Members.{AgentParts, AgentsFit, JointsLeadBack, MemberParts, joint_of, joint_at, has_class, IsMemberOf, IsSoundMember}
 use Rattle.in_compile.proofs.Compiled.Laid.{end_joint}
 use Rattle.in_compile.proofs.Compiled.OneTemplate.{held, one_class}
 
@@ -114,7 +114,7 @@ module _ (t : Tables) (n : Parts) (m : MemberParts) (whole : IsWhole n) (over : 
       let to : partner_in n p ≡ Some q = mapped_back (partner_in n p) j at ∙ ap (λ (z : Joint). Some (point_of z)) (sym ej) ∙ ap (λ (z : Point). Some z) (back_point q) in
       sym (ap (joint_at m) ej) ∙ of.joints q ∙ ap (option_map joint_of) (whole.back p q to) ∙ ap (λ (z : Joint). Some z) ei
 
-  back : (i j : Joint) → joint_at m i ≡ Some j → joint_at m j ≡ Some i
+  back : JointsLeadBack m
   back i j h = back_by (point_of i) (point_of j) i j (back_joint i) (back_joint j) h
 
   over_at : (k : ℕ) (c : Cell) (o : Option (Option Cell)) → slice_get n.cells k ≡ o → cell_in n k ≡ Some c → IsCellOver t (Some c)
@@ -131,7 +131,7 @@ module _ (t : Tables) (n : Parts) (m : MemberParts) (whole : IsWhole n) (over : 
       ∙ ap (λ (o : Option Cell). option_map joint_of (option_and_then (λ (z : Cell). slice_get z.ends i) o)) c.1 ∙ sym (slice_get-map joint_of c.0.ends i)) in
       ap length same ∙ length-map c.0.ends joint_of ∙ (over_at k c.0 (slice_get n.cells k) refl c.1).1 ∙ ap (λ (z : SymbolNo). arity_of t z.0 + 1) (sym c.2)
 
-  fits : (k : ℕ) (a : AgentParts) → slice_get m.agents k ≡ Some a → Holds a.class (length a.ends)
+  fits : AgentsFit m
   fits k a s = subst (Holds a.class) (sym (many k a s)) (held a.class (arity_of t a.symbol.0 + 1) (of.classes k a s))
 
   module _ (c : CellClass) where

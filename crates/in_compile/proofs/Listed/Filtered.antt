@@ -1,15 +1,10 @@
 -- What of a list passes a test, one by one and all at once.
-use Rattle.std.proofs.Common.{◌≡◌, inl, inr, ◌<◌, ◌+◌, ℕ, zero, suc, Bool, true, false, cond, List, [], ◌∷◌, ◌++◌, drop, Some, slice_get, append_assoc, drop-cons, refl, sym, ap, subst, ◌∙◌, add-one, arith}
+use Rattle.std.proofs.Common.{◌≡◌, inl, inr, ◌<◌, ◌+◌, ℕ, zero, suc, Bool, true, false, cond, List, [], ◌∷◌, ◌++◌, Some, slice_get, append_assoc, refl, sym, ap, subst, ◌∙◌, arith}
 use Rattle.std.specs.List.{filter, enumerate_from}
-use Rattle.std.proofs.lemmas.Option.{none-some, same_Some, slice_get_within, get_or_from_slice_get}
+use Rattle.std.proofs.lemmas.Option.{none-some, same_Some}
 use Rattle.in_base.specs.Lists.{IsAmong}
 
 -- ---- one by one
-
--- what is left from an element on begins with it
-pub left_from : {X : Type 0} (xs : List X) (k : ℕ) (x : X) → slice_get xs k ≡ Some x → drop k xs ≡ x ∷ drop (k + 1) xs
-left_from {X} xs k x at =
-    drop-cons xs k x (slice_get_within xs k x at) ∙ ap (λ (z : X). z ∷ drop (suc k) xs) (get_or_from_slice_get xs k x x at) ∙ ap (λ (n : ℕ). x ∷ drop n xs) (sym (add-one k))
 
 -- one is tested, and what passes is added to what passed before
 module _ {X : Type 0} (test : X → Bool) (x : X) (xs before all : List X) (so_far : before ++ filter test (x ∷ xs) ≡ all) where

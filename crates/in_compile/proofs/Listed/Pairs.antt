@@ -3,12 +3,8 @@ use Rattle.std.proofs.Common.{inl, inr, ◌<◌, ◌+◌, ℕ, Bool, true, false
 use Rattle.std.specs.List.{AllByRecursion, enumerate_from, filter}
 use Rattle.in_base.specs.Lists.{IsAmong, Pairwise}
 use Rattle.in_base.proofs.Among.{among_all, of_map}
-use Rattle.in_base.proofs.Each.{all_append}
+use Rattle.in_base.proofs.Each.{all_append, all_of}
 use Rattle.in_compile.proofs.Listed.Filtered.{among_filter, among_numbered}
-
-pub all_of : {X : Type 0} (P : X → Type 0) (xs : List X) → ((x : X) → IsAmong x xs → P x) → AllByRecursion P xs
-all_of P [] h = tt
-all_of P (x ∷ xs) h = (h x (inl refl), all_of P xs (λ y m. h y (inr m)))
 
 -- where it follows of elements
 pub pairs_of : {X : Type 0} (R Q : X → X → Type 0) (xs : List X) → ((x y : X) → IsAmong x xs → IsAmong y xs → R x y → Q x y) → Pairwise R xs → Pairwise Q xs

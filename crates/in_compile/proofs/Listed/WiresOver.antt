@@ -1,7 +1,8 @@
 -- The wires with boundary ends are listed.
-use Rattle.std.proofs.Common.{◌≡◌, ◌≤◌, ◌<◌, ℕ, true, Option, Some, None, List, map, slice_get, refl, sym, ap, subst, ◌∙◌, leb-true, le-leb, arith}
+use Rattle.std.proofs.Common.{◌≡◌, ◌≤◌, ◌<◌, ℕ, true, Some, List, slice_get, refl, sym, ap, subst, ◌∙◌, leb-true, le-leb, arith}
 use Rattle.std.specs.Prelude.{option_map}
-use Rattle.std.proofs.lemmas.Option.{none-some, same_Some, slice_get-map}
+use Rattle.std.proofs.lemmas.Option.{slice_get-map}
+use Rattle.in_base.proofs.Places.{of_mapped}
 use Rattle.in_symbols.specs.Tables.{Tables}
 use Rattle.in_net.specs.Nets.{Net, Point, Port, Free, net_of}
 use Rattle.in_net.specs.Parts.{Parts}
@@ -12,14 +13,6 @@ use Rattle.in_compile.specs.Members.{MemberParts, IsMemberOf}
 use Rattle.in_compile.specs.Wires.{is_from_lowest, over_of, over_point, point_at}
 use Rattle.in_compile.proofs.Listed.Filtered.{kept, rising, there}
 use Rattle.in_compile.proofs.Listed.Partners.{joins, leads}
-
--- what stands in a mapped list
-pub mapped_at : {X Y : Type 0} (f : X → Y) (xs : List X) (k : ℕ) (y : Y) → slice_get (map f xs) k ≡ Some y → (x : X) × (slice_get xs k ≡ Some x) × (f x ≡ y)
-mapped_at {X} {Y} f xs k y at = go (slice_get xs k) refl (sym (slice_get-map f xs k) ∙ at)
-  where
-    go : (o : Option X) → slice_get xs k ≡ o → option_map f o ≡ Some y → (x : X) × (slice_get xs k ≡ Some x) × (f x ≡ y)
-    go None is at = absurd (none-some y at)
-    go (Some x) is at = (x, is, same_Some (f x) y at)
 
 pub lowest : (e : ℕ) (j : Joint) → is_from_lowest (e, j) ≡ true → (d : ℕ) → point_at j ≡ Free d → e ≤ d
 lowest e (ToAgent k i) is d same = absurd (let f : Port k i ≡ Free d = same in cc)
@@ -46,7 +39,7 @@ module _ (t : Tables) (n : Parts) (m : MemberParts) (of : IsMemberOf t n m) wher
 
   each : (k : ℕ) (w : ℕ × Point ℕ) → slice_get (map over_point (over_of m)) k ≡ Some w → LeadsFrom net w.0 w.1
   each k w at =
-      let x = mapped_at over_point (over_of m) k w at in
+      let x = of_mapped over_point (over_of m) k w at in
       let s = over_at m k x.0 x.1 in
       let from : LeadsFrom net x.0.0 (point_at x.0.1) = record { wire = leads t n m of (ToBoundary x.0.0) x.0.1 s.0; lowest = lowest x.0.0 x.0.1 s.1 } in
       subst (λ (w : ℕ × Point ℕ). LeadsFrom net w.0 w.1) x.2 from
@@ -61,8 +54,8 @@ module _ (t : Tables) (n : Parts) (m : MemberParts) (of : IsMemberOf t n m) wher
 
   in_order : (j k : ℕ) (v w : ℕ × Point ℕ) → j < k → slice_get (map over_point (over_of m)) j ≡ Some v → slice_get (map over_point (over_of m)) k ≡ Some w → v.0 < w.0
   in_order j k v w less f g =
-      let x = mapped_at over_point (over_of m) j v f in
-      let y = mapped_at over_point (over_of m) k w g in
+      let x = of_mapped over_point (over_of m) j v f in
+      let y = of_mapped over_point (over_of m) k w g in
       let low = rising is_from_lowest 0 m.joints j k x.0 y.0 less x.1 y.1 in
       let a : x.0.0 ≡ v.0 = ap (λ (z : ℕ × Point ℕ). z.0) x.2 in
       let b : y.0.0 ≡ w.0 = ap (λ (z : ℕ × Point ℕ). z.0) y.2 in

@@ -80,21 +80,21 @@ module _ (count : CellClass → ℕ) (a a' b' a'' : ArenaView) (all : HasAllCell
 placed_was : (need : Need) (s s' : StockParts) (p : PlacedParts) → TakesCells need p.cells s s' → AreCellsOf p.bag p.cells → (n : ℕ) → IsInBag p.bag n → state_at s.bag n ≡ Vacant
 placed_was need s s' p takes cells n in_it = let at = cells.only n in_it in all_at (λ (m : CellNo). state_at s.bag m.0 ≡ Vacant) p.cells at.0 (record { 0 = n }) takes.were at.1
 
+-- a cell that isn't placed is the stock's where it was
+pub as_left : (need : Need) (s s' : StockParts) (p : PlacedParts) → TakesCells need p.cells s s' → AreCellsOf p.bag p.cells → (n : ℕ) → state_at p.bag n ≡ Leased → state_at s'.bag n ≡ state_at s.bag n
+as_left need s s' p takes cells n out = go (one_or_same s.bag p.cells Leased n)
+  where
+    go : ((k : ℕ) × (slice_get p.cells k ≡ Some (record { 0 = n }))) ⊎ (state_at (with_all s.bag p.cells Leased) n ≡ state_at s.bag n) → state_at s'.bag n ≡ state_at s.bag n
+    go (inl at) = absurd (cells.each at.0 (record { 0 = n }) at.1 (subst IsLeased (sym out) tt))
+    go (inr same) = ap (λ v. state_at v n) takes.bag ∙ same
+
 module _ (need : Need) (s s' : StockParts) (p : PlacedParts) (a a' a'' : ArenaView) (takes : TakesCells need p.cells s s') (cells : AreCellsOf p.bag p.cells) (first : Regains (λ _. Vacant) a s'.bag a') (second : Regains (λ _. Vacant) a' p.bag a'') where
-  -- a cell that isn't placed is the stock's where it was
-  left : (n : ℕ) → state_at p.bag n ≡ Leased → ((k : ℕ) × (slice_get p.cells k ≡ Some (record { 0 = n }))) ⊎ (state_at (with_all s.bag p.cells Leased) n ≡ state_at s.bag n) → state_at s'.bag n ≡ state_at s.bag n
-  left n out (inl at) = absurd (cells.each at.0 (record { 0 = n }) at.1 (subst IsLeased (sym out) tt))
-  left n out (inr same) = ap (λ v. state_at v n) takes.bag ∙ same
-
-  as_left : (n : ℕ) → state_at p.bag n ≡ Leased → state_at s'.bag n ≡ state_at s.bag n
-  as_left n out = left n out (one_or_same s.bag p.cells Leased n)
-
   back_by : (n : ℕ) → (state_at p.bag n ≡ Leased) ⊎ IsInBag p.bag n → IsInBag s.bag n → state_at a'' n ≡ Vacant
-  back_by n (inl out) in_it = second.others n out ∙ first.back n (not_leased (state_at s'.bag n) (state_at s.bag n) in_it (as_left n out))
+  back_by n (inl out) in_it = second.others n out ∙ first.back n (not_leased (state_at s'.bag n) (state_at s.bag n) in_it (as_left need s s' p takes cells n out))
   back_by n (inr placed) in_it = second.back n placed
 
   others_by : (n : ℕ) → (state_at p.bag n ≡ Leased) ⊎ IsInBag p.bag n → state_at s.bag n ≡ Leased → state_at a'' n ≡ state_at a n
-  others_by n (inl out) leased = second.others n out ∙ first.others n (as_left n out ∙ leased)
+  others_by n (inl out) leased = second.others n out ∙ first.others n (as_left need s s' p takes cells n out ∙ leased)
   others_by n (inr placed) leased = absurd (let e : Vacant ≡ Leased = sym (placed_was need s s' p takes cells n placed) ∙ leased in subst IsLeased (sym e) tt)
 
   pub both_back : Regains (λ _. Vacant) a s.bag a''

@@ -6,13 +6,14 @@ use Rattle.std.proofs.lemmas.Option.{same_Some, slice_get_within}
 use Rattle.in_base.proofs.Places.{last_at, more_at, kept_at}
 use Rattle.in_arena.specs.Arenas.{ArenaView, changed, state_at}
 use Rattle.in_arena.specs.Bags.{IsBagOf, IsInBag}
+use Rattle.in_arena.specs.Changes.{AreListedOnce}
 use Rattle.in_arena.specs.States.{State, Leased, IsLeased}
 use Rattle.in_arena.specs.declared.content.CellNo.{CellNo}
 use Rattle.in_arena.proofs.Public.{leased_or, stays}
 use Rattle.in_compile.specs.Placing.{AreCellsOf, HasNoCell}
 use Rattle.in_compile.specs.PlacingSteps.{AreOnTheWay}
 use Rattle.in_compile.specs.Stocks.{Regains}
-use Rattle.in_compile.proofs.Placements.Stocked.{in_range, not_leased, one_back, back_too, all_back}
+use Rattle.in_compile.proofs.Placements.Stocked.{in_range, not_leased, one_back, one_more_once, back_too, all_back}
 
 module _ (b : ArenaView) (ns : List CellNo) (n : CellNo) (y : State) (h : AreCellsOf b ns) (live : IsLeased y → ⊥) where
   abbrev b' : ArenaView
@@ -51,12 +52,6 @@ module _ (b : ArenaView) (ns : List CellNo) (n : CellNo) (y : State) (h : AreCel
     each_by j m (inl s) = in_by inside m.0 (cases_eq m.0 n.0) (h.each j m s)
     each_by j m (inr e) = subst (λ (z : CellNo). IsInBag b' z.0) e.1 (here inside)
 
-    once_by : (i j : ℕ) (m : CellNo) → (slice_get ns i ≡ Some m) ⊎ ((i ≡ length ns) × (n ≡ m)) → (slice_get ns j ≡ Some m) ⊎ ((j ≡ length ns) × (n ≡ m)) → i ≡ j
-    once_by i j m (inl s) (inl r) = h.once i j m s r
-    once_by i j m (inl s) (inr r) = absurd (apart i m s r.1)
-    once_by i j m (inr s) (inl r) = absurd (apart j m r s.1)
-    once_by i j m (inr s) (inr r) = s.0 ∙ sym r.0
-
     put_by : (m : ℕ) → (m ≡ n.0) ⊎ (m ≢ n.0) → IsInBag b' m → (j : ℕ) × (slice_get (ns ++ n ∷ []) j ≡ Some (record { 0 = m }))
     put_by m (inl e) in_it = (length ns, last_at ns n ∙ ap (λ (z : ℕ). Some (record { 0 = z })) (sym e))
     put_by m (inr other) in_it = let was = h.only m (was_in m other in_it) in (was.0, kept_at ns (n ∷ []) was.0 (record { 0 = m }) was.1)
@@ -64,14 +59,14 @@ module _ (b : ArenaView) (ns : List CellNo) (n : CellNo) (y : State) (h : AreCel
     pub cell_put : AreCellsOf b' (ns ++ n ∷ [])
     cell_put = record {
       each = λ j m s. each_by j m (more_at ns n m j s);
-      once = λ i j m s r. once_by i j m (more_at ns n m i s) (more_at ns n m j r);
+      once = one_more_once ns n h.once apart;
       only = λ m in_it. put_by m (cases_eq m n.0) in_it;
     }
 
 -- ---- the arena gets them back
 
 module _ (f : State → State) (P : State → Type 0) (ns : List CellNo) where
-  module _ (x : ℕ) (a b a' b' : ArenaView) (n : CellNo) (y : State) (once : (j k : ℕ) (m : CellNo) → slice_get ns j ≡ Some m → slice_get ns k ≡ Some m → j ≡ k) (at : slice_get ns x ≡ Some n) (in_it : IsInBag b' n.0) (is : y ≡ f (state_at b' n.0))
+  module _ (x : ℕ) (a b a' b' : ArenaView) (n : CellNo) (y : State) (once : AreListedOnce ns) (at : slice_get ns x ≡ Some n) (in_it : IsInBag b' n.0) (is : y ≡ f (state_at b' n.0))
       (h : AreOnTheWay f P ns x a b a' b') where
     abbrev less : ArenaView
     less = changed b' n.0 Leased

@@ -1,42 +1,37 @@
 -- A member is put into an arena agent by agent.
-use Rattle.std.proofs.Common.{◌≡◌, ◌≢◌, ◌⊎◌, inl, inr, ◌≤◌, ◌<◌, ◌+◌, ℕ, cond, Some, None, List, [], ◌∷◌, ◌++◌, length, take, get_or, count_by, slice_get, refl, sym, ap, subst, ◌∙◌, length-append, get_or-set_same, get_or-set_other, arith}
+use Rattle.std.proofs.Common.{◌≡◌, ◌≢◌, ◌⊎◌, inl, inr, ◌≤◌, ◌<◌, ◌+◌, ℕ, cond, Some, None, List, [], ◌∷◌, ◌++◌, length, take, get_or, count_by, slice_get, refl, sym, ap, subst, ◌∙◌, length-append, get_or-set_same, arith}
 use Rattle.std.proofs.lemmas.Bool.{cases_eq}
-use Rattle.std.proofs.lemmas.List.{length-set, set-get_or}
+use Rattle.std.proofs.lemmas.List.{length-set}
 use Rattle.std.proofs.lemmas.List.Sums.{sum_by_more, sum_by_more_le}
 use Rattle.std.proofs.lemmas.Option.{same_Some, slice_get_within, get_or_from_slice_get}
 use Rattle.in_base.proofs.Each.{at_index}
 use Rattle.in_base.proofs.Places.{kept_at, last_at, more_at}
 use Rattle.in_arena.specs.Arenas.{ArenaView, BeginsCell, changed, free_of, state_at}
-use Rattle.in_arena.specs.Changes.{HasAllCells, one_if_free}
+use Rattle.in_arena.specs.Changes.{AllButOneStay, AreListedOnce, HasAllCells, OneFewerIsFree}
 use Rattle.in_arena.specs.Classes.{IsNumberOf}
 use Rattle.in_arena.specs.States.{State, Vacant, Leased, Live, IsBegun, IsLeased, word_of}
 use Rattle.in_arena.specs.declared.content.CellClass.{CellClass}
 use Rattle.in_arena.specs.declared.content.CellNo.{CellNo}
-use Rattle.in_arena.proofs.Public.{counts_change, state_inside, vacant_inside}
+use Rattle.in_arena.proofs.Public.{begun_takes_one, changed_to_itself, others_stay, state_inside, vacant_inside}
 use Rattle.in_compile.specs.Cells.{count_of, IsEnough}
 use Rattle.in_compile.specs.Listing.{of_class}
 use Rattle.in_compile.specs.Members.{AgentParts, MemberParts, has_class, IsSoundMember}
 use Rattle.in_compile.specs.Placing.{content}
 use Rattle.in_compile.specs.PlacingSteps.{IsBeingWritten}
 use Rattle.in_compile.specs.Putting.{AreBegunBelow, ArePutBelow, BeginsAgent, IsPut}
-use Rattle.in_compile.proofs.Placements.Stocked.{of_itself, same_or_other}
+use Rattle.in_compile.proofs.Placements.Stocked.{of_itself, one_more_once, same_or_other}
 
 -- ---- one cell
 
 module _ (old : ArenaView) (all : HasAllCells old) (a : AgentParts) (d : CellClass) (is : a.class ≡ d) (word many : ℕ) (symbol : a.symbol.0 ≡ word) (ends : length a.ends ≡ many) (n : ℕ) (new : ArenaView) (b : BeginsCell d word many old n new) where
-  counts_are : (free_of (changed old n b.state) d + one_if_free (state_at old n) ≡ free_of old d + one_if_free b.state) × ((c : CellClass) → (c ≡ d → ⊥) → free_of (changed old n b.state) c ≡ free_of old c)
-  counts_are = counts_change old n d b.state all b.at
-
-  as_counted : (c : CellClass) → free_of new c ≡ free_of (changed old n b.state) c
-  as_counted c = ap (λ v. free_of v c) b.arena
+  fewer : OneFewerIsFree d old new
+  fewer = begun_takes_one old new d word many n all b
 
   left_by : (c : CellClass) → (c ≡ d) ⊎ ((c ≡ d → ⊥) × ((x : ℕ) → of_class d x c ≡ 0)) → free_of new c + of_class d 1 c ≡ free_of old c
   left_by c (inl same) =
-      let first = counts_are.0 in
-      let was : one_if_free (state_at old n) ≡ 1 = ap one_if_free b.was in
-      let none : one_if_free b.state ≡ 0 = ap one_if_free b.begun.2 in
-      subst (λ (z : CellClass). free_of new z + of_class d 1 z ≡ free_of old z) (sym same) (omega (arith, first, was, none, as_counted d, of_itself d 1))
-  left_by c (inr o) = let rest = counts_are.1 c o.0 in let none = o.1 1 in omega (arith, none, rest, as_counted c)
+      let first = fewer.0 in
+      subst (λ (z : CellClass). free_of new z + of_class d 1 z ≡ free_of old z) (sym same) (omega (arith, first, of_itself d 1))
+  left_by c (inr o) = let rest = fewer.1 c o.0 in let none = o.1 1 in omega (arith, none, rest)
 
   pub begins : BeginsAgent a old n new
   begins = record {
@@ -88,8 +83,8 @@ module _ (m : MemberParts) (old : ArenaView) (x : ℕ) (now : ArenaView) (ns : L
     here : state_at now' n.0 ≡ b.state
     here = ap (λ (v : ArenaView). state_at v n.0) b.arena ∙ get_or-set_same now.states n.0 b.state Leased (vacant_inside now n.0 b.was)
 
-    there : (p : ℕ) → p ≢ n.0 → state_at now' p ≡ state_at now p
-    there p ne = ap (λ (v : ArenaView). state_at v p) b.arena ∙ get_or-set_other now.states n.0 p b.state Leased ne
+    there : AllButOneStay n.0 now now'
+    there = others_stay now now' n.0 b.state b.arena
 
     -- none of those before has this cell
     other : (k : ℕ) (z : AgentParts) (p : CellNo) → slice_get m.agents k ≡ Some z → slice_get ns k ≡ Some p → p.0 ≢ n.0
@@ -127,12 +122,6 @@ module _ (m : MemberParts) (old : ArenaView) (x : ℕ) (now : ArenaView) (ns : L
         subst (λ (q : AgentParts × CellNo). IsNumberOf old.cells q.0.class q.1.0 × (state_at old q.1.0 ≡ Vacant) × IsBegun q.0.symbol.0 (length q.0.ends) (state_at now' q.1.0)) (λ i. (agent i, r.1 i))
         (subst (λ (c : ℕ). IsNumberOf c a.class n.0) h.cells b.at, was_free, subst (IsBegun a.symbol.0 (length a.ends)) (sym here) b.begun)
 
-    once_by : (j k : ℕ) (p : CellNo) → (slice_get ns j ≡ Some p) ⊎ ((j ≡ length ns) × (n ≡ p)) → (slice_get ns k ≡ Some p) ⊎ ((k ≡ length ns) × (n ≡ p)) → j ≡ k
-    once_by j k p (inl s) (inl r) = h.once j k p s r
-    once_by j k p (inl s) (inr r) = absurd (apart j p s (ap (λ (c : CellNo). c.0) (sym r.1)))
-    once_by j k p (inr s) (inl r) = absurd (apart k p r (ap (λ (c : CellNo). c.0) (sym s.1)))
-    once_by j k p (inr s) (inr r) = s.0 ∙ sym r.0
-
     left_now : (d : CellClass) → free_of now' d + count_by (has_class d) (take (x + 1) m.agents) ≡ free_of old d
     left_now d =
         let sum = sum_by_more (λ (z : AgentParts). cond (has_class d z) 1 0) m.agents x a (slice_get_within m.agents x a at) in
@@ -145,7 +134,7 @@ module _ (m : MemberParts) (old : ArenaView) (x : ℕ) (now : ArenaView) (ns : L
     one_more_begun = record {
       count = ap length more ∙ length-append ns (n ∷ []) ∙ ap (λ (z : ℕ). z + 1) h.count;
       each = λ k z p stands r. each_by k z p stands (at_new k p r);
-      once = λ j k p s r. once_by j k p (at_new j p s) (at_new k p r);
+      once = subst AreListedOnce (sym more) (one_more_once ns n h.once (λ k p r same. apart k p r (ap (λ (c : CellNo). c.0) (sym same))));
       others = λ p out. there p (λ same. out (length ns) (last ∙ ap (λ (z : ℕ). Some (record { 0 = z })) (sym same))) ∙ h.others p (λ k r. out k (old_at k (record { 0 = p }) r));
       free = left_now;
       memory = ap (λ (v : ArenaView). v.memory) b.arena ∙ h.memory;
@@ -165,13 +154,10 @@ none_written m ns k n first a stands h = record {
   agent = a;
   stands = stands;
   ends = h.0;
-  bag = sym (ap (changed first n.0) (sym h.2) ∙ unchanged first n.0);
+  bag = sym (ap (changed first n.0) (sym h.2) ∙ changed_to_itself first n.0);
   count = h.1;
   so_far = refl;
 }
-  where
-    unchanged : (v : ArenaView) (i : ℕ) → changed v i (state_at v i) ≡ v
-    unchanged v i = λ k. record { memory = v.memory; cells = v.cells; states = set-get_or v.states i Leased k }
 
 pub none_put : (m : MemberParts) (ns : List CellNo) (begun : ArenaView) → ArePutBelow m ns begun 0 begun
 none_put m ns begun = record {
@@ -193,8 +179,8 @@ module _ (m : MemberParts) (old begun : ArenaView) (ns : List CellNo) (b : AreBe
     within = state_inside now n.0 (λ e. begun_in a.symbol.0 (length a.ends) (state_at now n.0) (still_begun a n stands at) (subst IsLeased (sym e) tt))
 
     module _ (now' : ArenaView) (change : now' ≡ changed now n.0 (content ns a)) where
-      elsewhere : (p : ℕ) → p ≢ n.0 → state_at now' p ≡ state_at now p
-      elsewhere p ne = ap (λ (v : ArenaView). state_at v p) change ∙ get_or-set_other now.states n.0 p (content ns a) Leased ne
+      elsewhere : AllButOneStay n.0 now now'
+      elsewhere = others_stay now now' n.0 (content ns a) change
 
       -- another number is that of another cell
       differ : (k : ℕ) (p : CellNo) → k ≢ x → slice_get ns k ≡ Some p → p.0 ≢ n.0

@@ -11,7 +11,7 @@ use Rattle.in_arena.proofs.Public.{vacant_inside, empty_is_of}
 use Rattle.in_compile.specs.declared.cells.Need.{Need}
 use Rattle.in_compile.specs.Placing.{PlacedParts, AreCellsOf, TakesCells}
 use Rattle.in_compile.specs.Stocks.{StockParts, Adds, Regains, with_all}
-use Rattle.in_compile.proofs.Placements.Back.{one_or_same, one_of_all}
+use Rattle.in_compile.proofs.Placements.Back.{as_left, one_or_same, one_of_all}
 use Rattle.in_compile.proofs.Placements.Stocked.{count_all, cells_all, memory_all, none_in_empty}
 
 module _ (count : CellClass → ℕ) (a a1 : ArenaView) (s : StockParts) (all : HasAllCells a) (adds : Adds count a (empty_bag a) a1 s.bag) where
@@ -36,18 +36,10 @@ module _ (count : CellClass → ℕ) (a a1 : ArenaView) (s : StockParts) (all : 
       go (inr same) (inr none) = inr (ap (λ v. state_at v n) adds.arena ∙ same, ap (λ v. state_at v n) adds.bag ∙ none ∙ none_in_empty a n)
 
   module _ (need : Need) (s' : StockParts) (p : PlacedParts) (a2 a3 : ArenaView) (takes : TakesCells need p.cells s s') (cells : AreCellsOf p.bag p.cells) (first : Regains (λ _. Vacant) a1 s'.bag a2) (second : Regains (λ x. x) a2 p.bag a3) where
-    -- a cell that isn't placed is the stock's where it was
-    as_left : (n : ℕ) → state_at p.bag n ≡ Leased → state_at s'.bag n ≡ state_at s.bag n
-    as_left n out = go (one_or_same s.bag p.cells Leased n)
-      where
-        go : ((k : ℕ) × (slice_get p.cells k ≡ Some (record { 0 = n }))) ⊎ (state_at (with_all s.bag p.cells Leased) n ≡ state_at s.bag n) → state_at s'.bag n ≡ state_at s.bag n
-        go (inl at) = absurd (cells.each at.0 (record { 0 = n }) at.1 (subst IsLeased (sym out) tt))
-        go (inr same) = ap (λ v. state_at v n) takes.bag ∙ same
-
     others : (n : ℕ) → state_at p.bag n ≡ Leased → IsHeldOrSame n → state_at a2 n ≡ state_at a n
     unfolding IsHeldOrSame
-    others n out (inl held) = first.back n (λ leased. subst IsLeased (as_left n out ∙ held.1) leased) ∙ sym held.0
-    others n out (inr same) = first.others n (as_left n out ∙ same.1) ∙ same.0
+    others n out (inl held) = first.back n (λ leased. subst IsLeased (as_left need s s' p takes cells n out ∙ held.1) leased) ∙ sym held.0
+    others n out (inr same) = first.others n (as_left need s s' p takes cells n out ∙ same.1) ∙ same.0
 
     pub settled : Regains (λ x. x) a p.bag a3
     settled = record {

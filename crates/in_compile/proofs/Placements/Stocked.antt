@@ -7,7 +7,7 @@ use Rattle.in_base.proofs.Each.{all_append, all_map}
 use Rattle.in_base.proofs.Places.{kept_at, last_at, more_at}
 use Rattle.in_arena.specs.Arenas.{ArenaView, changed, free_of, state_at}
 use Rattle.in_arena.specs.Bags.{IsBagOf, IsInBag, LeasesTo, empty_bag}
-use Rattle.in_arena.specs.Changes.{HasAllCells, one_if_free}
+use Rattle.in_arena.specs.Changes.{AreListedOnce, HasAllCells, OneFewerIsFree, one_if_free}
 use Rattle.in_arena.specs.Classes.{classes, IsNumberOf}
 use Rattle.in_arena.specs.States.{State, Vacant, Leased, Live, IsLeased}
 use Rattle.in_arena.specs.declared.content.CellClass.{CellClass}
@@ -175,7 +175,26 @@ none_in_empty a n = go (cases_lt n (length classes * a.cells))
 pub empty_listed : (a : ArenaView) (l : CellClass → List CellNo) → ((c : CellClass) → l c ≡ []) → IsListing (empty_bag a) l
 empty_listed a l empty = none_listed (empty_bag a) l (empty_is_of a).1 (λ n in_it. in_it (subst IsLeased (sym (none_in_empty a n)) tt)) (empty_is_of a).2 empty
 
+-- one more cell, which the list doesn't name
+pub one_more_once : (ns : List CellNo) (n : CellNo) → AreListedOnce ns → ((j : ℕ) (m : CellNo) → slice_get ns j ≡ Some m → n ≡ m → ⊥) → AreListedOnce (ns ++ n ∷ [])
+one_more_once ns n once apart i j m s r = go (more_at ns n m i s) (more_at ns n m j r)
+  where
+    go : (slice_get ns i ≡ Some m) ⊎ ((i ≡ length ns) × (n ≡ m)) → (slice_get ns j ≡ Some m) ⊎ ((j ≡ length ns) × (n ≡ m)) → i ≡ j
+    go (inl s) (inl r) = once i j m s r
+    go (inl s) (inr r) = absurd (apart i m s r.1)
+    go (inr s) (inl r) = absurd (apart j m r s.1)
+    go (inr s) (inr r) = s.0 ∙ sym r.0
+
 module _ (b : ArenaView) (l k : CellClass → List CellNo) (c : CellClass) (n : CellNo) (others : (d : CellClass) → (d ≡ c → ⊥) → k d ≡ l d) where
+  -- no listed cell is this one
+  abbrev IsUnlisted : Type 0
+  IsUnlisted = (d : CellClass) (i : ℕ) (m : CellNo) → slice_get (l d) i ≡ Some m → m.0 ≢ n.0
+
+  -- what is in the shorter list is in the longer one
+  kept : k c ≡ l c ++ n ∷ [] → (d : CellClass) (i : ℕ) (m : CellNo) → (d ≡ c) ⊎ Other c d → slice_get (l d) i ≡ Some m → slice_get (k d) i ≡ Some m
+  kept here d i m (inl e) s = ap (λ (z : CellClass). slice_get (k z) i) e ∙ ap (λ z. slice_get z i) here ∙ kept_at (l c) (n ∷ []) i m (sym (ap (λ (z : CellClass). slice_get (l z) i) e) ∙ s)
+  kept here d i m (inr o) s = ap (λ z. slice_get z i) (others d o.0) ∙ s
+
   -- a cell is put in
   module _ (h : IsListing b l) (at : IsNumberOf b.cells c n.0) (out : state_at b n.0 ≡ Leased) (here : k c ≡ l c ++ n ∷ []) where
     abbrev new : ArenaView
@@ -185,7 +204,7 @@ module _ (b : ArenaView) (l k : CellClass → List CellNo) (c : CellClass) (n : 
     is_new = get_or-set_same b.states n.0 Vacant Leased (number_inside b n.0 c h.all at)
 
     -- a cell that was listed is another one
-    apart : (d : CellClass) (i : ℕ) (m : CellNo) → slice_get (l d) i ≡ Some m → m.0 ≢ n.0
+    apart : IsUnlisted
     apart d i m s = λ e. let f : Vacant ≡ Leased = sym (h.each d i m s).1 ∙ ap (state_at b) e ∙ out in subst IsLeased (sym f) tt
 
     stood : (d : CellClass) (i : ℕ) (m : CellNo) → (d ≡ c) ⊎ Other c d → slice_get (k d) i ≡ Some m → (slice_get (l d) i ≡ Some m) ⊎ ((d ≡ c) × (i ≡ length (l d)) × (n ≡ m))
@@ -206,15 +225,11 @@ module _ (b : ArenaView) (l k : CellClass → List CellNo) (c : CellClass) (n : 
     once_by d i j m (inr s) (inl r) = absurd (apart d j m r (ap (λ (z : CellNo). z.0) (sym s.2)))
     once_by d i j m (inr s) (inr r) = s.1 ∙ sym r.1
 
-    kept : (d : CellClass) (i : ℕ) (m : CellNo) → (d ≡ c) ⊎ Other c d → slice_get (l d) i ≡ Some m → slice_get (k d) i ≡ Some m
-    kept d i m (inl e) s = ap (λ (z : CellClass). slice_get (k z) i) e ∙ ap (λ z. slice_get z i) here ∙ kept_at (l c) (n ∷ []) i m (sym (ap (λ (z : CellClass). slice_get (l z) i) e) ∙ s)
-    kept d i m (inr o) s = ap (λ z. slice_get z i) (others d o.0) ∙ s
-
     only_by : (m : ℕ) → (m ≡ n.0) ⊎ (m ≢ n.0) → IsInBag new m → (d : CellClass) × (i : ℕ) × (slice_get (k d) i ≡ Some (record { 0 = m }))
     only_by m (inl e) in_it = (c, length (l c), ap (λ z. slice_get z (length (l c))) here ∙ last_at (l c) n ∙ ap (λ (z : ℕ). Some (record { 0 = z })) (sym e))
     only_by m (inr other) in_it =
         let was = h.only m (not_leased (state_at b m) (state_at new m) in_it (sym (get_or-set_other b.states n.0 m Vacant Leased other))) in
-        (was.0, was.1, kept was.0 was.1 (record { 0 = m }) (same_or_other c was.0) was.2)
+        (was.0, was.1, kept here was.0 was.1 (record { 0 = m }) (same_or_other c was.0) was.2)
 
     counts : (free_of new c + one_if_free (state_at b n.0) ≡ free_of b c + 1) × ((d : CellClass) → (d ≡ c → ⊥) → free_of new d ≡ free_of b d)
     counts = counts_change b n.0 c Vacant h.all at
@@ -254,13 +269,9 @@ module _ (b : ArenaView) (l k : CellClass → List CellNo) (c : CellClass) (n : 
     is_out : state_at less n.0 ≡ Leased
     is_out = stays b.states n.0 Leased
 
-    still : (d : CellClass) (i : ℕ) (m : CellNo) → (d ≡ c) ⊎ Other c d → slice_get (l d) i ≡ Some m → slice_get (k d) i ≡ Some m
-    still d i m (inl e) s = ap (λ (z : CellClass). slice_get (k z) i) e ∙ ap (λ z. slice_get z i) here ∙ kept_at (l c) (n ∷ []) i m (sym (ap (λ (z : CellClass). slice_get (l z) i) e) ∙ s)
-    still d i m (inr o) s = ap (λ z. slice_get z i) (others d o.0) ∙ s
-
-    differs : (d : CellClass) (i : ℕ) (m : CellNo) → slice_get (l d) i ≡ Some m → m.0 ≢ n.0
+    differs : IsUnlisted
     differs d i m s = λ e.
-        let stood = still d i m (same_or_other c d) s in
+        let stood = kept here d i m (same_or_other c d) s in
         let number = (h.each d i m stood).0 in
         let class : d ≡ c = numbers_apart b.cells n.0 d c (subst (IsNumberOf b.cells d) e number) taken_at.0 in
         let at : slice_get (k c) i ≡ Some n = sym (ap (λ (z : CellClass). slice_get (k z) i) class) ∙ stood ∙ ap (λ (z : ℕ). Some (record { 0 = z })) e in
@@ -283,7 +294,7 @@ module _ (b : ArenaView) (l k : CellClass → List CellNo) (c : CellClass) (n : 
         let was = h.only m (not_leased (state_at b m) (state_at less m) in_it (sym (get_or-set_other b.states n.0 m Leased Leased other))) in
         (was.0, was.1, left was.0 was.1 m (same_or_other c was.0) other was.2)
 
-    pub fewer : (free_of less c + 1 ≡ free_of b c) × ((d : CellClass) → (d ≡ c → ⊥) → free_of less d ≡ free_of b d)
+    pub fewer : OneFewerIsFree c b less
     fewer =
         let all = counts_change b n.0 c Leased h.all taken_at.0 in
         let now = all.0 in

@@ -7,7 +7,7 @@ use Rattle.in_symbols.specs.Tables.{Tables}
 use Rattle.in_symbols.specs.declared.symbols.SymbolNo.{SymbolNo}
 use Rattle.in_net.specs.ActivePairs.{AreActive, IsActivePair}
 use Rattle.in_interaction.specs.Interacting.{unused, CanInteract, Interacts, InteractsAs}
-use Rattle.in_net.specs.Interactions.{Redex, Side, Outer, Inner, Alternates, stands_for, InnerWire, wire_of, IsOfPair, IsNaming, IsRedex, AreJoined, IsStep, end_agent, end_place, redex_at}
+use Rattle.in_net.specs.Interactions.{Redex, Side, Outer, Inner, PairPath, stands_for, InnerWire, IsOfPair, IsNaming, IsRedex, AreJoined, IsStep, end_agent, end_place, redex_at}
 use Rattle.in_interaction.specs.Made.{PassesEnd, HasSymbolAfter, IsMade, AreMadeOverEnds, IsOwn}
 use Rattle.in_net.specs.Nets.{Point, Port, Free, Signature, IsNet, net_of, signature_of, coded_point}
 use Rattle.in_interaction.specs.OutcomeLaws.{IsOtherPair}
@@ -64,9 +64,6 @@ module _ (t : Tables) (n : Parts) (r : RuleParts) (a b : AgentNo) (name : ℕ �
 
   abbrev Joined : Point ℕ → Point ℕ → Type 0
   Joined = AreJoined sig (net_of n) pair name
-
-  abbrev Way : Side → Point ℕ → List (Point ℕ) → Point ℕ → Type 0
-  Way = Alternates (wire_of sig (net_of n) pair name) (IsOfPair pair)
 
   abbrev Stays : Point ℕ → Type 0
   Stays u = IsOfPair pair u → ⊥
@@ -182,11 +179,11 @@ module _ (t : Tables) (n : Parts) (r : RuleParts) (a b : AgentNo) (name : ℕ �
               order = g.order;
             }))
 
-        single : (s : Side) → Way s (Port q.0.0 0) [] (Port q.1.0 0) → IsThere q
+        single : (s : Side) → PairPath sig (net_of n) pair name s (Port q.0.0 0) [] (Port q.1.0 0) → IsThere q
         single Outer w = kept (map_is (partner_in n (code.Port q.0 0)) (Port q.1.0 0) w)
         single Inner w = own w
 
-        through_end : (s : Side) (es : List (Point ℕ)) → Way s (Port q.0.0 0) es (Port q.1.0 0) → (e : ℕ) → IsAmong (pt e) es → ((d : ℕ) → IsAmong (pt d) es → e ≤ d) → IsThere q
+        through_end : (s : Side) (es : List (Point ℕ)) → PairPath sig (net_of n) pair name s (Port q.0.0 0) es (Port q.1.0 0) → (e : ℕ) → IsAmong (pt e) es → ((d : ℕ) → IsAmong (pt d) es → e ≤ d) → IsThere q
         through_end s es w e i low = inr (inl (are.all e q (record { first = g.first; second = g.second; one = one; two = two; path = record { passed = (s, es, w, i); lowest = lowest }; order = g.order })))
           where
             lowest : (d : ℕ) → PassesEnd sig (net_of n) pair name d (Port q.0.0 0) (Port q.1.0 0) → e ≤ d
@@ -194,11 +191,11 @@ module _ (t : Tables) (n : Parts) (r : RuleParts) (a b : AgentNo) (name : ℕ �
                 let same = through.one_way sig (net_of n) pair name net inside redex naming p.0 s (Port q.0.0 0) (Port q.1.0 0) (Port q.1.0 0) p.1 es j.0 j.1 j.1 p.2 w in
                 low d (subst (IsAmong (pt d)) same.0 p.3)
 
-        go : (s : Side) (es : List (Point ℕ)) → Way s (Port q.0.0 0) es (Port q.1.0 0) → IsThere q
+        go : (s : Side) (es : List (Point ℕ)) → PairPath sig (net_of n) pair name s (Port q.0.0 0) es (Port q.1.0 0) → IsThere q
         go s es w =
             let ends = through.through_ends sig (net_of n) pair name net inside redex naming s (Port q.0.0 0) es (Port q.1.0 0) w in
             elim (through.lowest sig (net_of n) pair name net inside redex naming es ends) [
-              | inl alone ↦ single s (subst (λ zs. Way s (Port q.0.0 0) zs (Port q.1.0 0)) alone w)
+              | inl alone ↦ single s (subst (λ zs. PairPath sig (net_of n) pair name s (Port q.0.0 0) zs (Port q.1.0 0)) alone w)
               | inr e ↦ through_end s es w e.0 e.1 e.2
             ]
 
@@ -247,7 +244,7 @@ module _ (t : Tables) (n : Parts) (r : RuleParts) (a b : AgentNo) (name : ℕ �
             }
 
   -- two agents that one wire joins, of the net before or of the right member, are no pair that is made
-  pub not_made : (s : Side) (q : AgentNo × AgentNo) → Way s (Port q.0.0 0) [] (Port q.1.0 0) → (e : ℕ) → IsMade t n r a b name e q → ⊥
+  pub not_made : (s : Side) (q : AgentNo × AgentNo) → PairPath sig (net_of n) pair name s (Port q.0.0 0) [] (Port q.1.0 0) → (e : ℕ) → IsMade t n r a b name e q → ⊥
   not_made s q w e g =
       let p = g.path.passed in
       let hx = stays_after q.0 g.first g.one in

@@ -8,7 +8,7 @@ use Rattle.in_net.specs.declared.nets.Point as coded
 use Rattle.in_net.specs.declared.nets.Point.TheVariants as code
 use Rattle.in_net.specs.Nets.{Point, Port, Free, Signature, IsPoint, net_of, signature_of, coded_point}
 use Rattle.in_net.specs.Parts.{Parts, partner_in}
-use Rattle.in_net.specs.Interactions.{Redex, redex_at, Side, Outer, Inner, Alternates, stands_for, InnerWire, wire_of, IsOfPair, AreJoined, end_agent, end_place}
+use Rattle.in_net.specs.Interactions.{Redex, redex_at, Outer, Inner, PairPath, stands_for, InnerWire, wire_of, IsOfPair, AreJoined, end_agent, end_place}
 use Rattle.in_interaction.specs.Following.{SiteParts, end_of, end_by, port_of, most_turns, OnInner, OnEnd, Lands}
 use Rattle.in_interaction.specs.Interacting.{unused}
 use Rattle.in_syntax.specs.Grammar.{max_ports}
@@ -52,9 +52,6 @@ module _ (here : Site) where
 
   abbrev Stays : Point ℕ → Type 0
   Stays u = IsOfPair at u → ⊥
-
-  abbrev Way : Side → Point ℕ → List (Point ℕ) → Point ℕ → Type 0
-  Way = Alternates (wire_of sig (net_of n) at name) (IsOfPair at)
 
   abbrev Joined : Point ℕ → Point ℕ → Type 0
   Joined = AreJoined sig (net_of n) at name
@@ -140,7 +137,7 @@ module _ (here : Site) where
           | inr r ↦ r
         ]
 
-    lands : (k e : ℕ) (es : List (Point ℕ)) (v : Point ℕ) → e < both → length es ≤ 2 * k → Way Inner (pt e) es v → Stays v → To (suc k) (coded_point (pt e)) (coded_point v)
+    lands : (k e : ℕ) (es : List (Point ℕ)) (v : Point ℕ) → e < both → length es ≤ 2 * k → PairPath sig (net_of n) at name Inner (pt e) es v → Stays v → To (suc k) (coded_point (pt e)) (coded_point v)
     lands k e [] v l most w h = let q = inner_at e v l w in to_agent k e v q.0 q.1 q.2 h
     lands zero e (f ∷ es) v l most w h = absurd (omega arith)
     lands (suc k) e (f ∷ []) v l most w h =
@@ -151,7 +148,7 @@ module _ (here : Site) where
         let m = next_end e f g q.0 q.1 q.2 w.1 w.2.0 w.2.1 in
         to_end (suc k) e (coded_point v) f g q.0 q.1 q.2 w.1 w.2.0
         (subst (λ (z : Point ℕ). To (suc k) (coded_point z) (coded_point v)) (sym m.2)
-        (lands k m.0 es v m.1 (omega arith) (subst (λ (z : Point ℕ). Way Inner z es v) m.2 w.2.2) h))
+        (lands k m.0 es v m.1 (omega arith) (subst (λ (z : Point ℕ). PairPath sig (net_of n) at name Inner z es v) m.2 w.2.2) h))
 
     -- a point that stays is joined to where the path lands that its wire begins
     pub outer_lands : (u f : Point ℕ) → Stays u → (net_of n).partner u ≡ Some f → (v : Point ℕ) × Joined u v × To most_turns (coded_point f) (coded_point v)
@@ -198,7 +195,7 @@ module _ (here : Site) where
         wire : wire_of sig (net_of n) at name Inner (Port (name k) i) (pt e)
         wire = (Port k i, Free e, refl, refl, w)
 
-        go : (es : List (Point ℕ)) (v : Point ℕ) → Stays v → Way Outer (pt e) es v → length es ≤ 2 * both → (v : Point ℕ) × Joined (Port (name k) i) v × InnerLands (Free e) v
+        go : (es : List (Point ℕ)) (v : Point ℕ) → Stays v → PairPath sig (net_of n) at name Outer (pt e) es v → length es ≤ 2 * both → (v : Point ℕ) × Joined (Port (name k) i) v × InnerLands (Free e) v
         go [] v h a l = (v, (stays, h, (Inner, pt e ∷ [], (wire, known here end_of_pair e, a))), (v, a, landed (2 * max_ports) v h))
         go (f ∷ es) v h a l =
             let few = few_places here in
@@ -211,7 +208,7 @@ module _ (here : Site) where
                   f,
                   a.0,
                   subst (λ (z : Point ℕ). To most_turns (coded_point z) (coded_point v)) (sym m.2)
-                      (lands (2 * max_ports) m.0 es v m.1 (omega arith) (subst (λ (z : Point ℕ). Way Inner z es v) m.2 a.2) h),
+                      (lands (2 * max_ports) m.0 es v m.1 (omega arith) (subst (λ (z : Point ℕ). PairPath sig (net_of n) at name Inner z es v) m.2 a.2) h),
                 ),
               )
             ]

@@ -1,55 +1,37 @@
 -- The pairs that an interaction makes: one for each lowest boundary end, found by the two halves of its path.
-use Rattle.std.proofs.Common.{◌≡◌, ◌≢◌, ◌⊎◌, inl, inr, ◌+◌, ◌*◌, ◌<◌, ◌≤◌, ℕ, Option, Some, None, List, [], ◌∷◌, ◌++◌, length, slice_get, refl, sym, ap, subst, ◌∙◌, arith}
+use Rattle.std.proofs.Common.{◌≡◌, ◌≢◌, ◌⊎◌, inl, inr, ◌+◌, ◌*◌, ◌<◌, ◌≤◌, ℕ, Option, Some, List, [], ◌∷◌, ◌++◌, length, slice_get, refl, sym, ap, subst, ◌∙◌, arith}
 use Rattle.std.specs.Prelude.{option_map, IsSomeAnd}
 use native.Mathlib.Decide.{ℕ_discrete}
 use Rattle.std.proofs.lemmas.List.{length-map}
-use Rattle.std.proofs.lemmas.Option.{none-some, slice_get_within}
+use Rattle.std.proofs.lemmas.Option.{slice_get_within}
 use Rattle.in_base.specs.Lists.{IsAmong}
 use Rattle.in_symbols.specs.Tables.{Tables, arity_of, IsSymbol}
 use Rattle.in_symbols.specs.declared.symbols.SymbolNo.{SymbolNo}
 use Rattle.in_net.specs.ActivePairs.{StandsFirst}
 use Rattle.in_interaction.specs.Following.{SiteParts}
 use Rattle.in_interaction.specs.Interacting.{unused, CanInteract}
-use Rattle.in_net.specs.Interactions.{Redex, IsRedex, IsNaming, Side, Outer, Inner, other, Alternates, wire_of, IsOfPair, AreJoined, end_agent, end_place, redex_at}
+use Rattle.in_net.specs.Interactions.{Redex, IsRedex, IsNaming, Side, Outer, Inner, other, PairPath, wire_of, IsOfPair, AreJoined, end_agent, end_place, redex_at}
 use Rattle.in_interaction.specs.Made.{PassesEnd, HasSymbolAfter, IsMade, AreMadeOverEnds}
 use Rattle.in_interaction.specs.Making.{Over, AreMadeBelow, most_wires}
 use Rattle.in_net.specs.Nets.{Point, Port, IsPoint, IsNet, net_of, signature_of}
-use Rattle.in_net.specs.Parts.{Parts, IsWhole, symbol_in}
+use Rattle.in_net.specs.Parts.{Parts, IsWhole}
 use Rattle.in_net.specs.Rules.{RuleParts}
 use Rattle.in_net.specs.declared.nets.AgentNo.{AgentNo}
-use Rattle.in_net.specs.declared.nets.Cell.{Cell}
 use Rattle.in_net.specs.declared.nets.FreeEnd.{FreeEnd}
-use Rattle.in_net.proofs.Public.{end_of_pair, not_pair, below_or, no_both, symbol_known}
+use Rattle.in_net.proofs.Public.{end_of_pair, not_pair, below_or, symbol_known}
 use Rattle.in_interaction.proofs.Interactions.Alternating.{one_wire}
 use Rattle.in_interaction.proofs.Interactions.StaysNet as stays_net
 use Rattle.in_interaction.proofs.Interactions.StepExists.{step_exists}
 use Rattle.in_interaction.proofs.Interactions.Through as through
 use Rattle.in_base.proofs.Places.{last_at, kept_at, more_at}
 use Rattle.in_interaction.proofs.Stepping.Sites.{Site, net, inside, redex, naming, few_places, known}
-use Rattle.in_base.proofs.Places.{some_same}
-use Rattle.in_interaction.proofs.Stepping.Unused.{unused_free, unused_apart}
 
 pub agent_same : (x y : AgentNo) → x.0 ≡ y.0 → x ≡ y
 agent_same x y e = ap (λ (z : ℕ). let w : AgentNo = record { 0 = z } in w) e
 
-port_same : (x y : ℕ) (i j : ℕ) → ◌≡◌ {A = Point ℕ} (Port x i) (Port y j) → x ≡ y
-port_same x y i j e = cc
-
 -- a pair has one lowest boundary end
 pub end_once : (t : Tables) (n : Parts) (r : RuleParts) (a b : AgentNo) (name : ℕ → ℕ) (d e : ℕ) (q : AgentNo × AgentNo) → IsMade t n r a b name d q → IsMade t n r a b name e q → d ≡ e
 end_once t n r a b name d e q h g = let x = h.path.lowest e g.path.passed in let y = g.path.lowest d h.path.passed in omega (arith, x, y)
-
--- a new number has no symbol before
-pub fresh_symbol : (n : Parts) (k : ℕ) → symbol_in n (unused n.cells k) ≡ None
-fresh_symbol n k = ap (option_map (λ (c : Cell). c.symbol)) (unused_free n.cells k)
-
-pub symbol_once : (n : Parts) (r : RuleParts) (a b y : AgentNo) (s z : SymbolNo) → HasSymbolAfter n r a b (unused n.cells) y s → HasSymbolAfter n r a b (unused n.cells) y z → s ≡ z
-symbol_once n r a b y s z (inl h) (inl k) = some_same (symbol_in n y.0) s z h.2 k.2
-symbol_once n r a b y s z (inl h) (inr k) = absurd (none-some s (sym (ap (symbol_in n) (sym k.1) ∙ fresh_symbol n k.0) ∙ h.2))
-symbol_once n r a b y s z (inr h) (inl k) = absurd (none-some z (sym (ap (symbol_in n) (sym h.1) ∙ fresh_symbol n h.0) ∙ k.2))
-symbol_once n r a b y s z (inr h) (inr k) =
-    let same : h.0 ≡ k.0 = unused_apart n.cells h.0 k.0 (h.1 ∙ sym k.1) in
-    some_same (symbol_in r.member h.0) s z h.2 (ap (symbol_in r.member) same ∙ k.2)
 
 pub symbol_after_known : (t : Tables) (n : Parts) (r : RuleParts) (a b y : AgentNo) (s : SymbolNo) → CanInteract t n r a b → HasSymbolAfter n r a b (unused n.cells) y s → IsSymbol t s.0
 symbol_after_known t n r a b y s can (inl h) = symbol_known t n y.0 s can.net h.2
@@ -82,12 +64,6 @@ module _ (here : Site) where
   abbrev Makes : ℕ → AgentNo × AgentNo → Type 0
   Makes = IsMade t n r a b name
 
-  abbrev Wire : Side → Point ℕ → Point ℕ → Type 0
-  Wire = wire_of (signature_of t) (net_of n) pair name
-
-  abbrev pub Way : Side → Point ℕ → List (Point ℕ) → Point ℕ → Type 0
-  Way = Alternates Wire (IsOfPair pair)
-
   abbrev pub Stays : Point ℕ → Type 0
   Stays u = IsOfPair pair u → ⊥
 
@@ -99,7 +75,7 @@ module _ (here : Site) where
     pub symbol : SymbolNo
     pub has : HasSymbol z symbol
     pub ends : List (Point ℕ)
-    pub way : Way side (pt e) ends (Port z.0 0)
+    pub way : PairPath (signature_of t) (net_of n) pair name side (pt e) ends (Port z.0 0)
     pub few : length ends < most_wires
     pub low : (d : ℕ) → IsAmong (pt d) ends → e ≤ d
 
@@ -117,7 +93,7 @@ module _ (here : Site) where
       es : List (Point ℕ)
       es = h.path.passed.1
 
-      c : through.Cut Wire (IsOfPair pair) (Port q.0.0 0) (Port q.1.0 0) (pt e) es
+      c : through.Cut (wire_of (signature_of t) (net_of n) pair name) (IsOfPair pair) (Port q.0.0 0) (Port q.1.0 0) (pt e) es
       c = known here through.cut_at h.path.passed.0 (Port q.0.0 0) es (Port q.1.0 0) h.path.passed.2 (pt e) h.path.passed.3
 
       most : length es ≤ 2 * (arity_of t r.heads.0.0 + arity_of t r.heads.1.0) + 1
@@ -127,7 +103,7 @@ module _ (here : Site) where
       low : (fs : List (Point ℕ)) → ((p : Point ℕ) → IsAmong p fs → IsAmong p es) → (d : ℕ) → IsAmong (pt d) fs → e ≤ d
       low fs into d i = h.path.lowest d (h.path.passed.0, es, h.path.passed.2, into (pt d) i)
 
-      by : (s : Side) (front rear : List (Point ℕ)) → Way s (pt e) front (Port q.1.0 0) → Way (other s) (pt e) rear (Port q.0.0 0) → ((p : Point ℕ) → IsAmong p front → IsAmong p es) → ((p : Point ℕ) → IsAmong p rear → IsAmong p es) →
+      by : (s : Side) (front rear : List (Point ℕ)) → PairPath (signature_of t) (net_of n) pair name s (pt e) front (Port q.1.0 0) → PairPath (signature_of t) (net_of n) pair name (other s) (pt e) rear (Port q.0.0 0) → ((p : Point ℕ) → IsAmong p front → IsAmong p es) → ((p : Point ℕ) → IsAmong p rear → IsAmong p es) →
           length front + length rear < length es → Halves e q
       by Outer front rear x y f g less = let k = few_places here in let m = most in record {
         one = q.1;
@@ -145,47 +121,11 @@ module _ (here : Site) where
       }
 
   -- from a boundary end by one side one path goes to a point that stays
-  pub one_from : (s : Side) (e : ℕ) (u v : Point ℕ) (es fs : List (Point ℕ)) → Stays u → Stays v → Way s (pt e) es u → Way s (pt e) fs v → (es ≡ fs) × (u ≡ v)
-  one_from s e u v es fs hu hv x y = through.same_path Wire (IsOfPair pair) (known here one_wire) s (pt e) es fs u v hu hv x y
-
-  half_once : (s : Side) (e : ℕ) (z w : AgentNo) → Half s e z → Half s e w → z ≡ w
-  half_once s e z w h g = agent_same z w (port_same z.0 w.0 0 0 (one_from s e (Port z.0 0) (Port w.0 0) h.ends g.ends (stays_after z h.symbol h.has) (stays_after w g.symbol g.has) h.way g.way).1)
-
-  -- not both ways round
-  not_turned : (x y : AgentNo) (d e : ℕ) → Makes d (x, y) → Makes e (y, x) → ⊥
-  not_turned x y d e h g =
-      let one = symbol_once n r a b x h.first g.second h.one g.two in
-      let two = symbol_once n r a b y h.second g.first h.two g.one in
-      no_both t x y h.first h.second h.order (subst (λ (s : SymbolNo). StandsFirst t h.second s y x) (sym one) (subst (λ (s : SymbolNo). StandsFirst t s g.second y x) (sym two) g.order))
-
-  -- a boundary end is the lowest of one pair
-  pub pair_once : (e : ℕ) (p q : AgentNo × AgentNo) → Makes e p → Makes e q → p ≡ q
-  pair_once e p q h g = go x.are y.are
-    where
-      x : Halves e p
-      x = halves e p h
-
-      y : Halves e q
-      y = halves e q g
-
-      one : x.one ≡ y.one
-      one = half_once Outer e x.one y.one x.outer y.outer
-
-      two : x.two ≡ y.two
-      two = half_once Inner e x.two y.two x.inner y.inner
-
-      go : (p ≡ (x.one, x.two)) ⊎ (p ≡ (x.two, x.one)) → (q ≡ (y.one, y.two)) ⊎ (q ≡ (y.two, y.one)) → p ≡ q
-      go (inl u) (inl v) = u ∙ ap (λ (z : AgentNo). let w : AgentNo × AgentNo = (z, x.two) in w) one ∙ ap (λ (z : AgentNo). let w : AgentNo × AgentNo = (y.one, z) in w) two ∙ sym v
-      go (inr u) (inr v) = u ∙ ap (λ (z : AgentNo). let w : AgentNo × AgentNo = (z, x.one) in w) two ∙ ap (λ (z : AgentNo). let w : AgentNo × AgentNo = (y.two, z) in w) one ∙ sym v
-      go (inl u) (inr v) =
-          let turned : q ≡ (x.two, x.one) = v ∙ ap (λ (z : AgentNo). let w : AgentNo × AgentNo = (z, y.one) in w) (sym two) ∙ ap (λ (z : AgentNo). let w : AgentNo × AgentNo = (x.two, z) in w) (sym one) in
-          absurd (not_turned x.one x.two e e (subst (Makes e) u h) (subst (Makes e) turned g))
-      go (inr u) (inl v) =
-          let turned : q ≡ (x.one, x.two) = v ∙ ap (λ (z : AgentNo). let w : AgentNo × AgentNo = (z, y.two) in w) (sym one) ∙ ap (λ (z : AgentNo). let w : AgentNo × AgentNo = (x.one, z) in w) (sym two) in
-          absurd (not_turned x.one x.two e e (subst (Makes e) turned g) (subst (Makes e) u h))
+  pub one_from : (s : Side) (e : ℕ) (u v : Point ℕ) (es fs : List (Point ℕ)) → Stays u → Stays v → PairPath (signature_of t) (net_of n) pair name s (pt e) es u → PairPath (signature_of t) (net_of n) pair name s (pt e) fs v → (es ≡ fs) × (u ≡ v)
+  one_from s e u v es fs hu hv x y = through.same_path (wire_of (signature_of t) (net_of n) pair name) (IsOfPair pair) (known here one_wire) s (pt e) es fs u v hu hv x y
 
   -- two halves without a lower end make a pair, in its order
-  pub is_made : (s : Side) (e : ℕ) (x y : AgentNo) (c d : SymbolNo) (es fs : List (Point ℕ)) → Way s (pt e) es (Port x.0 0) → ((l : ℕ) → IsAmong (pt l) es → e ≤ l) → Way (other s) (pt e) fs (Port y.0 0) → ((l : ℕ) → IsAmong (pt l) fs → e ≤ l) →
+  pub is_made : (s : Side) (e : ℕ) (x y : AgentNo) (c d : SymbolNo) (es fs : List (Point ℕ)) → PairPath (signature_of t) (net_of n) pair name s (pt e) es (Port x.0 0) → ((l : ℕ) → IsAmong (pt l) es → e ≤ l) → PairPath (signature_of t) (net_of n) pair name (other s) (pt e) fs (Port y.0 0) → ((l : ℕ) → IsAmong (pt l) fs → e ≤ l) →
       HasSymbol x c → HasSymbol y d → StandsFirst t c d x y → Makes e (x, y)
   is_made s e x y c d es fs h low_h g low_g one two order = record {
     first = c;
@@ -196,7 +136,7 @@ module _ (here : Site) where
     order = order;
   }
     where
-      j : through.Joins Wire (IsOfPair pair) (pt e) es fs (Port x.0 0) (Port y.0 0)
+      j : through.Joins (wire_of (signature_of t) (net_of n) pair name) (IsOfPair pair) (pt e) es fs (Port x.0 0) (Port y.0 0)
       j = known here through.join_at s (pt e) es (Port x.0 0) (known here end_of_pair e) h fs (Port y.0 0) g
 
       lowest : (l : ℕ) → PassesEnd (signature_of t) (net_of n) pair name l (Port x.0 0) (Port y.0 0) → e ≤ l

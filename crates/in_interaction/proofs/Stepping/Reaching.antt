@@ -9,7 +9,7 @@ use Rattle.in_symbols.specs.declared.symbols.SymbolNo.{SymbolNo}
 use Rattle.in_net.specs.ActivePairs.{IsOrdered}
 use Rattle.in_interaction.specs.Following.{SiteParts, IsSite, end_of, port_of}
 use Rattle.in_interaction.specs.Interacting.{unused}
-use Rattle.in_net.specs.Interactions.{Side, Outer, Inner, other, IsOfPair}
+use Rattle.in_net.specs.Interactions.{Side, Outer, Inner, other, PairPath, IsOfPair}
 use Rattle.in_interaction.specs.Made.{HasSymbolAfter, IsMade}
 use Rattle.in_interaction.specs.Making.{IsSymbolAfter, IsPairAtEnd, SiteWire, Leaves, Over, LeadsTo, LandsAt, LandsNowhere, NoneLower, IsOnWay, end_point, redex_of, most_wires, principal_of}
 use Rattle.in_net.specs.Nets.{Point, Port, Free, IsPoint, net_of, signature_of, point_of, coded_point}
@@ -25,8 +25,9 @@ use Rattle.in_interaction.proofs.Interactions.PathEnds.{outer_next, outer_at, no
 use Rattle.in_interaction.proofs.Interactions.Through as through
 use Rattle.in_interaction.proofs.Stepping.Landing as landing
 use Rattle.in_interaction.proofs.Stepping.Making as making
+use Rattle.in_interaction.proofs.Stepping.OnePair.{pair_once}
 use Rattle.in_interaction.proofs.Stepping.Partners.{net_wire, named}
-use Rattle.in_interaction.proofs.Stepping.Sites.{Site, at_site, inside, redex, known, first_is}
+use Rattle.in_interaction.proofs.Stepping.Sites.{Site, at_site, net, inside, redex, naming, known, first_is}
 use Rattle.in_base.proofs.Places.{some_same}
 use Rattle.in_interaction.proofs.Stepping.Unused.{unused_apart}
 
@@ -119,7 +120,7 @@ module _ (s : SiteParts) (site : IsSite s) where
     goes_on side e f [] v w h = absurd (h.1 (subst (IsOfPair (redex_of s)) (one_wire_at side (end_point t s e) (end_point t s f) v w h.0) (is_pair_end f)))
     goes_on side e f (g ∷ fs) v w h =
         let same : g ≡ end_point t s f = one_wire_at side (end_point t s e) g (end_point t s f) h.0.0 w in
-        (fs, ap (λ (z : Point ℕ). z ∷ fs) same, subst (λ (z : Point ℕ). Leaves t s (other side) f fs v) same (subst (λ (z : Point ℕ). making.Way here (other side) z fs v) same h.0.2, h.1))
+        (fs, ap (λ (z : Point ℕ). z ∷ fs) same, subst (λ (z : Point ℕ). Leaves t s (other side) f fs v) same (subst (λ (z : Point ℕ). PairPath (signature_of t) (net_of s.net) (redex_of s) (unused s.net.cells) (other side) z fs v) same h.0.2, h.1))
 
     end_same : (d e : ℕ) → end_point t s d ≡ end_point t s e → d ≡ e
     end_same = known here through.pt_same
@@ -236,7 +237,7 @@ module _ (s : SiteParts) (site : IsSite s) where
 
     pub pair_there : (e : ℕ) (x y : AgentNo) (c d : SymbolNo) (q : AgentNo × AgentNo) → LandsAt s Outer e (code.Port x 0) → LandsAt s Inner e (code.Port y 0) → HasSymbol x c → HasSymbol y d →
         IsOrdered t (x, c) (y, d) q → Made e q × ((p : AgentNo × AgentNo) → Made e p → p ≡ q)
-    pair_there e x y c d q outer inner one two order = (made order, (λ p h. making.pair_once (here t can) e p q h (made order)))
+    pair_there e x y c d q outer inner one two order = (made order, (λ p h. pair_once t s.net s.rule s.one s.two (unused s.net.cells) (net (here t can)) (inside (here t can)) (redex (here t can)) (naming (here t can)) e p q h (made order)))
       where
         made : IsOrdered t (x, c) (y, d) q → Made e q
         made (inl h) =

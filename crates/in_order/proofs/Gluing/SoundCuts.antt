@@ -7,14 +7,13 @@ use Rattle.in_base.specs.Graphs.{Passage, entered, left, LeadsThrough, IsCrossin
 use Rattle.in_symbols.specs.declared.symbols.PortType.{PortType}
 use Rattle.in_net.specs.Graphs.{class_of_symbol, graph_of}
 use Rattle.in_net.specs.Nets.{Point, Port, Free, Net, IsPoint, IsNet}
-use Rattle.in_interaction.proofs.Public.{has_value, same_option}
+use Rattle.in_interaction.proofs.Public.{has_value, same_option, same_point}
 use Rattle.in_typing.specs.Typed.{opposite}
 use Rattle.in_typing.specs.TypedNets.{type_in, IsTypedNet}
 use Rattle.in_typing.proofs.Public.{opposite_twice}
 use Rattle.in_check.specs.Systems.{System, IsSound}
 use Rattle.in_gluing.specs.Joining.{CutsWire}
 use Rattle.in_order.specs.GluingLaws.{CutsKeepSound}
-use Rattle.in_gluing.proofs.Public.{same_point}
 
 length_two : {T : Type 0} (xs : List T) (s t : T) → length (xs ++ (s ∷ t ∷ [])) ≡ length xs + 2
 length_two [] s t = refl

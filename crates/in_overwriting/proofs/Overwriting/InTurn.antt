@@ -4,18 +4,18 @@ use Rattle.in_base.specs.Lists.{IsAmong}
 use Rattle.in_net.specs.Nets.{Point, Port, Free, Signature, Net, IsNet}
 use Rattle.in_base.proofs.Among.{among_left, among_right, among_either, among_at, in_map, of_map}
 use Rattle.in_net.specs.Interactions.{Redex}
-use Rattle.in_gluing.proofs.Public.{same_point}
-use Rattle.in_overwriting.specs.Overwriting.{CanOverwrite, IsSideAt, AreSides, IsSide, AreOverwritten}
+use Rattle.in_overwriting.specs.Overwriting.{CanOverwrite, IsSideAt, AreSidesOf, IsSide, AreOverwritten}
 use Rattle.in_overwriting.specs.InTurn.{AreAllWiresOf, AreStored, StoresInTurn, no_wire, wire_first, IsAsBefore, StoredAreOverwritten, AreWiresWithin, in_two_parts, WiresInTwoParts}
 use Rattle.in_overwriting.specs.MadeByWires.{LeadsFrom, AreOverEnds}
 use Rattle.in_overwriting.proofs.Overwriting.Sides.{near, side_once, sides_once, stays}
+use Rattle.in_interaction.proofs.Public.{same_point}
 
 module _ (sig : Signature) (n : Net ℕ) (x : Redex ℕ ℕ) (name : ℕ → ℕ) (can : CanOverwrite sig n x name) where
   abbrev Partners : Type 0
   Partners = Point ℕ → Option (Point ℕ)
 
   abbrev Sides : Point ℕ → Point ℕ → Type 0
-  Sides = AreSides sig n x name
+  Sides = AreSidesOf x.member (IsSideAt sig n x name)
 
   abbrev At : Point ℕ → Point ℕ → Type 0
   At = IsSideAt sig n x name

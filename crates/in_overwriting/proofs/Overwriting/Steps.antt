@@ -6,10 +6,9 @@ use Rattle.in_net.specs.Nets.{Point, Port, Free, Signature, Net, IsNet}
 use Rattle.in_net.specs.Interactions.{Redex, IsRedex, Side, Outer, Inner, stands_for, InnerWire, wire_of, IsOfPair, AreJoined, IsNaming, IsStep, end_agent, end_place}
 use Rattle.in_base.proofs.Options.{none_of}
 use Rattle.in_net.proofs.Public.{end_of_pair, first_wire}
-use Rattle.in_interaction.proofs.Public.{has_value, is_net, outer_at, outer_next, same_option, step_exists}
+use Rattle.in_interaction.proofs.Public.{has_value, is_net, outer_at, outer_next, same_option, step_exists, one_result}
 use Rattle.in_interaction.proofs.Public.Through as through
-use Rattle.in_gluing.proofs.Public.{one_result}
-use Rattle.in_overwriting.specs.Overwriting.{CanOverwrite, IsSideAt, AreSides, IsSide, IsOverwritten, StepsAreOverwritten, OverwrittenExists, OverwrittenIsOne, OverwrittenLeadsNoneBack}
+use Rattle.in_overwriting.specs.Overwriting.{CanOverwrite, IsSideAt, AreSidesOf, IsSide, IsOverwritten, StepsAreOverwritten, OverwrittenExists, OverwrittenIsOne, OverwrittenLeadsNoneBack}
 use Rattle.in_overwriting.proofs.Overwriting.Sides as sides
 
 module _ (sig : Signature) (n : Net ℕ) (x : Redex ℕ ℕ) (name : ℕ → ℕ) (can : CanOverwrite sig n x name) where
@@ -23,7 +22,7 @@ module _ (sig : Signature) (n : Net ℕ) (x : Redex ℕ ℕ) (name : ℕ → ℕ
   Joined = AreJoined sig n x name
 
   abbrev Sides : Point ℕ → Point ℕ → Type 0
-  Sides = AreSides sig n x name
+  Sides = AreSidesOf x.member (IsSideAt sig n x name)
 
   abbrev AtSide : Point ℕ → Type 0
   AtSide = IsSide sig n x name
@@ -172,7 +171,7 @@ module _ (sig : Signature) (n : Net ℕ) (x : Redex ℕ ℕ) (name : ℕ → ℕ
       near_side : IsSideAt sig n x name (Free d.0) (Port z (suc j))
       near_side = ap n.partner (sym d.2) ∙ w
 
-      at_none : (v : Point ℕ) → AreSides sig n x name (Port z (suc j)) v → ⊥
+      at_none : (v : Point ℕ) → AreSidesOf x.member (IsSideAt sig n x name) (Port z (suc j)) v → ⊥
       at_none v a = none-some v (sym (over.partners.gone (Port z (suc j)) k) ∙ over.partners.written (Port z (suc j)) v a)
 
       go : (q : Point ℕ) → x.member.partner (Free d.0) ≡ Some q → ⊥

@@ -23,7 +23,7 @@ use Rattle.in_interaction.proofs.Public.{has_value}
 use Rattle.in_cells.specs.Shown.{point_of, stands_at, IsShown}
 use Rattle.in_cells.proofs.Public.{place_within}
 use Rattle.in_reducer.specs.Machines.{point_at}
-use Rattle.in_reducer.specs.Standing.{agent_in, agents_in, leading_to}
+use Rattle.in_reducer.specs.Standing.{HaveTheirPlaces, agent_in, agents_in, leading_to}
 use Rattle.in_cells.proofs.Public.{end_there as end_some, mapped_some}
 
 -- ---- cells
@@ -107,7 +107,7 @@ unmapped f (Some x) h = refl
 unmapped f None h = h
 
 module _ (t : Tables) (a : ArenaView) (fs : List FreeEnd) (es : List End) (net : IsNet (signature_of t) (net_of (seen a fs es))) (within : (y s : ℕ) → (net_of (seen a fs es)).symbol y ≡ Some s → s < length t.names) where
-  pub places_seen : (y s : ℕ) → word_of (state_at a y) ≡ Some s → places (state_at a y) ≡ suc (arity_of t s)
+  pub places_seen : HaveTheirPlaces t a
   places_seen y s e = length_by (places (state_at a y)) (suc (arity_of t s)) forth back
     where
       symbol : (net_of (seen a fs es)).symbol y ≡ Some s

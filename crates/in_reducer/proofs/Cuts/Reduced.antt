@@ -21,7 +21,7 @@ use Rattle.in_compile.specs.Cells.{agents_of, count_of, is_of, takes}
 use Rattle.in_order.specs.Leading.{Leads}
 use Rattle.in_order.proofs.Public.{beside_leads, leads_go_on}
 use Rattle.in_reducer.specs.Cutting.{CanJoin, CutsAt, JoinsLast, net_in}
-use Rattle.in_reducer.specs.Machines.{MachineParts}
+use Rattle.in_reducer.specs.Machines.{MachineParts, KeepsCellCounts}
 use Rattle.in_reducer.specs.Parting.{IsGluedButQueue, IsSplitButQueues, ReducesTo, ends_of_two, names_of, names_of_two}
 use Rattle.in_reducer.specs.PartingLaws.{CutsAreUndone, PartsReduceTheWhole, ReductionsGoOn, StaysReduce, StepsReduce}
 use Rattle.in_reducer.specs.Reducers.{IsReducer}
@@ -80,7 +80,7 @@ module _ (m rest part rest_after part_after after : MachineParts) (agents : List
   whole_names : names_of after ≡ names_of m
   whole_names = map_some (names_of after) (names_of m) (glued.two.names ∙ (λ i. map (names_of_two (first.names i) (second.names i)) (ends_of_two own cuts)) ∙ sym off.two.names)
 
-  whole_cells : (c : CellClass) → count_of after.vacant c + agents_of m.program.tables c after.agents ≡ count_of m.vacant c + agents_of m.program.tables c m.agents
+  whole_cells : KeepsCellCounts m after
   whole_cells c =
       counted_over after.program m.program after rest_after c whole_program (glued.cells c) ∙ counted_over rest.program m.program rest_after rest c off.two.program_rest (first.cells c) ∙ off.cells c
 

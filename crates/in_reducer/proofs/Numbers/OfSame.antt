@@ -17,7 +17,8 @@ use Rattle.in_check.specs.Checking.{IsAccepted}
 use Rattle.in_check.specs.Programs.{Program}
 use Rattle.in_net.specs.Renaming.{renamed, IsRenamed}
 use Rattle.in_check.specs.Systems.{System, IsSound, system_of}
-use Rattle.in_check.proofs.Public.{all_of, net_renamed, below_renamed, typed_renamed, circle_renamed}
+use Rattle.in_base.proofs.Each.{all_of}
+use Rattle.in_check.proofs.Public.{net_renamed, below_renamed, typed_renamed, circle_renamed}
 use Rattle.in_base.proofs.Places.{is_some as there}
 use Rattle.in_compile.specs.Cells.{agents_of, count_of}
 use Rattle.in_compile.specs.declared.cells.Need.{Need}

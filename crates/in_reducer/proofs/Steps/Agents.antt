@@ -9,6 +9,7 @@ use Rattle.in_net.specs.Nets.{net_of}
 use Rattle.in_compile.specs.Templates.{TemplateParts}
 use Rattle.in_reducer.specs.declared.sides.Pair.{Pair}
 use Rattle.in_reducer.specs.Interacting.{PairSetting, IsAbout, named}
+use Rattle.in_reducer.specs.Standing.{HaveTheirPlaces}
 use Rattle.in_reducer.specs.Wiring.{HasBegun}
 use Rattle.in_reducer.proofs.Steps.Laid as laid
 use Rattle.in_reducer.proofs.Steps.Laid.{in_or_out}
@@ -17,7 +18,7 @@ use Rattle.in_reducer.proofs.Steps.Reading as read
 -- the cells hold these agents, each with as many places as its symbol has ports
 pub record HoldsAgents (t : Tables) (a : ArenaView) (IsAgent : ℕ → ℕ → Type 0) : Type 0 where
   pub symbols : (y z : ℕ) → (word_of (state_at a y) ≡ Some z) ↔ IsAgent y z
-  pub places : (y z : ℕ) → word_of (state_at a y) ≡ Some z → places (state_at a y) ≡ suc (arity_of t z)
+  pub places : HaveTheirPlaces t a
 
 -- `Stays y z` says that an agent z of the net stays in the cell y
 module _ (t : Tables) (s : PairSetting) (p : TemplateParts) (pair : Pair) (own : ℕ) (old : ArenaView) (ends : List End) (about : IsAbout t s p pair own old ends) (ns : List CellNo) (base now : ArenaView) (begun : HasBegun p.member ns base now)
@@ -42,7 +43,7 @@ module _ (t : Tables) (s : PairSetting) (p : TemplateParts) (pair : Pair) (own :
       back (inr (k, name, e)) =
           ap (λ (y : ℕ). word_of (state_at now y)) (sym name) ∙ laid.begun_word t s.rule.member about.member_over p.member about.template.member ns base now begun k z e
 
-  all_places : (y z : ℕ) → word_of (state_at now y) ≡ Some z → places (state_at now y) ≡ suc (arity_of t z)
+  all_places : HaveTheirPlaces t now
   all_places y z w = go ((symbols_are y z).0 w)
     where
       go : IsAgent y z → places (state_at now y) ≡ suc (arity_of t z)

@@ -19,10 +19,9 @@ use Rattle.in_overwriting.specs.MadeByWires.{CanOverwriteAt}
 use Rattle.in_overwriting.specs.InTurn.{AreAllWiresOf}
 use Rattle.in_overwriting.proofs.Public.{wires_in_two_parts}
 use Rattle.in_reducer.specs.declared.sides.Pair.{Pair}
-use Rattle.in_reducer.specs.Inside.{most_ends, most_points}
 use Rattle.in_reducer.specs.Interacting.{PairSetting, IsAbout, interaction_of, named}
 use Rattle.in_reducer.specs.Sides.{end_there, port_at}
-use Rattle.in_reducer.specs.Wiring.{AreAtAgents, AreLive, CanRead, HasBegun, IsSideOf, IsWiring, retired, wires_of}
+use Rattle.in_reducer.specs.Wiring.{AreAtAgents, AreLive, HasBegun, IsSideOf, IsWiring, retired, wires_of}
 use Rattle.in_reducer.proofs.Steps.Agents as agents
 use Rattle.in_reducer.proofs.Steps.Agents.{HoldsAgents}
 use Rattle.in_reducer.proofs.Steps.Reading as read
@@ -81,7 +80,7 @@ module _ (t : Tables) (s : PairSetting) (p : TemplateParts) (pair : Pair) (own :
   two_stays = stays pair.other.0 s.rule.heads.1.0 (ap (net_of s.net).symbol about.two ∙ about.redex.two)
 
   -- the pair's ports can be read
-  pub can_read : (points : List End) (many : ℕ) → many ≡ length p.member.joints → many ≤ most_ends → most_points ≤ length points → CanRead now pair many points
+  pub can_read : read.CanReadFor p.member now pair
   can_read = read.can_read t s p pair own old ends about now one_stays two_stays
 
   all_wires : AreAllWiresOf m (wires_of p.member)

@@ -12,6 +12,7 @@ use Rattle.in_interaction.proofs.Public.{has_value}
 use Rattle.in_base.proofs.Each.{at_index}
 use Rattle.in_cells.specs.Shown.{end_of, point_of, stands_at}
 use Rattle.in_cells.proofs.Public.{place_within, point_end}
+use Rattle.in_compile.specs.Members.{MemberParts}
 use Rattle.in_compile.specs.Templates.{TemplateParts}
 use Rattle.in_reducer.specs.declared.sides.Pair.{Pair}
 use Rattle.in_reducer.specs.Inside.{most_ends, most_points}
@@ -19,6 +20,10 @@ use Rattle.in_reducer.specs.Interacting.{PairSetting, IsAbout}
 use Rattle.in_reducer.specs.Sides.{end_there, port_at}
 use Rattle.in_reducer.specs.Wiring.{AreLive, CanRead, retired}
 use Rattle.in_reducer.proofs.Steps.SetUp.{boundary_many, port_is}
+
+-- the pair's ports can be read into any list that has room for the points
+abbrev pub CanReadFor : MemberParts → ArenaView → Pair → Type 0
+CanReadFor m now pair = (points : List End) (many : ℕ) → many ≡ length m.joints → many ≤ most_ends → most_points ≤ length points → CanRead now pair many points
 
 -- ---- a pair is retired
 
@@ -107,7 +112,7 @@ module _ (t : Tables) (s : PairSetting) (p : TemplateParts) (pair : Pair) (own :
     pub live : AreLive pair now
     live = (one_live, subst IsLive (sym (get_or-set_other now.states pair.one.0 pair.other.0 Vacant Leased (λ e. pair_differs (sym e)))) other_live)
 
-    pub can_read : (points : List End) (many : ℕ) → many ≡ length p.member.joints → many ≤ most_ends → most_points ≤ length points → CanRead now pair many points
+    pub can_read : CanReadFor p.member now pair
     can_read points many is few long =
         let one_many = ap places one ∙ old_places pair.one.0 s.rule.heads.0.0 one_symbol in
         let two_many = ap places other ∙ old_places pair.other.0 s.rule.heads.1.0 other_symbol in

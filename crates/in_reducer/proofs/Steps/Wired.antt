@@ -16,8 +16,7 @@ use Rattle.in_net.specs.Interactions.{IsOfPair, end_agent, end_place}
 use Rattle.in_net.specs.Nets.{Point, Port, Free, Signature, Net, IsPoint, signature_of}
 use Rattle.in_net.proofs.Public.{symbol_of}
 use Rattle.in_interaction.specs.Queues.{agents_at, numbers_of}
-use Rattle.in_interaction.proofs.Public.{has_value}
-use Rattle.in_gluing.proofs.Public.{same_point}
+use Rattle.in_interaction.proofs.Public.{has_value, same_point}
 use Rattle.in_cells.specs.Between.{Interaction, before, redex_of, IsDone}
 use Rattle.in_cells.specs.Cells.{KeepsCells}
 use Rattle.in_cells.specs.Pairs.{IsNoPair, IsPrincipal}
@@ -26,7 +25,7 @@ use Rattle.in_cells.proofs.Public.{exchange_keeps, place_within, places_kept, st
 use Rattle.in_overwriting.specs.BySign.{TellThePair}
 use Rattle.in_overwriting.specs.MadeByWires.{CanOverwriteAt, IsMadeByWire, LeadsFrom, MakeInTurn, OneByOne, of_none, with_one, without}
 use Rattle.in_overwriting.specs.InTurn.{AreAllWiresOf}
-use Rattle.in_overwriting.specs.Overwriting.{AreSides, IsOverwritten, IsSide}
+use Rattle.in_overwriting.specs.Overwriting.{AreSidesOf, IsOverwritten, IsSide, IsSideAt}
 use Rattle.in_overwriting.proofs.Public.{free_type, side_once, sides_are_apart, sides_tell_the_pair, steps_are_overwritten}
 use Rattle.in_typing.specs.Typed.{opposite}
 use Rattle.in_typing.specs.TypedNets.{IsTypedNet, type_in}
@@ -295,7 +294,7 @@ module _ (t : Tables) (x : Interaction) (wires : List (Point ℕ × Point ℕ)) 
     side_stands (Port k i) u side = ap (stands_at a (take own es)) side ∙ sym (ap (stands_at a es) side)
     side_stands (Free f) u side = own_stands u (port f) (can.net.back (port f) u side)
 
-    written : (u v : Point ℕ) → AreSides sig (before x) (redex_of x) x.name u v → option_map point_of (stands_at a (take own es) u) ≡ Some v
+    written : (u v : Point ℕ) → AreSidesOf (redex_of x).member (IsSideAt sig (before x) (redex_of x) x.name) u v → option_map point_of (stands_at a (take own es) u) ≡ Some v
     written u v (p, q, w, at_p, at_q) =
         ap (option_map point_of) (side_stands p u at_p ∙ go (are.all p q w)) ∙ ap (λ (v : Point ℕ). Some v) (end_point v)
       where

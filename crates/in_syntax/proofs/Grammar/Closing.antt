@@ -24,14 +24,14 @@ use Rattle.in_syntax.specs.declared.states.TermOf.TheVariants.{Left, Right, Insi
 use Rattle.in_syntax.specs.declared.states.Nest.{Nest}
 use Rattle.in_syntax.specs.declared.states.Body.{Body}
 use Rattle.in_syntax.specs.declared.states.Body.TheVariants as body
-use Rattle.in_syntax.specs.Grammar.{Marked, marked, max_types, max_symbols, max_free, max_ports, max_depth}
+use Rattle.in_syntax.specs.Grammar.{Spelling, marked, max_types, max_symbols, max_free, max_ports, max_depth}
 use Rattle.in_syntax.specs.Steps.{at_term_end, after_port, body_with, step, at_state, with_types, with_symbol, with_rule, counts_of}
 use Rattle.in_syntax.specs.Trees.{bare, bare_head, bare_rule, with_argument, with_class, with_term}
 use Rattle.in_syntax.proofs.Grammar.Paths.{turns, turn_of, turn, Path}
 use Rattle.in_syntax.proofs.Grammar.Complete.{IsPast, open_past}
 
 pub record CanEnd (r : Reader) : Type 0 where
-  pub more : List Marked
+  pub more : Spelling
   pub last : Reader
   pub net : SourceNet
   pub path : Path r more last

@@ -29,7 +29,7 @@ use Rattle.in_syntax.specs.declared.states.TermOf.TheVariants.{Left, Right, Insi
 use Rattle.in_syntax.specs.declared.states.Nest.{Nest}
 use Rattle.in_syntax.specs.declared.states.Body.{Body}
 use Rattle.in_syntax.specs.declared.states.Body.TheVariants as body
-use Rattle.in_syntax.specs.Grammar.{Marked, marked, within, plain, separated, numbered, spell_auxiliary, spell_class, spell_classes, spell_symbol, spell_type, spell_types, spell_arguments, spell_term, spell_outermost, spell_head, spell_with, StandAfterWord, spell_rule, spell_equation, spell_free, spell_net, max_types, max_depth, Item, types, symbol, rule, none_yet, counted, spell_items, IsItem, types_in, symbols_in, rules_in, GrammarProgram, spelling}
+use Rattle.in_syntax.specs.Grammar.{Spelling, marked, within, plain, separated, numbered, spell_auxiliary, spell_class, spell_classes, spell_symbol, spell_type, spell_types, spell_arguments, spell_term, spell_outermost, spell_head, spell_with, StandAfterWord, spell_rule, spell_equation, spell_free, spell_net, max_types, max_depth, Item, types, symbol, rule, none_yet, counted, spell_items, IsItem, types_in, symbols_in, rules_in, GrammarProgram, spelling}
 use Rattle.in_syntax.specs.Steps.{at_term_open, at_term_end, after_port, body_with, step, at_state, with_types, with_symbol, with_rule, counts_of, between_items, start}
 use Rattle.in_syntax.specs.Trees.{bare, bare_head, bare_rule, with_argument, with_class, with_term}
 use Rattle.in_syntax.proofs.Grammar.Separated.{ports_after, after}
@@ -37,7 +37,7 @@ use Rattle.in_syntax.proofs.Grammar.Paths.{turns, turn_of, turn, Path, join}
 use Rattle.in_syntax.proofs.Grammar.Sound.{arguments_at, spell_out, counts_types, counts_symbol, counts_rule}
 
 -- a path to a state that is another way to write the same
-to_state : (a r : Reader) (m : List Marked) (p q : State) → p ≡ q → Path a m (at_state r p) → Path a m (at_state r q)
+to_state : (a r : Reader) (m : Spelling) (p q : State) → p ≡ q → Path a m (at_state r p) → Path a m (at_state r q)
 to_state a r m p q e path = subst (λ z. Path a m (at_state r z)) e path
 
 -- ---- types
@@ -230,7 +230,7 @@ path_more : (h : ℕ) → ReadsTerms h → (more : List Term) (f a : Term) (r : 
 path_more h ih [] f a r b short = (at_state r (state.TermEnd b (with_argument f a)), ended_turn r (inside f b) a (Plain kind.CloseParenthesis) tt, refl)
 path_more h ih (c ∷ more) f a r b short =
     let d : ℕ = (length b.around + 1) + 1 in
-    let rest : List Marked = after (arguments_at ((length b.around + 1) + 1) more) in (
+    let rest : Spelling = after (arguments_at ((length b.around + 1) + 1) more) in (
       at_state r (state.TermName (inside (with_argument f a) b)),
       ended_turn r (inside f b) a (Plain kind.Comma) tt,
       subst (λ z. Path (at_state r (state.TermName (inside (with_argument f a) b))) z (at_state r (state.TermEnd b (with_arguments f (a ∷ c ∷ more)))))
@@ -476,7 +476,7 @@ path_all_frees (f ∷ more) r =
 abbrev no_equations : SourceNet → SourceNet
 no_equations n = record { free = n.free; equations = [] }
 
-net_again : (f c o e d : List Marked) → (f ++ c) ++ (o ++ (e ++ d)) ≡ (f ++ (c ++ (o ++ e))) ++ d
+net_again : (f c o e d : Spelling) → (f ++ c) ++ (o ++ (e ++ d)) ≡ (f ++ (c ++ (o ++ e))) ++ d
 net_again f c o e d = simp append_assoc
 
 path_net : (n : SourceNet) (r : Reader) → Path (at_state r state.Item) (spell_net n) (at_state r (state.Done n))

@@ -26,7 +26,7 @@ use Rattle.in_syntax.specs.declared.states.TermOf.TheVariants.{Left, Right, Insi
 use Rattle.in_syntax.specs.declared.states.Nest.{Nest}
 use Rattle.in_syntax.specs.declared.states.Body.{Body}
 use Rattle.in_syntax.specs.declared.states.Body.TheVariants as body_of
-use Rattle.in_syntax.specs.Grammar.{Marked, is_with}
+use Rattle.in_syntax.specs.Grammar.{Spelling, is_with}
 use Rattle.in_syntax.specs.Programs.{Begins, name_at, sign_at, sign_of, signs_of, signs, unmarked}
 use Rattle.in_syntax.specs.Expecting.{follows_term, takes, Section, between, types, symbol, ports, head, terms, free, free_port, body, after_body, further, section_from, section, IsAt, IsExpected, IsNotedOf}
 use Rattle.in_syntax.specs.Steps.{Step, goes, adds_types, adds_symbol, adds_rule, stuck, step, at_port_kind, at_with, at_head_end, after_equations, after_term, at_term_open, at_state, with_types, with_symbol, with_rule, counts_of, start, part_within, expected_in, Notes}
@@ -332,7 +332,7 @@ turned_section r next x past (adds_rule y) f e =
     ap (λ z. section_of z.state) (sym is) ∙ f
 turned_section r next x past stuck f e = cc
 
-section_along : (m : List Marked) (r last : Reader) → Path r m last → section_from (section_of r.state) (signs m) ≡ section_of last.state
+section_along : (m : Spelling) (r last : Reader) → Path r m last → section_from (section_of r.state) (signs m) ≡ section_of last.state
 section_along [] r last path = ap (λ z. section_of z.state) path
 section_along (x ∷ m) r last path =
     let here : section_of path.0.state ≡ further (section_of r.state) x.sign =

@@ -42,25 +42,29 @@ ending_in terms = expected.RuleEnd
 ending_in after_body = expected.RuleClose
 ending_in s = expected.AfterTerm part.Right
 
-abbrev by_name : (TokenKind → Bool) → Section → Expected
+-- which kinds of tokens there are
+abbrev Kinds : Type 0
+Kinds = TokenKind → Bool
+
+abbrev by_name : Kinds → Section → Expected
 by_name f s =
     if f kind.CloseBracket then expected.HeadFirst else if f kind.CloseParenthesis then expected.FreeFirst else if f kind.CloseBrace then expected.Equation else name_in s
 
-abbrev by_open : (TokenKind → Bool) → Expected
+abbrev by_open : Kinds → Expected
 by_open f =
     if f kind.Tilde then expected.AfterName part.Left else if f kind.Semicolon then expected.AfterName part.Right
     else if f kind.CloseBracket then expected.AfterName part.Head else if f kind.Comma then expected.AfterName part.Agent else expected.NetOpen
 
-abbrev by_comma : (TokenKind → Bool) → Section → Expected
+abbrev by_comma : Kinds → Section → Expected
 by_comma f s =
     if f kind.Semicolon then expected.TypeEnd else if f kind.CloseBrace then expected.ClassEnd else if f kind.CloseBracket then expected.AfterTerm part.Head else closing_in s
 
-abbrev by_other : (TokenKind → Bool) → Expected
+abbrev by_other : Kinds → Expected
 by_other f =
     if f kind.Type then expected.Item else if f kind.Tilde then expected.AfterTerm part.Left else if f kind.Plus then expected.PortSign
     else if f kind.Colon then expected.Colon else if f kind.OpenBracket then expected.HeadOpen else if f kind.Meets then expected.Meets else expected.Nothing
 
-abbrev by_tokens : (TokenKind → Bool) → Section → Expected
+abbrev by_tokens : Kinds → Section → Expected
 by_tokens f s =
     if f kind.Name then by_name f s else if f kind.OpenParenthesis then by_open f
     else if f kind.OpenBrace then (if f kind.Semicolon then expected.SymbolEnd else expected.BodyOpen)
@@ -74,7 +78,7 @@ abbrev some_place : Place
 some_place = record { from = 0; to = 0; line = 0; col = 0 }
 
 -- the kinds of tokens that are expected at a place without a name
-abbrev kinds : List ℕ → Expected → TokenKind → Bool
+abbrev kinds : List ℕ → Expected → Kinds
 kinds text e k = takes e (sign_at text k some_place)
 
 told : (text : List ℕ) (e : Expected) (s : Section) → IsAt e s → by_tokens (kinds text e) s ≡ e

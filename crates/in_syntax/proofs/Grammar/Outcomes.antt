@@ -16,7 +16,7 @@ use Rattle.in_syntax.specs.declared.tree.SourceNet.{SourceNet}
 use Rattle.in_syntax.specs.declared.reader.Reader.{Reader}
 use Rattle.in_syntax.specs.declared.states.State.{State}
 use Rattle.in_syntax.specs.declared.states.State.TheVariants as state
-use Rattle.in_syntax.specs.Grammar.{Marked, marked, GrammarProgram, spelling, source_of, none_yet, spell_items, symbols_in, rules_in}
+use Rattle.in_syntax.specs.Grammar.{Spelling, marked, GrammarProgram, spelling, source_of, none_yet, spell_items, symbols_in, rules_in}
 use Rattle.in_syntax.specs.Programs.{signs_of, signs, unmarked, IsProgram, Begins, BeginsWithin, BeginsPast, IsFault, Outcome, tree, fault, IsOutcomeOfSigns, IsParsing}
 use Rattle.in_syntax.specs.GrammarLaws.{OneOutcome, OneTree}
 use Rattle.in_syntax.specs.Steps.{Step, goes, adds_types, adds_symbol, adds_rule, stuck, step, move_of, Answer, reads, refused, net_of, whole, counts_of, run, start, GivesSource, expected_in}
@@ -30,10 +30,10 @@ signs_unmarked [] = refl
 signs_unmarked (x ∷ s) = ap (λ z. x ∷ z) (signs_unmarked s)
 
 -- the program that was read where the net is whole
-abbrev Reads : Reader → List Marked → SourceNet → Type 0
+abbrev Reads : Reader → Spelling → SourceNet → Type 0
 Reads last m n = (p : GrammarProgram) × (spelling p ≡ m) × (source_of p ≡ record { types = last.types; symbols = last.symbols; rules = last.rules; net = n })
 
-program_read : (last : Reader) (m : List Marked) (n : SourceNet) → HasRead last m → last.state ≡ state.Done n → Reads last m n
+program_read : (last : Reader) (m : Spelling) (n : SourceNet) → HasRead last m → last.state ≡ state.Done n → Reads last m n
 program_read last m n h e = (
   record { items = h.items; each = h.each; net = n },
   sym (h.spells ∙ ap (λ z. spell_items none_yet h.items ++ spelled (counts_of last) z) e),
@@ -42,11 +42,11 @@ program_read last m n h e = (
       ∙ ap (λ z. record { types = last.types; symbols = last.symbols; rules = z; net = n }) (sym h.rules),
 )
 
-read_path : (m : List Marked) (last : Reader) → Path start m last → HasRead last m
+read_path : (m : Spelling) (last : Reader) → Path start m last → HasRead last m
 read_path m last path = has_read m [] start last read_nothing path
 
 -- what leads from the start begins a program
-begun : (front : List Marked) (last : Reader) → Path start front last → (p : GrammarProgram) × (more : List Marked) × (spelling p ≡ front ++ more)
+begun : (front : Spelling) (last : Reader) → Path start front last → (p : GrammarProgram) × (more : Spelling) × (spelling p ≡ front ++ more)
 begun front last path =
     let c = can_end last in
     let p = program_read c.last (front ++ c.more) c.net (has_read c.more front last c.last (read_path front last path) c.path) c.done in
@@ -110,7 +110,7 @@ no_program front last path e (p, is) =
     let never : Some p.net ≡ None = ap (λ z. net_of z.state) k.1 ∙ e in
     cc
 
-split_signs : (m : List Marked) (a b : List Sign) → signs m ≡ a ++ b → (k : List Marked) × (l : List Marked) × (m ≡ k ++ l) × (signs k ≡ a) × (signs l ≡ b)
+split_signs : (m : Spelling) (a b : List Sign) → signs m ≡ a ++ b → (k : Spelling) × (l : Spelling) × (m ≡ k ++ l) × (signs k ≡ a) × (signs l ≡ b)
 split_signs m [] b e = ([], m, refl, refl, e)
 split_signs [] (x ∷ a) b e = cc
 split_signs (y ∷ m) (x ∷ a) b e =
@@ -119,7 +119,7 @@ split_signs (y ∷ m) (x ∷ a) b e =
     let rest = split_signs m a b more in
     (y ∷ rest.0, rest.1, ap (λ z. y ∷ z) rest.2, ap (λ z. z ∷ signs rest.0) here ∙ ap (λ z. x ∷ z) rest.3, rest.4)
 
-halts_there : (x : Sign) (last mid done : Reader) (l : List Marked) (more : List Sign) → mid ≡ last → turn last x ≡ halts → Path mid l done → signs l ≡ x ∷ more → ⊥
+halts_there : (x : Sign) (last mid done : Reader) (l : Spelling) (more : List Sign) → mid ≡ last → turn last x ≡ halts → Path mid l done → signs l ≡ x ∷ more → ⊥
 halts_there x last mid done [] more is e path f = cc
 halts_there x last mid done (y ∷ l) more is e path f =
     let here : y.sign ≡ x = cc in
@@ -133,7 +133,7 @@ no_beginning front x last path e (p, more, is) =
     let k = same parts.0 (unmarked front) start two.0 last two.1 path (parts.3 ∙ sym (signs_unmarked front)) in
     halts_there x last two.0 (done_with p) parts.1 more k.1 e two.2 parts.4
 
-signs_begun : (front : List Sign) (x : Sign) (b : Bool) (more : List Marked) → signs ((unmarked front ++ marked b x ∷ []) ++ more) ≡ (front ++ x ∷ []) ++ signs more
+signs_begun : (front : List Sign) (x : Sign) (b : Bool) (more : Spelling) → signs ((unmarked front ++ marked b x ∷ []) ++ more) ≡ (front ++ x ∷ []) ++ signs more
 signs_begun front x b more =
     map-append (λ m. m.sign) (unmarked front ++ marked b x ∷ []) more
     ∙ ap (λ z. z ++ signs more) (map-append (λ m. m.sign) (unmarked front) (marked b x ∷ []) ∙ ap (λ z. z ++ x ∷ []) (signs_unmarked front))

@@ -6,7 +6,7 @@ use Rattle.in_syntax.specs.declared.signs.Sign.{Sign}
 use Rattle.in_syntax.specs.declared.reader.Reader.{Reader}
 use Rattle.in_syntax.specs.Moves.{Move}
 use Rattle.in_syntax.specs.Moves as move
-use Rattle.in_syntax.specs.Grammar.{Marked, marked}
+use Rattle.in_syntax.specs.Grammar.{Marked, Spelling, marked}
 use Rattle.in_syntax.specs.Programs.{signs, unmarked}
 use Rattle.in_syntax.specs.Steps.{Step, goes, adds_types, adds_symbol, adds_rule, stuck, step, move_of, Answer, reads, refused, net_of, whole, at_state, with_types, with_symbol, with_rule, counts_of, run}
 
@@ -24,15 +24,15 @@ turn_of r stuck = halts
 abbrev pub turn : Reader → Sign → Turn
 turn r x = turn_of r (step (counts_of r) r.state x)
 
-abbrev pub Path : Reader → List Marked → Reader → Type 0
+abbrev pub Path : Reader → Spelling → Reader → Type 0
 Path a [] b = a ≡ b
 Path a (x ∷ m) b = (mid : Reader) × (turn a x.sign ≡ turns x.past mid) × Path mid m b
 
-pub join : (m n : List Marked) (a b c : Reader) → Path a m b → Path b n c → Path a (m ++ n) c
+pub join : (m n : Spelling) (a b c : Reader) → Path a m b → Path b n c → Path a (m ++ n) c
 join [] n a b c p q = subst (λ z. Path z n c) (sym p) q
 join (x ∷ m) n a b c p q = (p.0, p.1, join m n p.0 b c p.2 q)
 
-pub split : (m n : List Marked) (a c : Reader) → Path a (m ++ n) c → (b : Reader) × Path a m b × Path b n c
+pub split : (m n : Spelling) (a c : Reader) → Path a (m ++ n) c → (b : Reader) × Path a m b × Path b n c
 split [] n a c p = (a, refl, p)
 split (x ∷ m) n a c p =
     let rest = split m n p.0 c p.2 in
@@ -46,7 +46,7 @@ same_turn x y a mid last p q e =
     (ap (λ b. marked b x.sign) past ∙ ap (marked y.past) e, r)
 
 -- the signs say where they lead, and their marks
-pub same : (m n : List Marked) (a b c : Reader) → Path a m b → Path a n c → signs m ≡ signs n → (m ≡ n) × (b ≡ c)
+pub same : (m n : Spelling) (a b c : Reader) → Path a m b → Path a n c → signs m ≡ signs n → (m ≡ n) × (b ≡ c)
 same [] [] a b c p q e = (refl, sym p ∙ q)
 same [] (y ∷ n) a b c p q e = cc
 same (x ∷ m) [] a b c p q e = cc

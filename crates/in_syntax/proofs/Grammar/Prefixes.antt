@@ -6,7 +6,7 @@ use Rattle.in_syntax.specs.declared.faults.Code.{Code}
 use Rattle.in_syntax.specs.declared.faults.Code.TheVariants.{E02, E03}
 use Rattle.in_syntax.specs.declared.signs.Sign.{Sign}
 use Rattle.in_syntax.specs.declared.reader.Reader.{Reader}
-use Rattle.in_syntax.specs.Grammar.{Marked, marked, within}
+use Rattle.in_syntax.specs.Grammar.{Spelling, marked, within}
 use Rattle.in_syntax.specs.Programs.{signs, unmarked, Begins, BeginsWithin, BeginsPast, IsFault, tree, fault}
 use Rattle.in_syntax.specs.GrammarLaws.{PrefixesBegin}
 use Rattle.in_syntax.specs.Steps.{start}
@@ -30,7 +30,7 @@ fault_begins E03 front (x ∷ rest) is = (is.0, marked true x ∷ is.1, is.2)
 fault_begins c front rest is = absurd is
 
 -- a sign doesn't pass a limit and stay within it
-not_twice : (x : Sign) (more rest : List Marked) (mid last one other : Reader) → mid ≡ last → Path mid (marked true x ∷ more) one → Path last (marked false x ∷ rest) other → ⊥
+not_twice : (x : Sign) (more rest : Spelling) (mid last one other : Reader) → mid ≡ last → Path mid (marked true x ∷ more) one → Path last (marked false x ∷ rest) other → ⊥
 not_twice x more rest mid last one other e p q =
     let t : turns true p.0 ≡ turns false q.0 = sym p.1 ∙ ap (λ z. turn z x) e ∙ q.1 in
     cc

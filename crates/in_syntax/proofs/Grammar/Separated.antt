@@ -4,32 +4,32 @@ use Rattle.std.specs.List.{flat_map}
 use Rattle.in_syntax.specs.declared.counts.Counts.{Counts}
 use Rattle.in_syntax.specs.declared.tree.SourcePort.{SourcePort}
 use Rattle.in_syntax.specs.declared.words.TokenKind.TheVariants as kind
-use Rattle.in_syntax.specs.Grammar.{Marked, plain, separated, numbered, spell_class, spell_classes, Item, counted, spell_item, spell_items}
+use Rattle.in_syntax.specs.Grammar.{Marked, Spelling, plain, separated, numbered, spell_class, spell_classes, Item, counted, spell_item, spell_items}
 
 abbrev pub comma : Marked
 comma = plain kind.Comma
 
 -- each with a comma after it
-abbrev pub before : List (List Marked) → List Marked
+abbrev pub before : List Spelling → Spelling
 before [] = []
 before (a ∷ more) = (a ++ comma ∷ []) ++ before more
 
-abbrev pub after : List (List Marked) → List Marked
+abbrev pub after : List Spelling → Spelling
 after = flat_map (λ b. plain kind.Comma ∷ b)
 
-after_snoc : (l : List (List Marked)) (a : List Marked) → after (l ++ a ∷ []) ≡ comma ∷ (before l ++ a)
+after_snoc : (l : List Spelling) (a : Spelling) → after (l ++ a ∷ []) ≡ comma ∷ (before l ++ a)
 after_snoc [] a = ap (λ z. comma ∷ z) (append-nil a)
 after_snoc (b ∷ l) a = ap (λ z. (comma ∷ b) ++ z) (after_snoc l a) ∙ ap (λ z. comma ∷ z) (simp append_assoc)
 
-pub separated_snoc : (l : List (List Marked)) (a : List Marked) → separated (l ++ a ∷ []) ≡ before l ++ a
+pub separated_snoc : (l : List Spelling) (a : Spelling) → separated (l ++ a ∷ []) ≡ before l ++ a
 separated_snoc [] a = append-nil a
 separated_snoc (b ∷ l) a = ap (λ z. b ++ z) (after_snoc l a) ∙ simp append_assoc
 
-after_comma : (l : List (List Marked)) → after l ++ comma ∷ [] ≡ comma ∷ before l
+after_comma : (l : List Spelling) → after l ++ comma ∷ [] ≡ comma ∷ before l
 after_comma [] = refl
 after_comma (b ∷ l) = append_assoc (comma ∷ b) (after l) (comma ∷ []) ∙ ap (λ z. (comma ∷ b) ++ z) (after_comma l) ∙ ap (λ z. comma ∷ z) (simp append_assoc)
 
-pub before_is : (l : List (List Marked)) → 0 < length l → before l ≡ separated l ++ comma ∷ []
+pub before_is : (l : List Spelling) → 0 < length l → before l ≡ separated l ++ comma ∷ []
 before_is [] full = absurd (omega (arith, full))
 before_is (b ∷ l) full = sym (append_assoc b (after l) (comma ∷ []) ∙ ap (λ z. b ++ z) (after_comma l) ∙ simp append_assoc)
 
@@ -42,13 +42,13 @@ flat_snoc f (b ∷ l) a = ap (λ z. f b ++ z) (flat_snoc f l a) ∙ sym (append_
 
 -- ---- lists by their numbers
 
-pub numbered_snoc : {A : Type 0} (f : ℕ → A → List Marked) (number : ℕ) (l : List A) (a : A) → numbered f number (l ++ a ∷ []) ≡ numbered f number l ++ f (number + length l) a ∷ []
+pub numbered_snoc : {A : Type 0} (f : ℕ → A → Spelling) (number : ℕ) (l : List A) (a : A) → numbered f number (l ++ a ∷ []) ≡ numbered f number l ++ f (number + length l) a ∷ []
 numbered_snoc f number [] a = let e : number ≡ number + 0 = omega arith in ap (λ n. f n a ∷ []) e
 numbered_snoc f number (b ∷ l) a =
     let e : (number + 1) + length l ≡ number + length (b ∷ l) = omega arith in
     ap (λ z. f number b ∷ z) (numbered_snoc f (number + 1) l a ∙ ap (λ n. numbered f (number + 1) l ++ f n a ∷ []) e)
 
-pub nonempty_numbered : {A : Type 0} (f : ℕ → A → List Marked) (number : ℕ) (l : List A) → 0 < length l → 0 < length (numbered f number l)
+pub nonempty_numbered : {A : Type 0} (f : ℕ → A → Spelling) (number : ℕ) (l : List A) → 0 < length l → 0 < length (numbered f number l)
 nonempty_numbered f number [] full = full
 nonempty_numbered f number (a ∷ l) full = omega arith
 

@@ -31,7 +31,7 @@ use Rattle.in_syntax.specs.declared.states.TermOf.TheVariants.{Left, Right, Insi
 use Rattle.in_syntax.specs.declared.states.Nest.{Nest}
 use Rattle.in_syntax.specs.declared.states.Body.{Body}
 use Rattle.in_syntax.specs.declared.states.Body.TheVariants as body
-use Rattle.in_syntax.specs.Grammar.{Marked, marked, within, named, plain, separated, numbered, spell_port, spell_auxiliary, spell_classes, spell_symbol, spell_type, spell_types, spell_arguments, spell_level, spell_term, spell_outermost, spell_head, with_word, is_with, word_at, spell_with, StandAfterWord, spell_rule, spell_equation, spell_free, spell_net, max_symbols, max_rules, max_free, max_ports, max_depth, Item, types, symbol, rule, none_yet, counted, spell_item, spell_items, IsItem, types_in, symbols_in, rules_in}
+use Rattle.in_syntax.specs.Grammar.{Marked, Spelling, marked, within, named, plain, separated, numbered, spell_port, spell_auxiliary, spell_classes, spell_symbol, spell_type, spell_types, spell_arguments, spell_level, spell_term, spell_outermost, spell_head, with_word, is_with, word_at, spell_with, StandAfterWord, spell_rule, spell_equation, spell_free, spell_net, max_symbols, max_rules, max_free, max_ports, max_depth, Item, types, symbol, rule, none_yet, counted, spell_item, spell_items, IsItem, types_in, symbols_in, rules_in}
 use Rattle.in_syntax.specs.Steps.{Step, goes, adds_types, adds_symbol, adds_rule, stuck, at_item, at_type_name, at_type_end, at_symbol_name, at_symbol_colon, at_port_kind, after_port, at_port_sign, at_symbol_end, at_class_end, at_head_name, at_head_open, at_head_first, at_with, at_head_end, at_rule_open, at_rule_close, at_net_open, at_free_first, at_free_name, at_free_colon, at_free_end, at_body_open, at_equation, at_term_name, after_argument, after_left, after_right, after_head_term, after_outermost, after_term, at_term_end, at_term_open, step, at_state, with_types, with_symbol, with_rule, counts_of, start}
 use Rattle.in_syntax.specs.Trees.{bare, bare_head, with_argument}
 use Rattle.in_syntax.proofs.Grammar.Separated.{comma, before, separated_snoc, before_is, nonempty_snoc, flat_snoc, numbered_snoc, nonempty_numbered, ports_after, ports_after_snoc, classes_snoc, counted_all, counted_snoc, items_snoc}
@@ -40,71 +40,71 @@ use Rattle.in_base.proofs.Each.{all_append}
 
 -- ---- what of an item or the net is read before a state
 
-abbrev pub arguments_at : ℕ → List Term → List (List Marked)
+abbrev pub arguments_at : ℕ → List Term → List Spelling
 arguments_at depth ts = map (λ a. a depth) (map spell_term ts)
 
 -- a term up to where its next argument begins
-abbrev pub opened : ℕ → Term → List Marked
+abbrev pub opened : ℕ → Term → Spelling
 opened depth t = marked (nat_lt max_depth depth) (Named (out-Term t).name) ∷ plain kind.OpenParenthesis ∷ before (arguments_at (depth + 1) (out-Term t).args)
 
-abbrev pub stacked : List Term → List Marked
+abbrev pub stacked : List Term → Spelling
 stacked [] = []
 stacked (t ∷ around) = stacked around ++ opened (length around + 1) t
 
-abbrev pub types_front : Counts → List Name → List Marked
+abbrev pub types_front : Counts → List Name → Spelling
 types_front c names = plain kind.Type ∷ separated (numbered spell_type (c.types + 1) names)
 
-abbrev pub symbol_front : Counts → SourceSymbol → List Marked
+abbrev pub symbol_front : Counts → SourceSymbol → Spelling
 symbol_front c s =
     plain kind.Symbol ∷ marked (nat_lt max_symbols (c.symbols + 1)) (Named s.name) ∷ plain kind.Colon ∷ spell_port false s.port ++ spell_classes 1 s.classes
 
-abbrev pub head_of_front : Counts → HeadOf → List Marked
+abbrev pub head_of_front : Counts → HeadOf → Spelling
 head_of_front c First = marked (nat_lt max_rules (c.rules + 1)) (Plain kind.Rule) ∷ []
 head_of_front c (Second h) = marked (nat_lt max_rules (c.rules + 1)) (Plain kind.Rule) ∷ spell_head h ++ plain kind.Meets ∷ []
 
 -- a head up to where its next term begins
-abbrev pub head_before : Counts → HeadOf → Head → List Marked
+abbrev pub head_before : Counts → HeadOf → Head → Spelling
 head_before c o h = head_of_front c o ++ named h.name ∷ plain kind.OpenBracket ∷ before (map spell_outermost h.terms)
 
-abbrev pub frees_front : List SourceFree → List Marked
+abbrev pub frees_front : List SourceFree → Spelling
 frees_front fs = plain kind.Net ∷ plain kind.OpenParenthesis ∷ separated (numbered spell_free 1 fs)
 
-abbrev pub frees_before : List SourceFree → List Marked
+abbrev pub frees_before : List SourceFree → Spelling
 frees_before fs = plain kind.Net ∷ plain kind.OpenParenthesis ∷ before (numbered spell_free 1 fs)
 
 -- a free name after those before it
 abbrev pub free_name : List SourceFree → Name → Marked
 free_name fs n = marked (nat_lt max_free (1 + length fs)) (Named n)
 
-abbrev pub net_front : SourceNet → List Marked
+abbrev pub net_front : SourceNet → Spelling
 net_front n = frees_front n.free ++ plain kind.CloseParenthesis ∷ plain kind.OpenBrace ∷ flat_map spell_equation n.equations
 
 -- a rule's heads
-abbrev pub heads_front : Counts → Head → Head → List Marked
+abbrev pub heads_front : Counts → Head → Head → Spelling
 heads_front c f h = marked (nat_lt max_rules (c.rules + 1)) (Plain kind.Rule) ∷ (spell_head f ++ plain kind.Meets ∷ spell_head h)
 
 -- up to where the next equation begins
-abbrev pub body_front : Counts → Body → List Marked
+abbrev pub body_front : Counts → Body → Spelling
 body_front c (body.Net n) = net_front n
 body_front c (body.Rule y p) = heads_front c y.first y.second ++ named (word_at p) ∷ plain kind.OpenBrace ∷ flat_map spell_equation y.equations
 
 -- what is read before a term and the terms that are open around it
-abbrev pub of_front : Counts → TermOf → List Marked
+abbrev pub of_front : Counts → TermOf → Spelling
 of_front c (Left b) = body_front c b
 of_front c (Right b l p) = body_front c b ++ spell_term l 1 ++ within (Tilde p) ∷ []
 of_front c (Inside o h) = head_before c o h
 
-abbrev pub nest_front : Counts → Nest → List Marked
+abbrev pub nest_front : Counts → Nest → Spelling
 nest_front c b = of_front c b.of ++ stacked b.around
 
 -- the number of the port after these
 abbrev pub next_port : SourceSymbol → List SourcePort → ℕ
 next_port s c = ports_after 1 s.classes + length c
 
-abbrev pub class_before : Counts → SourceSymbol → List SourcePort → List Marked
+abbrev pub class_before : Counts → SourceSymbol → List SourcePort → Spelling
 class_before k s c = symbol_front k s ++ plain kind.OpenBrace ∷ before (numbered spell_auxiliary (ports_after 1 s.classes) c)
 
-abbrev pub port_front : Counts → PortOf → List Marked
+abbrev pub port_front : Counts → PortOf → Spelling
 port_front k (Principal n) = plain kind.Symbol ∷ marked (nat_lt max_symbols (k.symbols + 1)) (Named n) ∷ plain kind.Colon ∷ []
 port_front k (Auxiliary s c number) = class_before k s c
 port_front k (Free fs n) = frees_before fs ++ free_name fs n ∷ plain kind.Colon ∷ []
@@ -115,7 +115,7 @@ port_past (Principal n) = false
 port_past (Auxiliary s c number) = nat_lt max_ports (next_port s c)
 port_past (Free fs n) = false
 
-abbrev pub spelled : Counts → State → List Marked
+abbrev pub spelled : Counts → State → Spelling
 spelled k state.Item = []
 spelled k (state.TypeName names) = plain kind.Type ∷ before (numbered spell_type (k.types + 1) names)
 spelled k (state.TypeEnd names) = types_front k names
@@ -164,7 +164,7 @@ IsFull (state.FreeEnd fs) = 0 < length fs
 IsFull _ = Unit {0}
 
 -- what a step from a state has to keep
-abbrev pub KeepsAll : Counts → List Marked → Sign → Step → Type 0
+abbrev pub KeepsAll : Counts → Spelling → Sign → Step → Type 0
 KeepsAll k l x (goes past q) = IsFull q × (spelled k q ≡ l ++ marked past x ∷ [])
 KeepsAll k l x (adds_types names) = (0 < length names) × (spell_types (k.types + 1) names ≡ l ++ within x ∷ [])
 KeepsAll k l x (adds_symbol s) = AllByRecursion (λ c. 0 < length c) s.classes × (spell_symbol (k.symbols + 1) s ≡ l ++ within x ∷ [])
@@ -217,7 +217,7 @@ keeps_port_kind k o (Named n) full = keeps_kind k o n full
 keeps_port_kind k o _ full = tt
 
 -- a port is whole
-abbrev whole_port : Counts → PortOf → SourcePort → List Marked
+abbrev whole_port : Counts → PortOf → SourcePort → Spelling
 whole_port k o p = port_front k o ++ spell_port (port_past o) p
 
 keeps_after_port : (k : Counts) (o : PortOf) (p : SourcePort) → IsFullSign o → IsFull (after_port o p) × (spelled k (after_port o p) ≡ whole_port k o p)
@@ -355,7 +355,7 @@ keeps_equation k b _ = tt
 -- ---- terms
 
 pub spell_out : (t : Term) (depth : ℕ) → spell_term t depth ≡ marked (nat_lt max_depth depth) (Named (out-Term t).name) ∷ spell_arguments (arguments_at (depth + 1) (out-Term t).args)
-spell_out t depth = ap (λ g. g depth) (fold_out-Term (ℕ → List Marked) spell_level t)
+spell_out t depth = ap (λ g. g depth) (fold_out-Term (ℕ → Spelling) spell_level t)
 
 opened_roll : (depth : ℕ) (x : Term-F Term) → opened depth (roll-Term x) ≡ marked (nat_lt max_depth depth) (Named x.name) ∷ plain kind.OpenParenthesis ∷ before (arguments_at (depth + 1) x.args)
 opened_roll depth x = ap (λ (y : Term-F Term). marked (nat_lt max_depth depth) (Named y.name) ∷ plain kind.OpenParenthesis ∷ before (arguments_at (depth + 1) y.args)) (out-roll-Term x)
@@ -367,11 +367,11 @@ arguments_snoc : (depth : ℕ) (ts : List Term) (t : Term) → arguments_at dept
 arguments_snoc depth [] t = refl
 arguments_snoc depth (u ∷ ts) t = ap (λ z. spell_term u depth ∷ z) (arguments_snoc depth ts t)
 
-before_snoc : (l : List (List Marked)) (a : List Marked) → before (l ++ a ∷ []) ≡ before l ++ (a ++ comma ∷ [])
+before_snoc : (l : List Spelling) (a : Spelling) → before (l ++ a ∷ []) ≡ before l ++ (a ++ comma ∷ [])
 before_snoc [] a = append-nil (a ++ comma ∷ [])
 before_snoc (b ∷ l) a = ap (λ z. (b ++ comma ∷ []) ++ z) (before_snoc l a) ∙ sym (append_assoc (b ++ comma ∷ []) (before l) (a ++ comma ∷ []))
 
-closed_snoc : (l : List (List Marked)) (a : List Marked) → spell_arguments (l ++ a ∷ []) ≡ plain kind.OpenParenthesis ∷ (before l ++ a) ++ plain kind.CloseParenthesis ∷ []
+closed_snoc : (l : List Spelling) (a : Spelling) → spell_arguments (l ++ a ∷ []) ≡ plain kind.OpenParenthesis ∷ (before l ++ a) ++ plain kind.CloseParenthesis ∷ []
 closed_snoc [] a = ap (λ z. plain kind.OpenParenthesis ∷ z ++ plain kind.CloseParenthesis ∷ []) (separated_snoc [] a)
 closed_snoc (b ∷ l) a = ap (λ z. plain kind.OpenParenthesis ∷ z ++ plain kind.CloseParenthesis ∷ []) (separated_snoc (b ∷ l) a)
 
@@ -402,13 +402,13 @@ keeps_term_name k b _ = tt
 one_deeper : (outer : Term) (around : List Term) → (length around + 1) + 1 ≡ length (outer ∷ around) + 1
 one_deeper outer around = omega arith
 
-regroup_more : (f s o a c : List Marked) → f ++ (s ++ (o ++ (a ++ c))) ≡ ((f ++ (s ++ o)) ++ a) ++ c
+regroup_more : (f s o a c : Spelling) → f ++ (s ++ (o ++ (a ++ c))) ≡ ((f ++ (s ++ o)) ++ a) ++ c
 regroup_more f s o a c = simp append_assoc
 
-regroup_closed : (f s o a c : List Marked) → (f ++ s) ++ (o ++ (a ++ c)) ≡ ((f ++ (s ++ o)) ++ a) ++ c
+regroup_closed : (f s o a c : Spelling) → (f ++ s) ++ (o ++ (a ++ c)) ≡ ((f ++ (s ++ o)) ++ a) ++ c
 regroup_closed f s o a c = simp append_assoc
 
-regroup_equation : (f o e l c t d : List Marked) → f ++ (o ++ (e ++ ((l ++ (c ++ t)) ++ d))) ≡ ((((f ++ (o ++ e)) ++ l) ++ c) ++ t) ++ d
+regroup_equation : (f o e l c t d : Spelling) → f ++ (o ++ (e ++ ((l ++ (c ++ t)) ++ d))) ≡ ((((f ++ (o ++ e)) ++ l) ++ c) ++ t) ++ d
 regroup_equation f o e l c t d = simp append_assoc
 
 keeps_after_argument : (k : Counts) (of : TermOf) (around : List Term) (outer t : Term) (x : Sign) →
@@ -453,10 +453,10 @@ keeps_after_right k (body.Rule y w) l p t (Plain kind.Semicolon) = (
 )
 keeps_after_right k b l p t _ = tt
 
-regroup_term : (f h b t c : List Marked) → (f ++ (h ++ (b ++ (t ++ c)))) ++ [] ≡ (((f ++ (h ++ b)) ++ []) ++ t) ++ c
+regroup_term : (f h b t c : Spelling) → (f ++ (h ++ (b ++ (t ++ c)))) ++ [] ≡ (((f ++ (h ++ b)) ++ []) ++ t) ++ c
 regroup_term f h b t c = simp (append_assoc, append-nil)
 
-regroup_head : (f h b t c : List Marked) → f ++ (h ++ ((b ++ t) ++ c)) ≡ (((f ++ (h ++ b)) ++ []) ++ t) ++ c
+regroup_head : (f h b t c : Spelling) → f ++ (h ++ ((b ++ t) ++ c)) ≡ (((f ++ (h ++ b)) ++ []) ++ t) ++ c
 regroup_head f h b t c = simp (append_assoc, append-nil)
 
 keeps_after_head_term : (k : Counts) (o : HeadOf) (h : Head) (t : Term) (x : Sign) →
@@ -538,7 +538,7 @@ counts_symbol r s = ap (λ z. record { types = length r.types; symbols = z; rule
 pub counts_rule : (r : Reader) (w : Option Place) (y : SourceRule) → counts_of (with_rule r y) ≡ counted (counts_of r) (rule w y)
 counts_rule r w y = ap (λ z. record { types = length r.types; symbols = length r.symbols; rules = z }) (length-append r.rules (y ∷ []))
 
-pub record HasRead (r : Reader) (m : List Marked) : Type 0 where
+pub record HasRead (r : Reader) (m : Spelling) : Type 0 where
   pub items : List Item
   pub each : AllByRecursion IsItem items
   pub types : r.types ≡ flat_map types_in items
@@ -552,7 +552,7 @@ pub read_nothing : HasRead start []
 read_nothing = record { items = []; each = tt; types = refl; symbols = refl; rules = refl; counts = refl; full = tt; spells = refl }
 
 -- an item more
-with_item : (l : List Marked) (k : Counts) (items : List Item) (i : Item) (p : List Marked) (x : Marked) → l ≡ spell_items none_yet items ++ p → k ≡ counted_all none_yet items → spell_item k i ≡ p ++ x ∷ [] →
+with_item : (l : Spelling) (k : Counts) (items : List Item) (i : Item) (p : Spelling) (x : Marked) → l ≡ spell_items none_yet items ++ p → k ≡ counted_all none_yet items → spell_item k i ≡ p ++ x ∷ [] →
     l ++ x ∷ [] ≡ spell_items none_yet (items ++ i ∷ []) ++ []
 with_item l k items i p x e n f =
     ap (λ z. z ++ x ∷ []) e ∙ append_assoc (spell_items none_yet items) p (x ∷ []) ∙ ap (λ z. spell_items none_yet items ++ z) (sym f)
@@ -571,7 +571,7 @@ none_more f l items i e n = e ∙ sym (append-nil (flat_map f items)) ∙ ap (λ
 some_more : {A : Type 0} (f : Item → List A) (l more : List A) (items : List Item) (i : Item) → l ≡ flat_map f items → f i ≡ more → l ++ more ≡ flat_map f (items ++ i ∷ [])
 some_more f l more items i e n = ap (λ z. z ++ more) e ∙ ap (λ z. flat_map f items ++ z) (sym n) ∙ sym (flat_snoc f items i)
 
-reads_step : (r next : Reader) (m : List Marked) (x : Sign) (past : Bool) (s : Step) → HasRead r m → Keeps (counts_of r) r.state x s → turn_of r s ≡ turns past next → HasRead next (m ++ marked past x ∷ [])
+reads_step : (r next : Reader) (m : Spelling) (x : Sign) (past : Bool) (s : Step) → HasRead r m → Keeps (counts_of r) r.state x s → turn_of r s ≡ turns past next → HasRead next (m ++ marked past x ∷ [])
 reads_step r next m x past (goes b q) h k e =
     let is : at_state r q ≡ next = cc in
     let same : b ≡ past = cc in
@@ -627,7 +627,7 @@ reads_step r next m x past (adds_rule y) h (w, is_with, spells) e =
     }))
 reads_step r next m x past stuck h k e = cc
 
-pub has_read : (n m : List Marked) (r last : Reader) → HasRead r m → Path r n last → HasRead last (m ++ n)
+pub has_read : (n m : Spelling) (r last : Reader) → HasRead r m → Path r n last → HasRead last (m ++ n)
 has_read [] m r last h p = subst (λ z. HasRead z (m ++ [])) p (subst (λ z. HasRead r z) (sym (append-nil m)) h)
 has_read (x ∷ n) m r last h p =
     let next : HasRead p.0 (m ++ x ∷ []) = reads_step r p.0 m x.sign x.past (step (counts_of r) r.state x.sign) h (keeps (counts_of r) r.state x.sign h.full) p.1 in

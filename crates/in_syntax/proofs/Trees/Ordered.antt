@@ -16,7 +16,7 @@ use Rattle.in_syntax.specs.declared.words.TokenKind.{TokenKind}
 use Rattle.in_syntax.specs.declared.words.TokenKind.TheVariants as kind
 use Rattle.in_syntax.specs.declared.signs.Sign.{Sign}
 use Rattle.in_syntax.specs.declared.signs.Sign.TheVariants.{Named, Tilde, Plain}
-use Rattle.in_syntax.specs.Grammar.{Marked, within, plain, separated, numbered, spell_arguments, spell_term, spell_outermost, spell_head, spell_with, StandAfterWord, spell_rule, spell_equation, IsItem, spell_free, spell_net, Item, types, symbol, rule, none_yet, counted, spell_item, spell_items, GrammarProgram, spelling, rules_in, source_of}
+use Rattle.in_syntax.specs.Grammar.{Spelling, within, plain, separated, numbered, spell_arguments, spell_term, spell_outermost, spell_head, spell_with, StandAfterWord, spell_rule, spell_equation, IsItem, spell_free, spell_net, Item, types, symbol, rule, none_yet, counted, spell_item, spell_items, GrammarProgram, spelling, rules_in, source_of}
 use Rattle.in_syntax.specs.Programs.{sign_at, signs_of, unmarked}
 use Rattle.in_syntax.specs.Parsing.{IsTreeOf, Parses}
 use Rattle.in_syntax.specs.Sizes.{total, names_in}
@@ -35,20 +35,20 @@ sign_places (Named n) = n.place ∷ []
 sign_places (Tilde p) = p ∷ []
 sign_places (Plain k) = []
 
-abbrev places_of : List Marked → List Place
+abbrev places_of : Spelling → List Place
 places_of [] = []
 places_of (m ∷ ms) = sign_places m.sign ++ places_of ms
 
-places_append : (a b : List Marked) → places_of (a ++ b) ≡ places_of a ++ places_of b
+places_append : (a b : Spelling) → places_of (a ++ b) ≡ places_of a ++ places_of b
 places_append [] b = refl
 places_append (m ∷ a) b = ap (λ z. sign_places m.sign ++ z) (places_append a b) ∙ sym (append_assoc (sign_places m.sign) (places_of a) (places_of b))
 
 -- what closes a list has no place
-places_closed : (a : List Marked) (k : TokenKind) → places_of (a ++ plain k ∷ []) ≡ places_of a
+places_closed : (a : Spelling) (k : TokenKind) → places_of (a ++ plain k ∷ []) ≡ places_of a
 places_closed a k = places_append a (plain k ∷ []) ∙ append-nil (places_of a)
 
 -- a list that is spelled one by one has the places of each, one after another
-both_places : (a b : List Marked) (p q : List Place) → places_of a ≡ p → places_of b ≡ q → places_of (a ++ b) ≡ p ++ q
+both_places : (a b : Spelling) (p q : List Place) → places_of a ≡ p → places_of b ≡ q → places_of (a ++ b) ≡ p ++ q
 both_places a b p q e f = places_append a b ∙ ap (λ z. z ++ places_of b) e ∙ ap (λ z. p ++ z) f
 
 -- ---- the places of what the tree spells are those that it lists
@@ -69,7 +69,7 @@ commas_placed h ih d (u ∷ us) short =
 arguments_placed : (h : ℕ) → Placed h → (d : ℕ) (us : List Term) → total (map names_in us) ≤ h → places_of (spell_arguments (map (λ a. a d) (map spell_term us))) ≡ all_places us
 arguments_placed h ih d [] short = refl
 arguments_placed h ih d (u ∷ us) short =
-    let rest : List Marked = after (map (λ a. a d) (map spell_term us)) in
+    let rest : Spelling = after (map (λ a. a d) (map spell_term us)) in
     places_closed (spell_term u d ++ rest) kind.CloseParenthesis
     ∙ both_places (spell_term u d) rest (term_places u) (all_places us) (ih u d (omega (arith, short))) (commas_placed h ih d us (omega (arith, short)))
 
@@ -80,7 +80,7 @@ placed : (h : ℕ) → Placed h
 placed zero u depth short = absurd (omega (arith, names_out u))
 placed (suc h) u depth short =
     let out = names_out u in
-    ap (λ (f : ℕ → List Marked). places_of (f depth)) (spell_out u)
+    ap (λ (f : ℕ → Spelling). places_of (f depth)) (spell_out u)
     ∙ ap (λ z. (out-Term u).name.place ∷ z) (arguments_placed h (λ v d le. placed h v d le) (depth + 1) (out-Term u).args (omega (arith, out)))
     ∙ sym (places_out u)
 
@@ -122,13 +122,13 @@ back_rises [] b up = up
 back_rises (p ∷ a) b up = back_rises a b up.1
 
 -- the signs' places rise
-abbrev Rising : List Marked → Type 0
+abbrev Rising : Spelling → Type 0
 Rising ms = Rises (places_of ms)
 
-front_rising : (a b : List Marked) → Rising (a ++ b) → Rising a
+front_rising : (a b : Spelling) → Rising (a ++ b) → Rising a
 front_rising a b up = front_rises (places_of a) (places_of b) (subst Rises (places_append a b) up)
 
-back_rising : (a b : List Marked) → Rising (a ++ b) → Rising b
+back_rising : (a b : Spelling) → Rising (a ++ b) → Rising b
 back_rising a b up = back_rises (places_of a) (places_of b) (subst Rises (places_append a b) up)
 
 -- a rule's names and ~ rise, where its signs do: the word `with` is between them
@@ -146,7 +146,7 @@ with_rising ps (Some p) es some up = without ps (subst (λ z. Rises (ps ++ p ∷
 
 rule_rising : (number : ℕ) (w : Option Place) (y : SourceRule) → StandAfterWord w y.equations → Rising (spell_rule number w y) → IsRuleInOrder y
 rule_rising number w y is up =
-    let heads : List Marked = spell_head y.first ++ plain kind.Meets ∷ spell_head y.second in
+    let heads : Spelling = spell_head y.first ++ plain kind.Meets ∷ spell_head y.second in
     with_rising (head_places y.first ++ head_places y.second) w y.equations is
     (subst (λ z. Rises (z ++ places_of (spell_with w y.equations))) (heads_placed y.first y.second)
     (subst Rises (places_append heads (spell_with w y.equations)) (front_rising (heads ++ spell_with w y.equations) (plain kind.Semicolon ∷ []) up)))
@@ -196,8 +196,8 @@ rules_in_order (rule w y ∷ is) c each up = (
 
 net_in_order : (n : SourceNet) → Rising (spell_net n) → IsInOrder n
 net_in_order n up =
-    let free : List Marked = separated (numbered spell_free 1 n.free) in
-    let opened : List Marked = plain kind.CloseParenthesis ∷ plain kind.OpenBrace ∷ flat_map spell_equation n.equations in
+    let free : Spelling = separated (numbered spell_free 1 n.free) in
+    let opened : Spelling = plain kind.CloseParenthesis ∷ plain kind.OpenBrace ∷ flat_map spell_equation n.equations in
     subst Rises (equations_placed n.equations) (back_rising free opened (front_rising (free ++ opened) (plain kind.CloseBrace ∷ []) up))
 
 program_in_order : (p : GrammarProgram) → Rising (spelling p) → IsWrittenInOrder (source_of p)

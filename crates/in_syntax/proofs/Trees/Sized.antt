@@ -17,7 +17,7 @@ use Rattle.in_syntax.specs.declared.words.Token.{Token}
 use Rattle.in_syntax.specs.declared.words.TokenKind.TheVariants as kind
 use Rattle.in_syntax.specs.declared.signs.Sign.{Sign}
 use Rattle.in_syntax.specs.declared.signs.Sign.TheVariants.{Tilde}
-use Rattle.in_syntax.specs.Grammar.{Marked, within, plain, max_types, max_symbols, max_rules, max_free, max_ports, separated, numbered, spell_port, spell_auxiliary, spell_class, spell_classes, spell_symbol, spell_type, spell_arguments, spell_term, spell_outermost, spell_head, spell_with, StandAfterWord, spell_rule, spell_equation, spell_free, spell_net, Item, types, symbol, rule, none_yet, counted, spell_item, spell_items, IsItem, GrammarProgram, spelling, types_in, symbols_in, rules_in, source_of}
+use Rattle.in_syntax.specs.Grammar.{Spelling, within, plain, max_types, max_symbols, max_rules, max_free, max_ports, separated, numbered, spell_port, spell_auxiliary, spell_class, spell_classes, spell_symbol, spell_type, spell_arguments, spell_term, spell_outermost, spell_head, spell_with, StandAfterWord, spell_rule, spell_equation, spell_free, spell_net, Item, types, symbol, rule, none_yet, counted, spell_item, spell_items, IsItem, GrammarProgram, spelling, types_in, symbols_in, rules_in, source_of}
 use Rattle.in_syntax.specs.Programs.{sign_of, signs_of, unmarked}
 use Rattle.in_syntax.specs.Parsing.{IsTreeOf, Parses}
 use Rattle.in_syntax.specs.Sizes.{total, names_in, names_in_equation, names_in_equations, names_in_head, names_in_rule, names_in_rules, IsSizedSymbol, IsSized}
@@ -61,7 +61,7 @@ spells : (h : ℕ) → Spells h
 spells zero u depth short = absurd (omega (arith, names_out u))
 spells (suc h) u depth short =
     let out = names_out u in
-    let is = ap (λ (f : ℕ → List Marked). length (f depth)) (spell_out u) in
+    let is = ap (λ (f : ℕ → Spelling). length (f depth)) (spell_out u) in
     omega (arith, out, is, arguments_sum h (λ v d le. spells h v d le) (depth + 1) (out-Term u).args (omega (arith, out)))
 
 equation_sum : (e : Equation) → names_in_equation e ≤ length (spell_equation e)
@@ -121,26 +121,26 @@ items_sum (rule w y ∷ is) c each =
 
 -- ---- lists without a mark
 
-abbrev Unmarked : List Marked → Type 0
+abbrev Unmarked : Spelling → Type 0
 Unmarked = AllByRecursion (λ m. m.past ≡ false)
 
 unmarked_all : (s : List Sign) → Unmarked (unmarked s)
 unmarked_all [] = tt
 unmarked_all (x ∷ s) = (refl, unmarked_all s)
 
-front_all : (a b : List Marked) → Unmarked (a ++ b) → Unmarked a
+front_all : (a b : Spelling) → Unmarked (a ++ b) → Unmarked a
 front_all [] b all = tt
 front_all (m ∷ a) b all = (all.0, front_all a b all.1)
 
-back_all : (a b : List Marked) → Unmarked (a ++ b) → Unmarked b
+back_all : (a b : Spelling) → Unmarked (a ++ b) → Unmarked b
 back_all [] b all = all
 back_all (m ∷ a) b all = back_all a b all.1
 
 -- an element without a mark is within the limit
-abbrev Within : {A : Type 0} → ℕ → (ℕ → A → List Marked) → Type 0
+abbrev Within : {A : Type 0} → ℕ → (ℕ → A → Spelling) → Type 0
 Within {A = A} most f = (number : ℕ) (x : A) → Unmarked (f number x) → number ≤ most
 
-commas_within : {A : Type 0} (most : ℕ) (f : ℕ → A → List Marked) → Within most f → (number : ℕ) (l : List A) → number ≤ most + 1 →
+commas_within : {A : Type 0} (most : ℕ) (f : ℕ → A → Spelling) → Within most f → (number : ℕ) (l : List A) → number ≤ most + 1 →
     Unmarked (flat_map (λ b. plain kind.Comma ∷ b) (numbered f number l)) → number + length l ≤ most + 1
 commas_within most f each number [] le all = omega (arith, le)
 commas_within most f each number (x ∷ l) le all =
@@ -148,7 +148,7 @@ commas_within most f each number (x ∷ l) le all =
     let rest = commas_within most f each (number + 1) l (omega (arith, here)) (back_all (f number x) _ all.1) in
     omega (arith, rest)
 
-separated_within : {A : Type 0} (most : ℕ) (f : ℕ → A → List Marked) → Within most f → (number : ℕ) (l : List A) → number ≤ most + 1 →
+separated_within : {A : Type 0} (most : ℕ) (f : ℕ → A → Spelling) → Within most f → (number : ℕ) (l : List A) → number ≤ most + 1 →
     Unmarked (separated (numbered f number l)) → number + length l ≤ most + 1
 separated_within most f each number [] le all = omega (arith, le)
 separated_within most f each number (x ∷ l) le all =
@@ -177,7 +177,7 @@ classes_within number ((p ∷ c) ∷ cs) le some all =
 
 symbol_sized : (number : ℕ) (s : SourceSymbol) → AllByRecursion (λ c. 0 < length c) s.classes → Unmarked (spell_symbol number s) → IsSizedSymbol s
 symbol_sized number s some all =
-    let ports : List Marked = spell_port false s.port in
+    let ports : Spelling = spell_port false s.port in
     let tail = front_all (spell_port false s.port ++ spell_classes 1 s.classes) (plain kind.Semicolon ∷ []) all.1.1.1 in
     let both = classes_within 1 s.classes (omega arith) some (back_all (spell_port false s.port) (spell_classes 1 s.classes) tail) in
     let a = both.0 in

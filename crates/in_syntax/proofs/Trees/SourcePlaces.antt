@@ -18,7 +18,7 @@ use Rattle.in_syntax.specs.declared.tree.Term.{Term, out-Term}
 use Rattle.in_syntax.specs.declared.words.Token.{Token}
 use Rattle.in_syntax.specs.declared.words.TokenKind.{TokenKind}
 use Rattle.in_syntax.specs.declared.words.TokenKind.TheVariants as kind
-use Rattle.in_syntax.specs.Grammar.{Marked, within, plain, separated, numbered, spell_level, spell_arguments, spell_term, spell_outermost, spell_head, named, word_at, spell_with, StandAfterWord, IsItem, spell_rule, spell_equation, spell_free, spell_net, spell_port, spell_auxiliary, spell_class, spell_classes, spell_symbol, spell_type, spell_types, Item, types, symbol, rule, none_yet, counted, spell_item, spell_items, types_in, symbols_in, rules_in, GrammarProgram, spelling, source_of}
+use Rattle.in_syntax.specs.Grammar.{Marked, Spelling, within, plain, separated, numbered, spell_level, spell_arguments, spell_term, spell_outermost, spell_head, named, word_at, spell_with, StandAfterWord, IsItem, spell_rule, spell_equation, spell_free, spell_net, spell_port, spell_auxiliary, spell_class, spell_classes, spell_symbol, spell_type, spell_types, Item, types, symbol, rule, none_yet, counted, spell_item, spell_items, types_in, symbols_in, rules_in, GrammarProgram, spelling, source_of}
 use Rattle.in_syntax.specs.Order.{BeginApart, term_places, equation_places, head_places, symbol_places, rule_places, free_places, source_places}
 use Rattle.in_syntax.specs.Parsing.{IsTreeOf}
 use Rattle.in_syntax.specs.Programs.{sign_at, sign_of, signs_of, unmarked}
@@ -37,34 +37,34 @@ kept (Tilde p) = p ∷ []
 kept (Plain k) = []
 
 -- one of the signs keeps the place
-record Spells (ms : List Marked) (p : Place) : Type 0 where
+record Spells (ms : Spelling) (p : Place) : Type 0 where
   one : Marked
   among : IsAmong one ms
   keeps : IsAmong p (kept one.sign)
 
-on_left : (a b : List Marked) (p : Place) → Spells a p → Spells (a ++ b) p
+on_left : (a b : Spelling) (p : Place) → Spells a p → Spells (a ++ b) p
 on_left a b p h = record { one = h.one; among = among_left h.one a b h.among; keeps = h.keeps }
 
-on_right : (a b : List Marked) (p : Place) → Spells b p → Spells (a ++ b) p
+on_right : (a b : Spelling) (p : Place) → Spells b p → Spells (a ++ b) p
 on_right a b p h = record { one = h.one; among = among_right h.one a b h.among; keeps = h.keeps }
 
-on : (m : Marked) (b : List Marked) (p : Place) → Spells b p → Spells (m ∷ b) p
+on : (m : Marked) (b : Spelling) (p : Place) → Spells b p → Spells (m ∷ b) p
 on m b p h = record { one = h.one; among = inr h.among; keeps = h.keeps }
 
-here : (m : Marked) (b : List Marked) (p : Place) → IsAmong p (kept m.sign) → Spells (m ∷ b) p
+here : (m : Marked) (b : Spelling) (p : Place) → IsAmong p (kept m.sign) → Spells (m ∷ b) p
 here m b p h = record { one = m; among = inl refl; keeps = h }
 
-in_commas : (bs : List (List Marked)) (b : List Marked) (p : Place) → IsAmong b bs → Spells b p → Spells (after bs) p
+in_commas : (bs : List Spelling) (b : Spelling) (p : Place) → IsAmong b bs → Spells b p → Spells (after bs) p
 in_commas [] b p h k = absurd h
 in_commas (c ∷ bs) b p (inl e) k = on (plain kind.Comma) (c ++ after bs) p (on_left c (after bs) p (subst (λ b. Spells b p) (sym e) k))
 in_commas (c ∷ bs) b p (inr h) k = on (plain kind.Comma) (c ++ after bs) p (on_right c (after bs) p (in_commas bs b p h k))
 
-in_separated : (bs : List (List Marked)) (b : List Marked) (p : Place) → IsAmong b bs → Spells b p → Spells (separated bs) p
+in_separated : (bs : List Spelling) (b : Spelling) (p : Place) → IsAmong b bs → Spells b p → Spells (separated bs) p
 in_separated [] b p h k = absurd h
 in_separated (c ∷ bs) b p (inl e) k = on_left c (after bs) p (subst (λ b. Spells b p) (sym e) k)
 in_separated (c ∷ bs) b p (inr h) k = on_right c (after bs) p (in_commas bs b p h k)
 
-in_numbered : {A : Type 0} (f : ℕ → A → List Marked) (k : ℕ) (xs : List A) (x : A) → IsAmong x xs → (j : ℕ) × IsAmong (f j x) (numbered f k xs)
+in_numbered : {A : Type 0} (f : ℕ → A → Spelling) (k : ℕ) (xs : List A) (x : A) → IsAmong x xs → (j : ℕ) × IsAmong (f j x) (numbered f k xs)
 in_numbered f k [] x h = absurd h
 in_numbered f k (y ∷ xs) x (inl e) = (k, inl (ap (f k) e))
 in_numbered f k (y ∷ xs) x (inr h) = let r = in_numbered f (k + 1) xs x h in (r.0, inr r.1)
@@ -76,7 +76,7 @@ part_small [] v h = absurd h
 part_small (u ∷ us) v (inl e) = subst (λ v. names_in v ≤ names_in u + total (map names_in us)) e (omega arith)
 part_small (u ∷ us) v (inr h) = let r = part_small us v h in omega (arith, r)
 
-in_arguments : (bs : List (List Marked)) (b : List Marked) (p : Place) → IsAmong b bs → Spells b p → Spells (spell_arguments bs) p
+in_arguments : (bs : List Spelling) (b : Spelling) (p : Place) → IsAmong b bs → Spells b p → Spells (spell_arguments bs) p
 in_arguments [] b p h k = absurd h
 in_arguments (c ∷ bs) b p h k =
     on (plain kind.OpenParenthesis) (separated (c ∷ bs) ++ plain kind.CloseParenthesis ∷ []) p (on_left (separated (c ∷ bs)) (plain kind.CloseParenthesis ∷ []) p (in_separated (c ∷ bs) b p h k))
@@ -90,12 +90,12 @@ term_by h d u p ih le (inr k) =
     let small = part_small (out-Term u).args v.0 v.1 in
     let e = names_out u in
     let lt : names_in v.0 ≤ h = omega (arith, small, e, le) in
-    on _ _ p (in_arguments (map (λ (a : ℕ → List Marked). a (d + 1)) (map spell_term (out-Term u).args)) (spell_term v.0 (d + 1)) p
-    (in_map (λ (a : ℕ → List Marked). a (d + 1)) (map spell_term (out-Term u).args) (spell_term v.0) (in_map spell_term (out-Term u).args v.0 v.1)) (ih v.0 lt (subst (IsAmong p) (sym v.2) ps.2)))
+    on _ _ p (in_arguments (map (λ (a : ℕ → Spelling). a (d + 1)) (map spell_term (out-Term u).args)) (spell_term v.0 (d + 1)) p
+    (in_map (λ (a : ℕ → Spelling). a (d + 1)) (map spell_term (out-Term u).args) (spell_term v.0) (in_map spell_term (out-Term u).args v.0 v.1)) (ih v.0 lt (subst (IsAmong p) (sym v.2) ps.2)))
 
 in_term : (h d : ℕ) (u : Term) (p : Place) → names_in u ≤ h → IsAmong p (term_places u) → Spells (spell_term u d) p
 in_term zero d u p le k = absurd (let e = names_out u in omega (arith, le, e))
-in_term (suc h) d u p le k = subst (λ (f : ℕ → List Marked). Spells (f d) p) (sym (spell_out u)) (term_by h d u p (λ v small among. in_term h (d + 1) v p small among) le (subst (IsAmong p) (places_out u) k))
+in_term (suc h) d u p le k = subst (λ (f : ℕ → Spelling). Spells (f d) p) (sym (spell_out u)) (term_by h d u p (λ v small among. in_term h (d + 1) v p small among) le (subst (IsAmong p) (places_out u) k))
 
 term : (d : ℕ) (u : Term) (p : Place) → IsAmong p (term_places u) → Spells (spell_term u d) p
 term d u p k = in_term (names_in u) d u p (omega arith) k
@@ -108,7 +108,7 @@ in_equation e p h = on_left (spell_term e.left 1 ++ within (Tilde e.tilde) ∷ s
     by_side (inr (inl a)) = on_right (spell_term e.left 1) (within (Tilde e.tilde) ∷ spell_term e.right 1) p (here (within (Tilde e.tilde)) (spell_term e.right 1) p (inl a))
     by_side (inr (inr a)) = on_right (spell_term e.left 1) (within (Tilde e.tilde) ∷ spell_term e.right 1) p (on (within (Tilde e.tilde)) (spell_term e.right 1) p (term 1 e.right p a))
 
-in_each : {A : Type 0} (f : A → List Marked) (g : A → List Place) (p : Place) → ((x : A) → IsAmong p (g x) → Spells (f x) p) → (xs : List A) → IsAmong p (flat_map g xs) → Spells (flat_map f xs) p
+in_each : {A : Type 0} (f : A → Spelling) (g : A → List Place) (p : Place) → ((x : A) → IsAmong p (g x) → Spells (f x) p) → (xs : List A) → IsAmong p (flat_map g xs) → Spells (flat_map f xs) p
 in_each f g p one [] h = absurd h
 in_each f g p one (x ∷ xs) h = elim (among_either p (g x) (flat_map g xs) h) [ inl a ↦ on_left (f x) (flat_map f xs) p (one x a) | inr a ↦ on_right (f x) (flat_map f xs) p (in_each f g p one xs a) ]
 
@@ -127,7 +127,7 @@ in_rule : (k : ℕ) (w : Option Place) (r : SourceRule) (p : Place) → StandAft
 in_rule k w r p is h =
     on _ _ p (on_left (heads ++ spell_with w r.equations) (plain kind.Semicolon ∷ []) p (by_part (among_either p (head_places r.first ++ head_places r.second) (flat_map equation_places r.equations) h)))
   where
-    heads : List Marked
+    heads : Spelling
     heads = spell_head r.first ++ plain kind.Meets ∷ spell_head r.second
 
     by_side : IsAmong p (head_places r.first) ⊎ IsAmong p (head_places r.second) → Spells heads p
@@ -163,7 +163,7 @@ in_types k ns p h =
     let j = in_numbered spell_type k ns n.0 n.1 in
     on _ _ p (on_left (separated (numbered spell_type k ns)) _ p (in_separated (numbered spell_type k ns) (spell_type j.0 n.0) p j.1 (here _ _ p (inl n.2))))
 
-abbrev opened : SourceNet → List Marked
+abbrev opened : SourceNet → Spelling
 opened n = plain kind.CloseParenthesis ∷ plain kind.OpenBrace ∷ flat_map spell_equation n.equations
 
 in_frees : (n : SourceNet) (p : Place) → IsAmong p (flat_map free_places n.free) → Spells (spell_net n) p

@@ -3,14 +3,14 @@ use Rattle.std.proofs.Common.{◌≡◌, ◌≤◌, ◌+◌, ℕ, zero, suc, Lis
 use Rattle.std.specs.List.{AllByRecursion}
 use Rattle.in_syntax.specs.declared.tree.Term.{Term, out-Term}
 use Rattle.in_syntax.specs.declared.tree.Term.TheFolds.{fold_out-Term}
-use Rattle.in_syntax.specs.Grammar.{Marked, spell_level, spell_term}
+use Rattle.in_syntax.specs.Grammar.{Spelling, spell_level, spell_term}
 use Rattle.in_syntax.specs.Sizes.{total, names_in}
 
 pub names_out : (u : Term) → names_in u ≡ total (map names_in (out-Term u).args) + 1
 names_out = fold_out-Term ℕ (λ f. total f.args + 1)
 
 pub spell_out : (u : Term) → spell_term u ≡ spell_level (record { name = (out-Term u).name; args = map spell_term (out-Term u).args })
-spell_out = fold_out-Term (ℕ → List Marked) spell_level
+spell_out = fold_out-Term (ℕ → Spelling) spell_level
 
 module _ (P : Term → Type 0) (of_arguments : (u : Term) → AllByRecursion P (out-Term u).args → P u) where
   all_within : (h : ℕ) → ((u : Term) → names_in u ≤ h → P u) → (us : List Term) → total (map names_in us) ≤ h → AllByRecursion P us

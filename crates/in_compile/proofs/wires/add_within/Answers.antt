@@ -5,7 +5,8 @@ use Rattle.in_compile.specs.declared.joints.Joint.{Joint}
 use Rattle.in_compile.specs.declared.joints.Joint.TheVariants.{ToAgent}
 use Rattle.in_compile.specs.Members.{AgentParts}
 use Rattle.in_compile.specs.Wires.{is_from_first, wires_at}
-use Rattle.in_compile.proofs.Listed.Filtered.{fails, left_from, passes}
+use Rattle.in_base.proofs.Places.{left_from}
+use Rattle.in_compile.proofs.Listed.Filtered.{fails, passes}
 use Rattle.in_compile.proofs.Listed.Slots.{small_joint, small_place}
 use Rattle.in_compile.proofs.wires.add_within.Goals as goal
 use Rattle.in_compile.proofs.wires.add_within.Goals.{then-starts_first+in_ok-push, else-starts_first}

@@ -3,7 +3,8 @@ use Rattle.std.specs.List.{enumerate_from, filter}
 use Rattle.in_compile.specs.declared.joints.Joint.{Joint}
 use Rattle.in_compile.specs.declared.joints.Joint.TheVariants.{ToBoundary}
 use Rattle.in_compile.specs.Wires.{is_from_lowest, over_of}
-use Rattle.in_compile.proofs.Listed.Filtered.{fails, left_from, passes}
+use Rattle.in_base.proofs.Places.{left_from}
+use Rattle.in_compile.proofs.Listed.Filtered.{fails, passes}
 use Rattle.in_compile.proofs.Listed.Slots.{small_joint}
 use Rattle.in_compile.proofs.wires.over_wires.Goals as goal
 use Rattle.in_compile.proofs.wires.over_wires.Goals.{then-starts_lowest+in_ok-push, else-starts_lowest}

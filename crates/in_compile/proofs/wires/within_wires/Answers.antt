@@ -5,7 +5,7 @@ use Rattle.in_base.proofs.Each.{at_index}
 use Rattle.in_compile.specs.declared.joints.Joint.{Joint}
 use Rattle.in_compile.specs.Members.{AgentParts}
 use Rattle.in_compile.specs.Wires.{is_from_first, wires_at}
-use Rattle.in_compile.proofs.Listed.Filtered.{left_from}
+use Rattle.in_base.proofs.Places.{left_from}
 use Rattle.in_compile.proofs.wires.within_wires.Goals as goal
 
 pub loop-agent-preserved : goal.loop-agent-preserved

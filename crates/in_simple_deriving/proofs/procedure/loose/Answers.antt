@@ -4,7 +4,7 @@ use Rattle.in_open_nets.specs.OpenNets.{OpenNet}
 use Rattle.in_simple_deriving.specs.Stacks.{SetsBeside, EndsInWhole}
 use Rattle.in_simple_deriving.specs.declared.plans.Task.{Task}
 use Rattle.in_simple_deriving.specs.declared.plans.Task.TheVariants.{Make}
-use Rattle.in_simple_deriving.specs.declared.plans.Joint.TheVariants.{Empty, Link, Mix}
+use Rattle.in_simple_deriving.specs.declared.plans.StackStep.TheVariants.{Empty, Link, Mix}
 use Rattle.in_simple_deriving.specs.TakenOrder.{links_from}
 use Rattle.in_simple_deriving.proofs.Taking.{LinksCome, links_more, links_first, links_past, links_done, links_none}
 use Rattle.in_simple_deriving.proofs.Working.{makes_more}

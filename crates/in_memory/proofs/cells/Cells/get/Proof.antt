@@ -58,8 +58,9 @@ module _ (E : El) where
   abbrev Gives : (Owner E).Denot → ℕ → Bor (el_x E) → Type 0
   Gives d index r = get_or d.slots index None ≡ Some (Some r.now)
 
-  abbrev spec : {M : Type 1} {𝓤 : Ura M} (𝓛 : Logic 𝓤) → Clauses 𝓤 ended
-  spec {𝓤 = 𝓤} 𝓛 κs a = record { ghost = Unit {0}; requires = λ _. fact 𝓤 (IsFilledFrom E a.0.now a.1.0 a.1.1.0); ensures = λ _ r w. fact 𝓤 (Gives a.0.now a.1.1.0 r) }
+module _ (E : El) {M : Type 1} {𝓤 : Ura M} (𝓛 : Logic 𝓤) where
+  abbrev spec : Clauses 𝓤 (ended E)
+  spec κs a = record { ghost = Unit {0}; requires = λ _. fact 𝓤 (IsFilledFrom E a.0.now a.1.0 a.1.1.0); ensures = λ _ r w. fact 𝓤 (Gives E a.0.now a.1.1.0 r) }
 
 module _ (E : El) {M : Type 1} {𝓤 : Ura M} (𝓛 : Logic 𝓤) (C : Calls 𝓤 𝓛.H) (Λ : Loops 𝓤 𝓛.H) (κ : Lft) (q : Share) (rb ro : ℕ) (d : (Owner E).Denot) (base : (Begin E).Denot) (index : ℕ) (us0 us1 us2 : List Val) where
   open 𝓛 use {H}

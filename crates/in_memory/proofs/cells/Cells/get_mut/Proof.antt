@@ -63,11 +63,12 @@ module _ (E : El) where
   abbrev new : (Owner E).Denot → ℕ → el_x E → (Owner E).Denot
   new d index w = with_slots d (set d.slots index (Some (Some w)))
 
-  abbrev spec : {M : Type 1} {𝓤 : Ura M} (𝓛 : Logic 𝓤) → Clauses 𝓤 ended
-  spec {𝓤 = 𝓤} 𝓛 κs a = record {
+module _ (E : El) {M : Type 1} {𝓤 : Ura M} (𝓛 : Logic 𝓤) where
+  abbrev spec : Clauses 𝓤 (ended E)
+  spec κs a = record {
     ghost = Unit {0};
     requires = λ _. fact 𝓤 (IsFilledFrom E a.0.now a.1.0 a.1.1.0);
-    ensures = λ _ r w. sep 𝓤 (sem 𝓛 (follows (Owner E) (R E) a.0.ghost_name r.ghost_name (new a.0.now a.1.1.0))) (fact 𝓤 (Gives a.0.now a.1.1.0 r));
+    ensures = λ _ r w. sep 𝓤 (sem 𝓛 (follows (Owner E) (R E) a.0.ghost_name r.ghost_name (new E a.0.now a.1.1.0))) (fact 𝓤 (Gives E a.0.now a.1.1.0 r));
   }
 
 module _ (E : El) {M : Type 1} {𝓤 : Ura M} (𝓛 : Logic 𝓤) (C : Calls 𝓤 𝓛.H) (Λ : Loops 𝓤 𝓛.H) (κ : Lft) (q : Share) (rb ro : ℕ) (γ : GName) (d : (Owner E).Denot) (base : (Begin E).Denot) (index : ℕ) (us0 us1 us2 : List Val) where

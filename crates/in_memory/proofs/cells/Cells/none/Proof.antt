@@ -54,8 +54,9 @@ module _ (E : El) where
   abbrev none_of : (Owner E).Denot → List (Place E)
   none_of d = replicate (length d.slots) None
 
-  abbrev spec : {M : Type 1} {𝓤 : Ura M} (𝓛 : Logic 𝓤) → Clauses 𝓤 ended
-  spec {𝓤 = 𝓤} 𝓛 κs a = record { ghost = Unit {0}; requires = λ _. emp 𝓤; ensures = λ _ r w. fact 𝓤 (HasCells E a.0.now (none_of a.0.now) r) }
+module _ (E : El) {M : Type 1} {𝓤 : Ura M} (𝓛 : Logic 𝓤) where
+  abbrev spec : Clauses 𝓤 (ended E)
+  spec κs a = record { ghost = Unit {0}; requires = λ _. emp 𝓤; ensures = λ _ r w. fact 𝓤 (HasCells E a.0.now (none_of E a.0.now) r) }
 
 module _ (E : El) {M : Type 1} {𝓤 : Ura M} (𝓛 : Logic 𝓤) (C : Calls 𝓤 𝓛.H) (Λ : Loops 𝓤 𝓛.H) (κ : Lft) (q : Share) (rb ro : ℕ) (d : (Owner E).Denot) (us0 : List Val) where
   open 𝓛 use {H}

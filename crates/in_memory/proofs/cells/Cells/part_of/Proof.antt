@@ -52,8 +52,9 @@ module _ (E : El) where
   abbrev stayed : Stays ended.signature.params ended.kept
   stayed = (stay_ref (0 ∷ []) tt (plain (λ _. Owner E)), tt)
 
-  abbrev spec : {M : Type 1} {𝓤 : Ura M} (𝓛 : Logic 𝓤) → Clauses 𝓤 ended
-  spec {𝓤 = 𝓤} 𝓛 κs a = record { ghost = ℕ → Bool; requires = λ _. emp 𝓤; ensures = λ p r w. sep 𝓤 (fact 𝓤 (HasCells E a.0.now (those_of p a.0.now.slots) r)) (fact 𝓤 (HasCells E a.0.now (those_of (but p) a.0.now.slots) w.0.now)) }
+module _ (E : El) {M : Type 1} {𝓤 : Ura M} (𝓛 : Logic 𝓤) where
+  abbrev spec : Clauses 𝓤 (ended E)
+  spec κs a = record { ghost = ℕ → Bool; requires = λ _. emp 𝓤; ensures = λ p r w. sep 𝓤 (fact 𝓤 (HasCells E a.0.now (those_of p a.0.now.slots) r)) (fact 𝓤 (HasCells E a.0.now (those_of (but p) a.0.now.slots) w.0.now)) }
 
 module _ (E : El) {M : Type 1} {𝓤 : Ura M} (𝓛 : Logic 𝓤) (C : Calls 𝓤 𝓛.H) (Λ : Loops 𝓤 𝓛.H) (κ : Lft) (q : Share) (rb ro : ℕ) (γ : GName) (d : (Owner E).Denot) (p : ℕ → Bool) (us0 : List Val) where
   open 𝓛 use {H}

@@ -63,8 +63,9 @@ module _ (E : El) where
   abbrev Gives : (Owner E).Denot → ℕ → (R E).Denot → (Owner E).Denot → Type 0
   Gives d index content new = HasCells E d (set d.slots index (Some (Some content))) new
 
-  abbrev spec : {M : Type 1} {𝓤 : Ura M} (𝓛 : Logic 𝓤) → Clauses 𝓤 ended
-  spec {𝓤 = 𝓤} 𝓛 κs a = record { ghost = Unit {0}; requires = λ _. fact 𝓤 (Asks a.0.now a.1.0 a.1.1.0); ensures = λ _ r w. fact 𝓤 (Gives a.0.now a.1.1.0 a.1.1.1.0 w.0.now) }
+module _ (E : El) {M : Type 1} {𝓤 : Ura M} (𝓛 : Logic 𝓤) where
+  abbrev spec : Clauses 𝓤 (ended E)
+  spec κs a = record { ghost = Unit {0}; requires = λ _. fact 𝓤 (Asks E a.0.now a.1.0 a.1.1.0); ensures = λ _ r w. fact 𝓤 (Gives E a.0.now a.1.1.0 a.1.1.1.0 w.0.now) }
 
 module _ (E : El) {M : Type 1} {𝓤 : Ura M} (𝓛 : Logic 𝓤) (C : Calls 𝓤 𝓛.H) (Λ : Loops 𝓤 𝓛.H) (κ : Lft) (q : Share) (rb ro : ℕ) (γ : GName) (d : (Owner E).Denot) (base : (Begin E).Denot) (index : ℕ) (content : (R E).Denot) (us0 us1 us2 us3 : List Val) where
   open 𝓛 use {H}

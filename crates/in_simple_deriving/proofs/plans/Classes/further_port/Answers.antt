@@ -3,7 +3,7 @@ use Rattle.in_open_nets.specs.OpenNets.{class_in}
 use Rattle.in_simple_deriving.specs.Progress.{Progress}
 use Rattle.in_open_nets.specs.Stuck.{ports_of}
 use Rattle.in_simple_deriving.specs.Procedure.{with_task}
-use Rattle.in_simple_deriving.specs.declared.plans.Joint.TheVariants.{Mix}
+use Rattle.in_simple_deriving.specs.declared.plans.StackStep.TheVariants.{Mix}
 use Rattle.in_simple_deriving.specs.declared.plans.Task.TheVariants.{Make}
 use Rattle.in_simple_deriving.proofs.Stages.{further_next}
 use Rattle.in_simple_deriving.proofs.plans.Classes.further_port.Goals as goal

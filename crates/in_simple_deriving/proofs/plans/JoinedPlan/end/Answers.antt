@@ -2,7 +2,7 @@ use Rattle.std.proofs.Common.{◌≡◌, ◌+◌, ◌-◌, ◌≤◌, length, su
 use Rattle.in_simple_deriving.specs.Progress.{HasNoTurnLeft, PlansNet, Progress, progress}
 use Rattle.in_open_nets.specs.Stuck.{ports_of}
 use Rattle.in_simple_deriving.proofs.Stages.{ends}
-use Rattle.in_simple_deriving.proofs.plans.Joined.end.Goals as goal
+use Rattle.in_simple_deriving.proofs.plans.JoinedPlan.end.Goals as goal
 
 pub invariant_of-result : goal.invariant_of-result
 invariant_of-result c =

@@ -3,7 +3,7 @@ use Rattle.in_simple_deriving.specs.Progress.{PlansNet, Progress}
 use Rattle.in_open_nets.specs.OpenNets.{IsAgent}
 use Rattle.in_open_nets.specs.Stuck.{ports_of, turn}
 use Rattle.in_simple_deriving.proofs.Stages.{joins_port}
-use Rattle.in_simple_deriving.proofs.plans.Joined.port.Goals as goal
+use Rattle.in_simple_deriving.proofs.plans.JoinedPlan.port.Goals as goal
 
 pub invariant_of-result : goal.invariant_of-result
 invariant_of-result c =

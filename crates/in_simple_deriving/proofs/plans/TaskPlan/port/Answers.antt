@@ -9,7 +9,7 @@ use Rattle.in_simple_deriving.proofs.ClassNets.{nothing_done, nothing_own, adds_
 use Rattle.in_simple_deriving.proofs.Planning.{port_pass, port_derive, goes_make}
 use Rattle.in_open_nets.proofs.Public.{not_both}
 use Rattle.in_simple_deriving.proofs.Stages.{own_turn}
-use Rattle.in_simple_deriving.proofs.plans.Plan.port.Goals as goal
+use Rattle.in_simple_deriving.proofs.plans.TaskPlan.port.Goals as goal
 
 pub returns-in_ok-derive-in-Waits : goal.returns-in_ok-derive-in-Waits
 returns-in_ok-derive-in-Waits c =

@@ -2,7 +2,7 @@ use Rattle.std.proofs.Common.{◌≤◌, leb-true, subst, arith}
 use Rattle.in_open_nets.specs.Members.{missing}
 use Rattle.in_simple_deriving.specs.Progress.{HasNoTurnLeft}
 use Rattle.in_simple_deriving.proofs.Planning.{none_later}
-use Rattle.in_simple_deriving.proofs.plans.Joined.is_over.Goals as goal
+use Rattle.in_simple_deriving.proofs.plans.JoinedPlan.is_over.Goals as goal
 
 pub returns : goal.returns
 returns c = λ few.

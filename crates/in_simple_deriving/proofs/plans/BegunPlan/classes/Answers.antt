@@ -2,7 +2,7 @@ use Rattle.std.proofs.Common.{sym, subst}
 use Rattle.in_open_nets.specs.OpenNets.{IsAgent}
 use Rattle.in_simple_deriving.specs.Progress.{Progress}
 use Rattle.in_simple_deriving.proofs.Stages.{starts_classes}
-use Rattle.in_simple_deriving.proofs.plans.Begun.classes.Goals as goal
+use Rattle.in_simple_deriving.proofs.plans.BegunPlan.classes.Goals as goal
 
 pub invariant_of-classes : goal.invariant_of-classes
 invariant_of-classes c =

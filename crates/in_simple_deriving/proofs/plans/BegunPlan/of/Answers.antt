@@ -2,7 +2,7 @@ use Rattle.std.proofs.Common.{length, subst, ap, arith}
 use Rattle.in_open_nets.specs.Parts.{IsRest}
 use Rattle.in_simple_deriving.proofs.Planning.{plan_start}
 use Rattle.in_open_nets.proofs.Public.{in_length, each_split}
-use Rattle.in_simple_deriving.proofs.plans.Begun.of.Goals as goal
+use Rattle.in_simple_deriving.proofs.plans.BegunPlan.of.Goals as goal
 
 pub invariant_of-result : goal.invariant_of-result
 invariant_of-result c =

@@ -1,7 +1,7 @@
 use Rattle.std.proofs.Common.{◌≡◌, ◌<◌, ◌∙◌, length, slice_index_or, sym, subst, ap, arith}
 use Rattle.in_simple_deriving.specs.Progress.{Progress}
 use Rattle.in_simple_deriving.proofs.Waiting.{Comes, NoneLeft, ends_none, ends_turn, waits_most, waits_next, waits_none, waits_small, waits_turn}
-use Rattle.in_simple_deriving.proofs.plans.Joined.others.Goals as goal
+use Rattle.in_simple_deriving.proofs.plans.JoinedPlan.others.Goals as goal
 
 pub end-requires-clause-turn : goal.end-requires-clause-turn
 end-requires-clause-turn c =

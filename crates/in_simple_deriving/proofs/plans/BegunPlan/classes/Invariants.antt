@@ -1,6 +1,6 @@
 use Rattle.std.proofs.Common.{◌≡◌, ◌≤◌, ◌+◌, ◌-◌}
 use Rattle.in_simple_deriving.specs.Progress.{until}
-use Rattle.in_simple_deriving.proofs.plans.Begun.classes.Given as goal
+use Rattle.in_simple_deriving.proofs.plans.BegunPlan.classes.Given as goal
 
 abbrev pub invariant-loop-port : goal.invariant-loop-port
 invariant-loop-port l = record {

@@ -3,7 +3,7 @@ use Rattle.in_simple_deriving.specs.Progress.{PlansNet, Progress}
 use Rattle.in_open_nets.specs.Stuck.{ports_of}
 use Rattle.in_simple_deriving.proofs.Stages.{waits}
 use Rattle.in_simple_deriving.proofs.Waiting.{Comes, NoneLeft}
-use Rattle.in_simple_deriving.proofs.plans.Joined.wait.Goals as goal
+use Rattle.in_simple_deriving.proofs.plans.JoinedPlan.wait.Goals as goal
 
 pub invariant_of-result : goal.invariant_of-result
 invariant_of-result c =

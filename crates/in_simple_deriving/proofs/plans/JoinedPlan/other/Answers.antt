@@ -2,7 +2,7 @@ use Rattle.std.proofs.Common.{◌≡◌, ◌+◌, suc, sym, subst}
 use Rattle.in_simple_deriving.specs.Progress.{PlansNet, Progress}
 use Rattle.in_open_nets.specs.Stuck.{ports_of}
 use Rattle.in_simple_deriving.proofs.Stages.{joins_node}
-use Rattle.in_simple_deriving.proofs.plans.Joined.other.Goals as goal
+use Rattle.in_simple_deriving.proofs.plans.JoinedPlan.other.Goals as goal
 
 pub invariant_of-result : goal.invariant_of-result
 invariant_of-result c =

@@ -3,7 +3,7 @@ use Rattle.in_open_nets.specs.OpenNets.{IsClass}
 use Rattle.in_simple_deriving.specs.Progress.{PlansNet, Progress, progress, until}
 use Rattle.in_open_nets.specs.Stuck.{ports_of}
 use Rattle.in_simple_deriving.proofs.Stages.{gives, past_ports}
-use Rattle.in_simple_deriving.proofs.plans.Begun.class.Goals as goal
+use Rattle.in_simple_deriving.proofs.plans.BegunPlan.class.Goals as goal
 
 pub invariant_of-joined : goal.invariant_of-joined
 invariant_of-joined c =
