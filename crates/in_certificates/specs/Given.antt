@@ -8,12 +8,16 @@ use Rattle.in_certificates.specs.declared.given.GivenStep.{GivenStep}
 abbrev pub some_of : List ℕ → ℕ → ℕ → Option (List ℕ)
 some_of parts from count = if nat_le (from + count) (length parts) then Some (slice_range parts from (from + count)) else None
 
+-- what given numbers make of a step that lists parts
+abbrev pub StepReading : Type 0
+StepReading = List ℕ → GivenStep → Option Step
+
 -- an agent with the steps of its classes
-abbrev pub graft_of : List ℕ → GivenStep → Option Step
+abbrev pub graft_of : StepReading
 graft_of parts g = option_map (Graft g.first) (some_of parts g.second g.third)
 
 -- the step of that kind
-abbrev pub step_of : List ℕ → GivenStep → Option Step
+abbrev pub step_of : StepReading
 step_of parts g =
     if g.kind == 0 then Some Empty
     else (if g.kind == 1 then Some (Link g.first)

@@ -6,15 +6,15 @@ use Rattle.in_syntax.specs.declared.tree.Source.{Source}
 use Rattle.in_syntax.specs.Parsing.{IsOfText, Parses}
 use Rattle.in_symbols.specs.Tables.{Tabulates}
 use Rattle.in_net.specs.Built.{Builds}
-use Rattle.in_check.specs.declared.checking.Declared.{Declared}
+use Rattle.in_check.specs.declared.checking.DeclaredText.{DeclaredText}
 use Rattle.in_check.specs.Checking.{AreOfText, BuildsRules, ChecksNames, ChecksNet, ChecksRules, ChecksTypes, DeclaresNames, DeclaresText, IsChecked}
 use Rattle.in_check.specs.Programs.{Program}
 use Rattle.in_check.proofs.Chain.{chain_of, then_rest}
 
 -- all that is declared is of one tree
-pub declared_of : (s : Source) (d : Declared) → IsOfText s → DeclaresNames s (Ok d) → AreOfText d.symbols d.rules d.net
+pub declared_of : (s : Source) (d : DeclaredText) → IsOfText s → DeclaresNames s (Ok d) → AreOfText d.symbols d.rules d.net
 declared_of s d tree (t, tabulates, (rules, builds_rules, (n, builds, e))) =
-    subst (λ (z : Declared). AreOfText z.symbols z.rules z.net) (sym e) (record {
+    subst (λ (z : DeclaredText). AreOfText z.symbols z.rules z.net) (sym e) (record {
       source = s;
       tree = tree;
       tabulates = tabulates;
@@ -23,9 +23,9 @@ declared_of s d tree (t, tabulates, (rules, builds_rules, (n, builds, e))) =
     })
 
 -- a tree that declares, and the passes over that
-pub names_checked : (s : Source) (d : Declared) (x : Result Program Fault) → DeclaresNames s (Ok d) → ChecksTypes d.symbols d.rules d.net x → ChecksNames s x
+pub names_checked : (s : Source) (d : DeclaredText) (x : Result Program Fault) → DeclaresNames s (Ok d) → ChecksTypes d.symbols d.rules d.net x → ChecksNames s x
 names_checked s d x (t, tabulates, (rules, builds_rules, (n, builds, e))) h =
-    let typed : ChecksTypes t rules n x = subst (λ (z : Declared). ChecksTypes z.symbols z.rules z.net x) e h in
+    let typed : ChecksTypes t rules n x = subst (λ (z : DeclaredText). ChecksTypes z.symbols z.rules z.net x) e h in
     then_rest (Tabulates s) (ChecksRules s) t x tabulates
     (then_rest (BuildsRules s t) (ChecksNet s t) rules x builds_rules
     (then_rest (Builds s t) (ChecksTypes t rules) n x builds typed))
@@ -39,10 +39,10 @@ names_refused s (Refused r) (inr (t, tabulates, inr (rules, builds_rules, inr (n
 names_refused s (Memory e) h = tt
 
 -- the same of a text
-pub text_declared : (text : List ℕ) (d : Declared) → DeclaresText text (Ok d) → AreOfText d.symbols d.rules d.net
+pub text_declared : (text : List ℕ) (d : DeclaredText) → DeclaresText text (Ok d) → AreOfText d.symbols d.rules d.net
 text_declared text d (s, parses, h) = declared_of s d (record { text = text; tree = parses }) h
 
-pub text_checked : (text : List ℕ) (d : Declared) (x : Result Program Fault) → DeclaresText text (Ok d) → ChecksTypes d.symbols d.rules d.net x → IsChecked text x
+pub text_checked : (text : List ℕ) (d : DeclaredText) (x : Result Program Fault) → DeclaresText text (Ok d) → ChecksTypes d.symbols d.rules d.net x → IsChecked text x
 text_checked text d x (s, parses, h) typed = chain_of text x (then_rest (Parses text) ChecksNames s x parses (names_checked s d x h typed))
 
 pub text_refused : (text : List ℕ) (e : Fault) → DeclaresText text (Err e) → IsChecked text (Err e)

@@ -10,7 +10,7 @@ use Rattle.in_syntax.specs.Answers.{IsOne, IsOneBy}
 use Rattle.in_syntax.proofs.Public.{same_refusal}
 use Rattle.in_symbols.specs.Tables.{Tables}
 use Rattle.in_net.specs.Parts.{Parts}
-use Rattle.in_net.specs.Rules.{RuleParts, BuildsRule}
+use Rattle.in_net.specs.Rules.{RuleParts, RulesProperty, BuildsRule}
 use Rattle.in_typing.specs.Typed.{TypesRule, IsRuleMistyped}
 use Rattle.in_typing.proofs.Public.{one_mistyped, one_rule_mistyped, rule_not_both}
 use Rattle.in_open_nets.specs.OpenNets.{OpenNet, IsOpenNet}
@@ -103,7 +103,7 @@ one_certified P code net one (Err (Refused q)) (Err (Refused r)) h k = one_refus
 one_certified P code net one (Err (Refused q)) (Err (Memory e)) h k = tt
 one_certified P code net one (Err (Memory e)) b h k = tt
 
-abbrev pub AllOne : Tables → List RuleParts → Type 0
+abbrev pub AllOne : RulesProperty
 AllOne t rules = (i : ℕ) (p : RuleParts) → slice_get rules i ≡ Some p → IsOne (CertifiesRule t p)
 
 pub one_rules_steps : (t : Tables) (rules : List RuleParts) → AllOne t rules → IsOne (CertifiesRules t rules)

@@ -16,7 +16,7 @@ use Rattle.in_typing.specs.Typed.{Types, TypesRule}
 use Rattle.in_cover.specs.Table.{Cells}
 use Rattle.in_cover.specs.Cover.{Covers}
 use Rattle.in_check.specs.declared.checked.Certificate.{Certificate}
-use Rattle.in_check.specs.declared.checking.Declared.{Declared}
+use Rattle.in_check.specs.declared.checking.DeclaredText.{DeclaredText}
 use Rattle.in_check.specs.Certificates.{CertifiesRules, CertifiesNet}
 use Rattle.in_check.specs.Programs.{Program}
 
@@ -105,21 +105,21 @@ IsChecked text = Then (Parses text) ChecksNames
 
 -- ---- what a text declares, before the passes over it
 
-abbrev pub KeepsDeclared : Tables → List RuleParts → Parts → Result Declared Fault → Type 0
+abbrev pub KeepsDeclared : Tables → List RuleParts → Parts → Result DeclaredText Fault → Type 0
 KeepsDeclared t rules n (Ok d) = d ≡ record { symbols = t; rules = rules; net = n }
 KeepsDeclared t rules n (Err (Refused r)) = ⊥
 KeepsDeclared t rules n (Err (Memory e)) = Unit {0}
 
-abbrev pub DeclaresNet : Source → Tables → List RuleParts → Result Declared Fault → Type 0
+abbrev pub DeclaresNet : Source → Tables → List RuleParts → Result DeclaredText Fault → Type 0
 DeclaresNet s t rules = Then (Builds s t) (KeepsDeclared t rules)
 
-abbrev pub DeclaresRules : Source → Tables → Result Declared Fault → Type 0
+abbrev pub DeclaresRules : Source → Tables → Result DeclaredText Fault → Type 0
 DeclaresRules s t = Then (BuildsRules s t) (DeclaresNet s t)
 
-abbrev pub DeclaresNames : Source → Result Declared Fault → Type 0
+abbrev pub DeclaresNames : Source → Result DeclaredText Fault → Type 0
 DeclaresNames s = Then (Tabulates s) (DeclaresRules s)
 
-abbrev pub DeclaresText : List ℕ → Result Declared Fault → Type 0
+abbrev pub DeclaresText : List ℕ → Result DeclaredText Fault → Type 0
 DeclaresText text = Then (Parses text) DeclaresNames
 
 -- ---- all passes

@@ -84,10 +84,15 @@ abbrev pub PlainStepsAreOne : Type 0
 PlainStepsAreOne = (text : List ℕ) (p q r : PlainParts) (a b : AgentNo) → IsAccepted text p.program → IsPlain p → IsPairAt p a b → count_by is_some p.net.cells ≤ most_agents →
     IsWhole q.net → IsWhole r.net → StepsTo p a b q → StepsTo p a b r → q ≡ r
 
--- of an accepted program, each active pair matches, and each rule that is for its symbols, in whichever order, is for them in this one
+-- an active pair matches, and each rule that is for its symbols, in whichever order, is for them in this one
+abbrev pub HasItsRules : (p : PlainParts) (a b : AgentNo) → IsPairAt p a b → Type 0
+HasItsRules p a b at =
+    IsPair p.program.tables at.first.0 at.second.0 × ((i : ℕ) (r : RuleParts) → slice_get p.program.rules i ≡ Some r → IsRuleOfSymbols r at.first.0 at.second.0 → IsRuleAt p a b i r)
+
+-- each active pair of an accepted program is so
 abbrev pub PairsHaveTheirRule : Type 0
 PairsHaveTheirRule = (text : List ℕ) (p : PlainParts) (a b : AgentNo) → IsAccepted text p.program → IsPlain p → (at : IsPairAt p a b) →
-    IsPair p.program.tables at.first.0 at.second.0 × ((i : ℕ) (r : RuleParts) → slice_get p.program.rules i ≡ Some r → IsRuleOfSymbols r at.first.0 at.second.0 → IsRuleAt p a b i r)
+    HasItsRules p a b at
 
 -- .. and what is reached is as promised
 abbrev pub PlainAsPromised : Type 0

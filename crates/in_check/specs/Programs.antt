@@ -5,7 +5,7 @@ use Rattle.in_net.specs.Parts.{Parts}
 use Rattle.in_net.specs.Rules.{RuleParts}
 use Rattle.in_cover.specs.Table.{Cells}
 use Rattle.in_check.specs.declared.checked.Certificate.{Certificate}
-use Rattle.in_check.specs.declared.checked.Counts.{Counts}
+use Rattle.in_check.specs.declared.checked.ProgramCounts.{ProgramCounts}
 use Rattle.in_check.specs.declared.checked.Item.{Item}
 use Rattle.in_check.specs.declared.checked.Item.TheVariants.{RuleItem, NetItem}
 
@@ -29,5 +29,5 @@ certificate_of p (RuleItem k) = slice_get p.rule_certificates k.0
 certificate_of p NetItem = Some p.net_certificate
 
 -- how many types and symbols the tables have, how many rules there are, and how many agents the net has
-abbrev pub counts_of : Program → Counts
+abbrev pub counts_of : Program → ProgramCounts
 counts_of p = record { types = length p.tables.types; symbols = length p.tables.names; rules = length p.rules; agents = count_by is_some p.net.cells }

@@ -1,6 +1,6 @@
 -- The nets that a program reaches: after any number of interactions, the agents under any names. Lafont 1990 reduces a net by interactions,
 -- one active pair after another, and takes nets up to the names of their agents.
-use Rattle.std.specs.Prelude.{◌≡◌, ℕ, zero, suc, Some, slice_get}
+use Rattle.std.specs.Prelude.{◌≡◌, ◌≢◌, ℕ, zero, suc, Some, slice_get}
 use Rattle.in_net.specs.Interactions.{Redex, IsStep}
 use Rattle.in_net.specs.Nets.{Port, Net}
 pub use Rattle.in_net.specs.Renaming.{renamed, IsRenamed}
@@ -32,5 +32,5 @@ pub data Reached {A : Type 0} (p : System) : ℕ → Net A → Type 0 where
   then_renamed : (k : ℕ) (n : Net A) (f : A → A) (m : Net A) → Reached p k n → IsRenamed f n m → Reached p k m
 
 -- the run has ended: no two principal ports are one wire
-abbrev pub HasEnded : {A : Type 0} → Net A → Type 0
-HasEnded {A} n = (x y : A) → n.partner (Port x 0) ≡ Some (Port y 0) → ⊥
+pub record HasEnded {A : Type 0} (n : Net A) : Type 0 where
+  pub no_pair : (x y : A) → n.partner (Port x 0) ≢ Some (Port y 0)

@@ -13,7 +13,7 @@ use std::marker::Model;
 
 /// How much an accepted program has: types, symbols, rules, and agents of its initial net.
 #[derive(Clone, Copy, Debug, PartialEq, Eq)]
-pub struct Counts {
+pub struct ProgramCounts {
     pub types: u32,
     pub symbols: u32,
     pub rules: u32,
@@ -165,10 +165,10 @@ impl Checked {
     }
 
     /// How much the program has.
-    pub fn counts(&self) -> Counts
+    pub fn counts(&self) -> ProgramCounts
         ensures { result ≡ counts_of self.now }
     {
-        Counts {
+        ProgramCounts {
             types: self.passed.symbols.types(),
             symbols: self.passed.symbols.symbols(),
             rules: self.rules(),

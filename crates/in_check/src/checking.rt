@@ -5,8 +5,8 @@
 //! | `declare_text` | `parse` | the text | its tree, `Source` | E01, E02, E03 |
 //! | `declare` | `Symbols::build` | the tree | the tables of names, `Symbols` | E04, E05, E06 |
 //! | `declare_rules` | `build_rule` of each rule | the tree, the tables | each `Rule`: two heads and a right member | E03, E07, E08, E09 |
-//! | `declare_net` | `build_net` | the tree, the tables | the `Net`, and with what came before `Declared` | E03, E07, E08, E09 |
-//! | `check_types` | `type_rule` of each rule, `type_net` | `Declared` | nothing: its types fit | E11, E10 |
+//! | `declare_net` | `build_net` | the tree, the tables | the `Net`, and with what came before `DeclaredText` | E03, E07, E08, E09 |
+//! | `check_types` | `type_rule` of each rule, `type_net` | `DeclaredText` | nothing: its types fit | E11, E10 |
 //! | `check_pairs` | `cover` | the tables, the rules | the number of the rule of each pair, `RuleTable` | E14, E15 |
 //! | `check_rule_steps` | `open_rule` and `derive` of each rule | the tables, the rules | the steps of each rule, `Certificate` | E12 |
 //! | `check_net_steps` | `open_net` and `derive` | the tables, the net | the steps of the net, and with all that was given `Passed` | E13 |
@@ -42,7 +42,7 @@ use std::alloc::{AllocError, Global};
 
 /// The parts of a text: its tables, its rules and its net.
 #[derive(Drop)]
-struct Declared {
+struct DeclaredText {
     symbols: Symbols,
     rules: Items<Rule>,
     net: Net,
@@ -101,7 +101,7 @@ fn type_pass(symbols: &Symbols, rules: &[Rule], net: &Net) -> Result<(), Fault>
 /// Derives the net, and puts the results of all passes together.
 fn check_net_steps(
     alloc: Global,
-    declared: Declared,
+    declared: DeclaredText,
     numbers: RuleTable,
     rule_certificates: Items<Certificate>,
     evidence: &mut Option<Evidence>,
@@ -111,7 +111,7 @@ fn check_net_steps(
 {
     match certify_net(alloc, &declared.symbols, &declared.net, evidence) {
         Ok(net_certificate) => {
-            let Declared {
+            let DeclaredText {
                 symbols,
                 rules,
                 net,
@@ -135,7 +135,7 @@ fn check_net_steps(
 /// The steps of the rules.
 fn rule_steps(
     alloc: Global,
-    declared: &Declared,
+    declared: &DeclaredText,
     evidence: &mut Option<Evidence>,
 ) -> Result<Items<Certificate>, Fault>
     requires { AreOfText declared.now.symbols declared.now.rules declared.now.net }
@@ -152,7 +152,7 @@ fn rule_steps(
 /// The steps of the rules, and then those of the net.
 fn check_rule_steps(
     alloc: Global,
-    declared: Declared,
+    declared: DeclaredText,
     numbers: RuleTable,
     evidence: &mut Option<Evidence>,
 ) -> Result<Passed, Fault>
@@ -171,7 +171,7 @@ fn check_rule_steps(
 /// One rule for each pair, and then the steps.
 fn check_pairs(
     alloc: Global,
-    declared: Declared,
+    declared: DeclaredText,
     evidence: &mut Option<Evidence>,
 ) -> Result<Passed, Fault>
     requires text { AreOfText declared.symbols declared.rules declared.net }
@@ -188,7 +188,7 @@ fn check_pairs(
 }
 
 /// The ends of the wire that a fault is about, where it is one of types.
-fn misfit_of(declared: &Declared, fault: &Fault) -> Option<Evidence> {
+fn misfit_of(declared: &DeclaredText, fault: &Fault) -> Option<Evidence> {
     match fault {
         Fault::Refused(
             Refusal {
@@ -208,7 +208,7 @@ fn misfit_of(declared: &Declared, fault: &Fault) -> Option<Evidence> {
 /// The types, and then one rule for each pair and the steps.
 fn check_types(
     alloc: Global,
-    declared: Declared,
+    declared: DeclaredText,
     evidence: &mut Option<Evidence>,
 ) -> Result<Passed, Fault>
     requires { AreOfText declared.symbols declared.rules declared.net }
@@ -231,14 +231,14 @@ fn declare_net(
     source: &Source,
     symbols: Symbols,
     rules: Items<Rule>,
-) -> Result<Declared, Fault>
+) -> Result<DeclaredText, Fault>
     requires tree { IsOfText source.now }
     requires tables { Tabulates source.now (Ok symbols) }
     requires rules { BuildsRules source.now symbols (Ok rules) }
     ensures { DeclaresNet source.now symbols rules result }
 {
     match build_net(alloc, source, &symbols) {
-        Ok(net) => Ok(Declared {
+        Ok(net) => Ok(DeclaredText {
             symbols,
             rules,
             net,
@@ -251,7 +251,7 @@ fn declare_net(
 }
 
 /// The rules, and then the net.
-fn declare_rules(alloc: Global, source: &Source, symbols: Symbols) -> Result<Declared, Fault>
+fn declare_rules(alloc: Global, source: &Source, symbols: Symbols) -> Result<DeclaredText, Fault>
     requires tree { IsOfText source.now }
     requires tables { Tabulates source.now (Ok symbols) }
     ensures { DeclaresRules source.now symbols result }
@@ -266,7 +266,7 @@ fn declare_rules(alloc: Global, source: &Source, symbols: Symbols) -> Result<Dec
 }
 
 /// The names, and then the rules and the net.
-fn declare(alloc: Global, source: &Source) -> Result<Declared, Fault>
+fn declare(alloc: Global, source: &Source) -> Result<DeclaredText, Fault>
     requires { IsOfText source.now }
     ensures { DeclaresNames source.now result }
 {
@@ -277,7 +277,7 @@ fn declare(alloc: Global, source: &Source) -> Result<Declared, Fault>
 }
 
 /// The tree, and then all that it declares, which outlasts it: later passes take their memory when the tree's is given back.
-fn declare_text(alloc: Global, text: &[u8]) -> Result<Declared, Fault>
+fn declare_text(alloc: Global, text: &[u8]) -> Result<DeclaredText, Fault>
     ensures { DeclaresText text.now result }
 {
     match parse(alloc, text) {

@@ -17,7 +17,7 @@ mod misfits;
 mod plain;
 
 pub use certifying::{Evidence, StuckPart};
-pub use checked::{Certificate, Checked, Counts, Item};
+pub use checked::{Certificate, Checked, Item, ProgramCounts};
 pub use checking::{check, refusal_of};
 pub use misfits::{Misfit, WireEnd};
 pub use plain::Plain;

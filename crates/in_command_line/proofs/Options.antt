@@ -240,19 +240,15 @@ has_beside_flags : (other : Text) (rows : List Row) → has_row other rows ≡ t
 has_beside_flags other rows has = has_beside other (codes "stats") (with_default rows no_net_rule) (has_beside other (codes "no-net") rows has)
 
 -- neither the file nor the help flag has one
+either_way : (b : Bool) (rows : List Row) → cond b rows rows ≡ rows
+either_way true rows = refl
+either_way false rows = refl
+
 with_file : (rows : List Row) → with_default rows file_rule ≡ rows
-with_file rows = go (has_row (codes "file") rows)
-  where
-    go : (b : Bool) → cond b rows rows ≡ rows
-    go true = refl
-    go false = refl
+with_file rows = either_way (has_row (codes "file") rows) rows
 
 with_help : (rows : List Row) → with_default rows help_flag ≡ rows
-with_help rows = go (has_row (codes "help") rows)
-  where
-    go : (b : Bool) → cond b rows rows ≡ rows
-    go true = refl
-    go false = refl
+with_help rows = either_way (has_row (codes "help") rows) rows
 
 -- ---- the numbers
 

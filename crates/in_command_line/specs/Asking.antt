@@ -97,15 +97,18 @@ abbrev pub IsOptionGiven : Text → List Row → Option ℕ → Type 0
 IsOptionGiven name options (Some n) = IsNumber name options n
 IsOptionGiven name options None = (n : ℕ) → n < 2 ^ 32 → IsNumber name options n → ⊥
 
+abbrev pub HasNoLimits : List Row → Type 0
+HasNoLimits options = (l : Limits) → HasLimits options l → ⊥
+
 -- the limits that the options give, if they give any
 abbrev pub AreGiven : List Row → Option Limits → Type 0
 AreGiven options (Some l) = HasLimits options l
-AreGiven options None = (l : Limits) → HasLimits options l → ⊥
+AreGiven options None = HasNoLimits options
 
 -- the run that the options ask for, if they have limits
 abbrev pub IsRunNamed : List Row → Option Action → Type 0
 IsRunNamed options (Some a) = Names (codes "run") options a
-IsRunNamed options None = (l : Limits) → HasLimits options l → ⊥
+IsRunNamed options None = HasNoLimits options
 
 -- the action that a subcommand names, if it names one
 abbrev pub IsNamed : Text → List Row → Option Action → Type 0

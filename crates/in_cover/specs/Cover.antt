@@ -97,9 +97,13 @@ pub record IsFirstMissing (t : Tables) (rules : List RuleParts) (refusal : Refus
 
 -- ---- what is answered
 
+-- what is answered on rules over tables
+abbrev pub RulesAnswer : Type 1
+RulesAnswer = Tables → List RuleParts → Result Cells Fault → Type 0
+
 -- Ok exactly when the rules are complete, and then the table is theirs; else refused for the first second rule, or, if there is none, for the first
 -- pair without a rule
-abbrev pub Covers : Tables → List RuleParts → Result Cells Fault → Type 0
+abbrev pub Covers : RulesAnswer
 Covers t rules (Ok table) = IsComplete t rules × IsTableOf t rules table
 Covers t rules (Err (Refused r)) = IsFirstSecond rules r ⊎ (HasNoSecond rules × IsFirstMissing t rules r)
 Covers t rules (Err (Memory e)) = Unit {0}

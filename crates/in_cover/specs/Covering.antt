@@ -1,12 +1,11 @@
 -- The results of the parts of the search for a complete table.
-use Rattle.std.specs.Prelude.{◌≡◌, ◌↔◌, ℕ, ◌<◌, Bool, true, false, List, length, Option, Some, None, IsSome, Result, Ok, Err}
-use Rattle.in_syntax.specs.declared.faults.Fault.{Fault}
+use Rattle.std.specs.Prelude.{◌≡◌, ◌↔◌, ℕ, ◌<◌, Bool, true, false, List, length, Option, Some, None, IsSome, Ok, Err}
 use Rattle.in_syntax.specs.declared.faults.Fault.TheVariants.{Refused, Memory}
 use Rattle.in_symbols.specs.declared.symbols.SymbolNo.{SymbolNo}
 use Rattle.in_symbols.specs.Tables.{Tables, matching}
 use Rattle.in_net.specs.Rules.{RuleParts}
 use Rattle.in_cover.specs.declared.table.RuleNo.{RuleNo}
-use Rattle.in_cover.specs.Cover.{IsRuleFor, HasNoSecond, IsFirstSecond}
+use Rattle.in_cover.specs.Cover.{RulesAnswer, IsRuleFor, HasNoSecond, IsFirstSecond}
 use Rattle.in_cover.specs.Table.{Cells, rule_at}
 
 pub record HasNoRule (size : ℕ) (t : Cells) : Type 0 where
@@ -34,7 +33,7 @@ AddsRule old k c d new false = IsSome (rule_at old c d) × (new ≡ old)
 abbrev pub HoldsBelow : List RuleParts → ℕ → Cells → Type 0
 HoldsBelow rules n table = (c d : ℕ) (k : RuleNo) → (rule_at table c d ≡ Some k) ↔ ((k.0 < n) × IsRuleFor rules k.0 c d)
 
-abbrev pub NumbersRules : Tables → List RuleParts → Result Cells Fault → Type 0
+abbrev pub NumbersRules : RulesAnswer
 NumbersRules t rules (Ok table) = (table.size ≡ length t.names) × HoldsBelow rules (length rules) table × HasNoSecond rules
 NumbersRules t rules (Err (Refused r)) = IsFirstSecond rules r
 NumbersRules t rules (Err (Memory e)) = Unit {0}

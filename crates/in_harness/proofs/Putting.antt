@@ -9,7 +9,7 @@ use Rattle.in_rounds.specs.Dones.{DoneParts}
 use Rattle.in_rounds.specs.Gathers.{GatherParts, Puts, TakesDone, bags_of}
 use Rattle.in_rounds.specs.Holding.{HaveAllLeased, Returns, holders}
 use Rattle.in_rounds.specs.Laws.{Shares}
-use Rattle.in_rounds.specs.declared.gather.Slot.{Slot}
+use Rattle.in_rounds.specs.declared.gather.JobState.{JobState}
 use Rattle.in_rounds.proofs.Public.{same_have_all, one_less, bags_are_of_one, holders-cons, left_have_all, none_leased_by, put_all}
 use Rattle.in_rounds.proofs.Public.{put_holders, take_all, take_holders, one_of_one}
 
@@ -42,9 +42,9 @@ module _ (s s' : StockParts) (d : DoneParts) (g : GatherParts) (a : ArenaView) (
       let rest = All-tail (AreOfOne a) s.bag (bags_of g.slots) one in
       same_have_all (bag ∷ s'.bag ∷ bags_of g.slots) (s'.bag ∷ bags_of h.slots) a in_hand
       (All-cons (AreOfOne a) s'.bag (bags_of h.slots) (one_of_one a s.bag s'.bag here of_stock)
-      (subst (λ (z : List Slot). All (AreOfOne a) (bags_of z)) (sym slots) (put_all (AreOfOne a) g.slots d.job d (one_of_one a s.bag bag here of_done) rest)))
+      (subst (λ (z : List JobState). All (AreOfOne a) (bags_of z)) (sym slots) (put_all (AreOfOne a) g.slots d.job d (one_of_one a s.bag bag here of_done) rest)))
       (λ n.
-      let put = ap (λ (z : List Slot). holders n (bags_of z)) slots ∙ put_holders n g.slots d.job d puts.1 in
+      let put = ap (λ (z : List JobState). holders n (bags_of z)) slots ∙ put_holders n g.slots d.job d puts.1 in
       let first = holders-cons n bag (s'.bag ∷ bags_of g.slots) in
       let second = holders-cons n s'.bag (bags_of g.slots) in
       let new = holders-cons n s'.bag (bags_of h.slots) in
@@ -59,10 +59,10 @@ taken_in_hand s d g h job a have takes =
     let parts = take_all (AreOfOne a) g.slots job d takes.0 (All-tail (AreOfOne a) s.bag (bags_of g.slots) one) in
     same_have_all (s.bag ∷ bags_of g.slots) (bag ∷ s.bag ∷ bags_of h.slots) a have
     (All-cons (AreOfOne a) bag (s.bag ∷ bags_of h.slots) parts.0
-    (All-cons (AreOfOne a) s.bag (bags_of h.slots) (All-head (AreOfOne a) s.bag (bags_of g.slots) one) (subst (λ (z : List Slot). All (AreOfOne a) (bags_of z)) (sym slots) parts.1)))
+    (All-cons (AreOfOne a) s.bag (bags_of h.slots) (All-head (AreOfOne a) s.bag (bags_of g.slots) one) (subst (λ (z : List JobState). All (AreOfOne a) (bags_of z)) (sym slots) parts.1)))
     (λ n.
     let take = take_holders n g.slots job d takes.0 in
-    let now = ap (λ (z : List Slot). holders n (bags_of z)) slots in
+    let now = ap (λ (z : List JobState). holders n (bags_of z)) slots in
     let first = holders-cons n bag (s.bag ∷ bags_of h.slots) in
     let second = holders-cons n s.bag (bags_of h.slots) in
     let old = holders-cons n s.bag (bags_of g.slots) in

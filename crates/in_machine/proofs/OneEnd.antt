@@ -21,8 +21,8 @@ use Rattle.in_machine.specs.MachineLaws.{NormalEndsAreOne}
 
 -- a net whose queue is empty has no active pair
 ended_by : (n : Net ℕ) (queue : List (ℕ × ℕ)) → IsQueue n queue → queue ≡ [] → HasEnded n
-ended_by n [] h same x y e = h.all x y e
-ended_by n (q ∷ qs) h same x y e = cc
+ended_by n [] h same = record { no_pair = λ x y e. h.all x y e }
+ended_by n (q ∷ qs) h same = absurd (let wrong : ◌≡◌ {A = List (ℕ × ℕ)} (q ∷ qs) [] = same in cc)
 
 -- free ends of the same names
 pub free_names : (n m : Parts) → map (λ f. f.name) n.free ≡ map (λ f. f.name) m.free → (k : ℕ) → free_name_in n k ≡ free_name_in m k

@@ -4,7 +4,7 @@ use Rattle.std.specs.List.{AllByRecursion}
 use Rattle.in_syntax.specs.declared.places.Place.{Place}
 use Rattle.in_syntax.specs.Refusals.{earlier}
 use Rattle.in_net.specs.declared.reading.Spot.{Spot}
-use Rattle.in_net.specs.declared.reading.Joint.{Joint}
+use Rattle.in_net.specs.declared.reading.TextJoint.{TextJoint}
 use Rattle.in_net.specs.declared.reading.Reading.{Reading}
 use Rattle.in_net.specs.declared.joining.Link.{Link}
 use Rattle.in_net.specs.declared.joining.Joining.{Joining}
@@ -31,7 +31,7 @@ no_link = record { to = 0; place = record { from = 0; to = 0; line = 0; col = 0 
 abbrev pub with_link : List Link → ℕ → ℕ → Place → List Link
 with_link links one other place = slice_set (slice_set links one (record { to = other; place = place })) other (record { to = one; place = place })
 
-abbrev pub with_joints : List Link → List Joint → List Link
+abbrev pub with_joints : List Link → List TextJoint → List Link
 with_joints links [] = links
 with_joints links (j ∷ js) = with_joints (with_link links (j.one + j.port) j.other j.place) js
 
@@ -86,7 +86,7 @@ joined_spots r = record { links = (joining_of r).links; closed = (joining_of r).
 
 -- ---- numbers are in range
 
-abbrev pub JointsInside : ℕ → List Joint → Type 0
+abbrev pub JointsInside : ℕ → List TextJoint → Type 0
 JointsInside spots = AllByRecursion (λ j. (j.one + j.port < spots) × (j.other < spots))
 
 abbrev pub LinksInside : List Link → Type 0

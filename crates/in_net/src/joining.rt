@@ -3,7 +3,7 @@ ghost use Rattle.in_net.specs.Counting.{IsNameInside, NamesInside, IsSeenInside}
 ghost use Rattle.in_net.specs.Joining.{self_links, with_link, with_joints, merged, met, later_of, not_named, joins, joins_from, joined_spots, JointsInside, LinksInside, IsJoiningInside};
 
 use crate::counting::{Seen, name_of, once_more, unseen};
-use crate::reading::{Joint, Reading, Spot};
+use crate::reading::{Reading, Spot, TextJoint};
 use in_syntax::{Place, with_room};
 use sqlite_items::Items;
 use std::alloc::{AllocError, Global};
@@ -45,7 +45,7 @@ fn connect(links: &mut Items<Link>, one: usize, other: usize, place: Place)
 }
 
 /// Joins the spots of each joint.
-fn join_joints(links: &mut Items<Link>, joints: &[Joint])
+fn join_joints(links: &mut Items<Link>, joints: &[TextJoint])
     requires joints { JointsInside (length links.old) joints.now }
     requires count { length links.old < 2 ^ 64 }
     ensures { links.new ≡ with_joints links.old joints.now }

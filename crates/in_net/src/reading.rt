@@ -33,7 +33,7 @@ pub(crate) struct Agent {
 /// token, a head's term and its boundary end at the term's first token. The first of them is a number of spots after `one`: the agent's principal
 /// port, the head's first boundary end, or the term's spot.
 #[derive(Clone, Copy)]
-pub(crate) struct Joint {
+pub(crate) struct TextJoint {
     pub(crate) one: usize,
     pub(crate) port: usize,
     pub(crate) other: usize,
@@ -45,7 +45,7 @@ pub(crate) struct Joint {
 pub(crate) struct Reading {
     pub(crate) spots: Items<Spot>,
     pub(crate) agents: Items<Agent>,
-    pub(crate) joints: Items<Joint>,
+    pub(crate) joints: Items<TextJoint>,
     pub(crate) names: Names,
 }
 
@@ -188,7 +188,7 @@ impl Visitor for NetReader<'_> {
         number: usize,
         argument: ReadTerm,
     ) -> Result<(), AllocError> {
-        self.reading.joints.push(Joint {
+        self.reading.joints.push(TextJoint {
             one: of.spot,
             port: if of.is_head { number } else { number + 1 },
             other: argument.spot,
@@ -202,7 +202,7 @@ impl Visitor for NetReader<'_> {
         right: ReadTerm,
         tilde: Place,
     ) -> Result<(), AllocError> {
-        self.reading.joints.push(Joint {
+        self.reading.joints.push(TextJoint {
             one: left.spot,
             port: 0,
             other: right.spot,

@@ -8,6 +8,7 @@ pub use Rattle.in_open_nets.proofs.Built.Grow.{Constructions, agent_or_class, cl
 pub use Rattle.in_open_nets.proofs.Reached.Links.{Decided, at_most, both_decided, least, link_back, link_first, link_join, link_map}
 pub use Rattle.in_open_nets.proofs.Reached.Links.{same_nat}
 pub use Rattle.in_open_nets.proofs.PartsOf.Members.{next_in, none_after, none_between, past, past_below, past_next}
+pub use Rattle.in_open_nets.proofs.Passages.{passage_to}
 pub use Rattle.in_open_nets.proofs.Splits.OkValues.{if_ok, if_ok_both}
 pub use Rattle.in_open_nets.proofs.Splits.OneAnswer.{one_listing}
 pub use Rattle.in_open_nets.proofs.Reached.OnePiece.{component_piece, joined_back, joined_on, missing_none}

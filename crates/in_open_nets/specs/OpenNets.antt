@@ -23,6 +23,10 @@ pub record OpenNet : Type 0 where
 abbrev pub open_of : List OpenNode → List (OpenPoint × OpenPoint) → ℕ → OpenNet
 open_of nodes wires free = record { nodes = nodes; wires = wires; free = free }
 
+-- a set of a net's nodes, by a test
+abbrev pub NodeTest : Type 0
+NodeTest = ℕ → Bool
+
 abbrev pub IsNode : OpenNet → ℕ → Type 0
 IsNode o n = n < length o.nodes
 
@@ -85,11 +89,11 @@ open_graph o = record { Node = ℕ; class = class_in o; Wire = λ u v. (w : ℕ)
 
 -- all its nodes together are built by the constructions, each once
 abbrev pub IsDerivable : OpenNet → Type 0
-IsDerivable o = (s : ℕ → Bool) × ((n : ℕ) → IsIn n s ↔ IsNode o n) × Built (open_graph o) (IsAgent o) (classes_of o) s
+IsDerivable o = (s : NodeTest) × ((n : ℕ) → IsIn n s ↔ IsNode o n) × Built (open_graph o) (IsAgent o) (classes_of o) s
 
 -- some node splits it, and with the first one taken out each component splits
 abbrev pub NetSplits : OpenNet → Type 0
-NetSplits o = (s : ℕ → Bool) × ((n : ℕ) → IsIn n s ↔ IsNode o n) × Splits (open_graph o) (λ m n. m < n) s
+NetSplits o = (s : NodeTest) × ((n : ℕ) → IsIn n s ↔ IsNode o n) × Splits (open_graph o) (λ m n. m < n) s
 
 -- ---- what the accessors read
 

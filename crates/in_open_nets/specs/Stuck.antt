@@ -1,6 +1,6 @@
 -- The first stuck sub-net. This project's own choice: the one that stops a procedure which takes the first splitting node out, and continues with
 -- each component that remains.
-use Rattle.std.specs.Prelude.{◌≡◌, ◌⊎◌, ◌↔◌, ℕ, suc, ◌+◌, ◌<◌, ◌≤◌, Bool, cond, nat_eq, List, [], ◌∷◌, length, slice_get, Some, None}
+use Rattle.std.specs.Prelude.{◌≡◌, ◌⊎◌, ◌↔◌, ℕ, suc, ◌+◌, ◌<◌, ◌≤◌, cond, nat_eq, List, [], ◌∷◌, length, slice_get, Some, None}
 use Rattle.in_syntax.specs.declared.places.Place.{Place}
 use Rattle.in_open_nets.specs.declared.derivations.Stuck.{Stuck as StuckNet}
 use Rattle.in_open_nets.specs.declared.derivations.Undone.{Undone}
@@ -9,11 +9,11 @@ use Rattle.in_open_nets.specs.declared.open_nets.Node.TheVariants.{AgentNode, Cl
 use Rattle.in_open_nets.specs.declared.open_nets.OpenPoint.TheVariants.{Port}
 use Rattle.in_open_nets.specs.Constructions.{IsIn}
 use Rattle.in_open_nets.specs.Splitting.{Without, IsComponent, IsFirstSplitting, Splits, IsStuck}
-use Rattle.in_open_nets.specs.OpenNets.{OpenNet, IsDerivable, IsNode, IsWire, node_place_in, open_graph}
+use Rattle.in_open_nets.specs.OpenNets.{OpenNet, NodeTest, IsDerivable, IsNode, IsWire, node_place_in, open_graph}
 
 module _ (o : OpenNet) (n : ℕ) where
   -- port i of n is wired to a node of c
-  abbrev pub Touches : (ℕ → Bool) → ℕ → Type 0
+  abbrev pub Touches : NodeTest → ℕ → Type 0
   Touches c i = (w : ℕ) × (l : ℕ) × (k : ℕ) × IsWire o w (Port n i) (Port l k) × IsIn l c
 
   abbrev pub ports_of : ℕ
@@ -24,32 +24,32 @@ module _ (o : OpenNet) (n : ℕ) where
   turn i = elim (slice_get o.nodes n) [ None ↦ i | Some m ↦ elim m.node [ AgentNode y ↦ cond (nat_eq i 0) (length m.class_of) i | ClassNode y c ↦ i ] ]
 
   -- the turn of a component: that of the first port of n that touches it; after these come those that n doesn't touch, by their first nodes
-  abbrev pub ComesAt : (ℕ → Bool) → ℕ → Type 0
+  abbrev pub ComesAt : NodeTest → ℕ → Type 0
   ComesAt c k = ((i : ℕ) × Touches c i × (turn i ≡ k) × ((j : ℕ) → Touches c j → k ≤ turn j))
       ⊎ (((i : ℕ) → Touches c i → ⊥) × ((m : ℕ) × IsIn m c × (suc ports_of + m ≡ k) × ((l : ℕ) → IsIn l c → m ≤ l)))
 
-module _ (o : OpenNet) (n : ℕ) (s : ℕ → Bool) where
+module _ (o : OpenNet) (n : ℕ) (s : NodeTest) where
   -- n is the first node of s, by number, that splits it
   abbrev pub IsFirstToSplit : Type 0
   IsFirstToSplit = IsFirstSplitting (open_graph o) (λ m n. m < n) n s
 
   -- c is a component of s with n taken out
-  abbrev pub IsPart : (ℕ → Bool) → Type 0
+  abbrev pub IsPart : NodeTest → Type 0
   IsPart c = IsComponent (open_graph o) (Without n s) c
 
   -- with n taken out of s, the components whose turns come before k split
   abbrev pub EarlierSplit : ℕ → Type 0
-  EarlierSplit k = (d : ℕ → Bool) (l : ℕ) → IsPart d → ComesAt o n d l → l < k → Splits (open_graph o) (λ m n. m < n) d
+  EarlierSplit k = (d : NodeTest) (l : ℕ) → IsPart d → ComesAt o n d l → l < k → Splits (open_graph o) (λ m n. m < n) d
 
 -- t is the first stuck sub-net of s: s, where it has nodes and none splits it; else that of the first component, with the first
 -- splitting node taken out, that doesn't split
-pub data FirstStuck (o : OpenNet) : (ℕ → Bool) → (ℕ → Bool) → Type 0 where
-  whole : (s : ℕ → Bool) → IsStuck (open_graph o) s → FirstStuck o s s
-  within : (s : ℕ → Bool) (n : ℕ) (c : ℕ → Bool) (k : ℕ) (t : ℕ → Bool) → IsFirstToSplit o n s → IsPart o n s c → ComesAt o n c k → EarlierSplit o n s k → FirstStuck o c t → FirstStuck o s t
+pub data FirstStuck (o : OpenNet) : NodeTest → NodeTest → Type 0 where
+  whole : (s : NodeTest) → IsStuck (open_graph o) s → FirstStuck o s s
+  within : (s : NodeTest) (n : ℕ) (c : NodeTest) (k : ℕ) (t : NodeTest) → IsFirstToSplit o n s → IsPart o n s c → ComesAt o n c k → EarlierSplit o n s k → FirstStuck o c t → FirstStuck o s t
 
 -- .. of the whole open net
-abbrev pub IsFirstStuck : OpenNet → (ℕ → Bool) → Type 0
-IsFirstStuck o t = (s : ℕ → Bool) × ((n : ℕ) → IsIn n s ↔ IsNode o n) × FirstStuck o s t
+abbrev pub IsFirstStuck : OpenNet → NodeTest → Type 0
+IsFirstStuck o t = (s : NodeTest) × ((n : ℕ) → IsIn n s ↔ IsNode o n) × FirstStuck o s t
 
 -- ---- the result
 
@@ -63,13 +63,13 @@ abbrev pub RisesThrough : ℕ → List ℕ → Type 0
 RisesThrough low [] = Unit {0}
 RisesThrough low (n ∷ ns) = (low ≤ n) × RisesThrough (suc n) ns
 
-pub record IsListed (set : ℕ → Bool) (ns : List ℕ) : Type 0 where
+pub record IsListed (set : NodeTest) (ns : List ℕ) : Type 0 where
   pub rises : RisesThrough 0 ns
   pub all : (n : ℕ) → IsIn n set ↔ Among n ns
 
 -- there is no derivation, and the nodes are those of the first stuck sub-net
 abbrev pub IsStuckNet : OpenNet → StuckNet → Type 0
-IsStuckNet o s = (IsDerivable o → ⊥) × ((t : ℕ → Bool) × IsFirstStuck o t × IsListed t s.nodes)
+IsStuckNet o s = (IsDerivable o → ⊥) × ((t : NodeTest) × IsFirstStuck o t × IsListed t s.nodes)
 
 abbrev pub IsUndone : OpenNet → Undone → Type 0
 IsUndone o (Stuck s) = IsStuckNet o s
@@ -77,7 +77,7 @@ IsUndone o (Memory e) = Unit {0}
 
 -- this is the place of the first node of the first stuck sub-net
 pub record IsStuckAt (o : OpenNet) (p : Place) : Type 0 where
-  pub stuck : ℕ → Bool
+  pub stuck : NodeTest
   pub is_first : IsFirstStuck o stuck
   pub node : ℕ
   pub here : IsIn node stuck

@@ -3,12 +3,10 @@ use Rattle.std.proofs.Common.{◌≡◌, ℕ, List, [], ◌∷◌, map, refl, sy
 use mathlib.Core.HLevel.{Discrete}
 use Rattle.in_open_nets_of_programs.specs.Maps.{IsMap}
 use Rattle.in_base.specs.Graphs.{Graph, Passage, entered, left, CrossingCircle}
+use Rattle.in_open_nets.proofs.Public.{passage_to}
 use Rattle.in_base.proofs.Circuits.{Walk, AreSeparate, Circuit, IsEntered, IsLeft, crossings_separate, circuit_of, shorten}
 
 module _ (g h : Graph) (f : g.Node × ℕ → h.Node × ℕ) (At : g.Node × ℕ → Type 0) (m : IsMap g h f At) (E L : g.Node × ℕ → Type 0) where
-  abbrev passage : Passage g.Node → Passage h.Node
-  passage p = record { node = (f (entered p)).0; enter = (f (entered p)).1; leave = (f (left p)).1 }
-
   -- the ports where those of P go
   abbrev Image : (g.Node × ℕ → Type 0) → h.Node × ℕ → Type 0
   Image P v = (u : g.Node × ℕ) × P u × At u × (f u ≡ v)
@@ -20,10 +18,10 @@ module _ (g h : Graph) (f : g.Node × ℕ → h.Node × ℕ) (At : g.Node × ℕ
   same_port : (u v : h.Node × ℕ) → u.0 ≡ v.0 → u.1 ≡ v.1 → u ≡ v
   same_port u v e d = ap (λ (a : h.Node). (a, u.1)) e ∙ ap (λ (b : ℕ). (v.0, b)) d
 
-  left_is : (p : Passage g.Node) → At (entered p) → At (left p) → f (left p) ≡ left (passage p)
-  left_is p a b = same_port (f (left p)) (left (passage p)) (m.onto (left p) (entered p) b a refl) refl
+  left_is : (p : Passage g.Node) → At (entered p) → At (left p) → f (left p) ≡ left (passage_to f p)
+  left_is p a b = same_port (f (left p)) (left (passage_to f p)) (m.onto (left p) (entered p) b a refl) refl
 
-  walk : (from to : g.Node × ℕ) (ps : List (Passage g.Node)) → Walk g E L from ps to → Walk h (Image E) (Image L) (f from) (map passage ps) (f to)
+  walk : (from to : g.Node × ℕ) (ps : List (Passage g.Node)) → Walk g E L from ps to → Walk h (Image E) (Image L) (f from) (map (passage_to f) ps) (f to)
   walk from to [] w = m.wire from to w
   walk from to (p ∷ ps) w =
       let a = (m.ends from (entered p) w.0).1 in
@@ -32,7 +30,7 @@ module _ (g h : Graph) (f : g.Node × ℕ → h.Node × ℕ) (At : g.Node × ℕ
         m.wire from (entered p) w.0,
         (entered p, w.1, a, refl),
         (left p, w.2, b, e),
-        subst (λ v. Walk h (Image E) (Image L) v (map passage ps) (f to)) e (walk (left p) to ps w.3),
+        subst (λ v. Walk h (Image E) (Image L) v (map (passage_to f) ps) (f to)) e (walk (left p) to ps w.3),
       )
 
   ends_at : (from to : g.Node × ℕ) (ps : List (Passage g.Node)) → Walk g E L from ps to → At to
@@ -45,11 +43,11 @@ module _ (g h : Graph) (f : g.Node × ℕ → h.Node × ℕ) (At : g.Node × ℕ
       let b = starts (left c.first) (entered c.first) c.rest c.closed in
       let e = left_is c.first a b in
       record {
-        first = passage c.first;
-        rest = map passage c.rest;
+        first = passage_to f c.first;
+        rest = map (passage_to f) c.rest;
         enters = (entered c.first, c.enters, a, refl);
         leaves = (left c.first, c.leaves, b, e);
-        closed = subst (λ v. Walk h (Image E) (Image L) v (map passage c.rest) (f (entered c.first))) e (walk (left c.first) (entered c.first) c.rest c.closed);
+        closed = subst (λ v. Walk h (Image E) (Image L) v (map (passage_to f) c.rest) (f (entered c.first))) e (walk (left c.first) (entered c.first) c.rest c.closed);
       }
 
   separate : AreSeparate g E L → AreSeparate h (Image E) (Image L)

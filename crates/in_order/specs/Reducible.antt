@@ -1,14 +1,12 @@
 -- What a reducer keeps of a net with free ends of its own, as a part of a net: that it is sound, in place of that the program reaches it.
-use Rattle.std.specs.Prelude.{◌≡◌, ◌≤◌, ℕ, suc, List, slice_get, Some, count_by, is_some}
+use Rattle.std.specs.Prelude.{◌≡◌, ◌≤◌, ℕ, suc, List, count_by, is_some}
 use Rattle.in_net.specs.declared.nets.AgentNo.{AgentNo}
 use Rattle.in_net.specs.Built.{IsOver}
 use Rattle.in_net.specs.Nets.{Net, net_of}
 use Rattle.in_net.specs.Parts.{IsWhole}
-use Rattle.in_net.specs.Rules.{RuleParts}
 use Rattle.in_interaction.specs.Interacting.{most_agents}
-use Rattle.in_cover.specs.Cover.{IsPair, IsRuleOfSymbols}
 use Rattle.in_check.specs.Checking.{IsAccepted}
-use Rattle.in_check.specs.Plain.{PlainParts, IsPlain, StepsTo, StepsAs, IsPairAt, IsRuleAt}
+use Rattle.in_check.specs.Plain.{PlainParts, IsPlain, StepsTo, StepsAs, IsPairAt, HasItsRules}
 use Rattle.in_check.specs.Promises.{IsAsPromised}
 use Rattle.in_check.specs.Systems.{IsSound, system_of}
 use Rattle.in_order.specs.PartRuns.{Run}
@@ -22,20 +20,24 @@ pub record IsReducible (p : PlainParts) : Type 0 where
 abbrev pub PlainIsReducible : Type 0
 PlainIsReducible = (text : List ℕ) (p : PlainParts) → IsAccepted text p.program → IsPlain p → IsReducible p
 
+-- q's net is one, and each run that leads to p's leads to it by one interaction more
+abbrev pub IsOneStepOn : PlainParts → PlainParts → Type 0
+IsOneStepOn p q = IsReducible q × ((k : ℕ) (n : Net ℕ) → Run (system_of p.program) k n (net_of p.net) → Run (system_of p.program) (suc k) n (net_of q.net))
+
 -- a step leads from one to one, and is one interaction more of a run
 abbrev pub ReducibleSteps : Type 0
 ReducibleSteps = (text : List ℕ) (p q : PlainParts) (a b : AgentNo) → IsAccepted text p.program → IsReducible p → IsPairAt p a b → StepsTo p a b q →
-    IsReducible q × ((k : ℕ) (n : Net ℕ) → Run (system_of p.program) k n (net_of p.net) → Run (system_of p.program) (suc k) n (net_of q.net))
+    IsOneStepOn p q
 
 -- .. also under other names of the new agents
 abbrev pub ReducibleStepsUnderNames : Type 0
 ReducibleStepsUnderNames = (text : List ℕ) (p q : PlainParts) (a b : AgentNo) (name : ℕ → ℕ) → IsAccepted text p.program → IsReducible p → IsPairAt p a b → StepsAs p a b name q →
-    IsReducible q × ((k : ℕ) (n : Net ℕ) → Run (system_of p.program) k n (net_of p.net) → Run (system_of p.program) (suc k) n (net_of q.net))
+    IsOneStepOn p q
 
--- each active pair matches, and each rule that is for its symbols, in whichever order, is for them in this one
+-- each active pair matches, and has its rules
 abbrev pub ReduciblePairsHaveTheirRule : Type 0
 ReduciblePairsHaveTheirRule = (text : List ℕ) (p : PlainParts) (a b : AgentNo) → IsAccepted text p.program → IsReducible p → (at : IsPairAt p a b) →
-    IsPair p.program.tables at.first.0 at.second.0 × ((i : ℕ) (r : RuleParts) → slice_get p.program.rules i ≡ Some r → IsRuleOfSymbols r at.first.0 at.second.0 → IsRuleAt p a b i r)
+    HasItsRules p a b at
 
 -- a step leads to one net
 abbrev pub ReducibleStepsAreOne : Type 0

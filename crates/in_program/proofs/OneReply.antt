@@ -9,7 +9,7 @@ use Rattle.in_command_line.specs.declared.action.Action.TheVariants.{Check, Deri
 use Rattle.in_limits.specs.declared.limits.Limits.{Limits}
 use Rattle.in_machine.specs.Starts.{DoesNotFit}
 use Rattle.in_check.specs.declared.checked.Certificate.{Certificate}
-use Rattle.in_check.specs.declared.checked.Counts.{Counts}
+use Rattle.in_check.specs.declared.checked.ProgramCounts.{ProgramCounts}
 use Rattle.in_check.specs.Laws.{AreOneProgram}
 use Rattle.in_check.specs.Programs.{Program, counts_of}
 use Rattle.in_check.proofs.Public.{checked_once}
@@ -25,9 +25,9 @@ use Rattle.in_program.specs.Steps.{derivation_lines, net_lines, rules_lines}
 
 counts_alike : (p q : Program) → AreOneProgram p q → counts_of p ≡ counts_of q
 counts_alike p q h =
-    ap (λ (t : Tables). let x : Counts = record { types = length t.types; symbols = length t.names; rules = length p.rules; agents = count_by is_some p.net.cells } in x) h.tables
-    ∙ ap (λ (r : List RuleParts). let x : Counts = record { types = length q.tables.types; symbols = length q.tables.names; rules = length r; agents = count_by is_some p.net.cells } in x) h.rules
-    ∙ ap (λ (n : Parts). let x : Counts = record { types = length q.tables.types; symbols = length q.tables.names; rules = length q.rules; agents = count_by is_some n.cells } in x) h.net
+    ap (λ (t : Tables). let x : ProgramCounts = record { types = length t.types; symbols = length t.names; rules = length p.rules; agents = count_by is_some p.net.cells } in x) h.tables
+    ∙ ap (λ (r : List RuleParts). let x : ProgramCounts = record { types = length q.tables.types; symbols = length q.tables.names; rules = length r; agents = count_by is_some p.net.cells } in x) h.rules
+    ∙ ap (λ (n : Parts). let x : ProgramCounts = record { types = length q.tables.types; symbols = length q.tables.names; rules = length q.rules; agents = count_by is_some n.cells } in x) h.net
 
 steps_alike : (p q : Program) → AreOneProgram p q → derivation_lines p ≡ derivation_lines q
 steps_alike p q h =

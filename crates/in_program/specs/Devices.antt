@@ -30,8 +30,12 @@ pub record Fails (old new : Reader) (bytes : List ℕ) : Type 0 where
 
 -- ---- reading and writing
 
+-- what calls with these bytes do to a device
+abbrev pub DeviceLaw : Type 1
+DeviceLaw = Device → Device → List ℕ → Type 0
+
 -- a front of the bytes was moved, but not all, and then a call failed
-abbrev pub BreaksWithin : Device → Device → List ℕ → Type 0
+abbrev pub BreaksWithin : DeviceLaw
 BreaksWithin old new bytes = (count : ℕ) × BreaksAt old new bytes count
 
 -- the bytes are the text up to its end, or more of it than a text may have

@@ -7,7 +7,7 @@ use Rattle.in_syntax.specs.declared.faults.Code.TheVariants as code
 use Rattle.in_syntax.specs.declared.faults.Refusal.{Refusal}
 use Rattle.in_arena.specs.declared.content.CellClass.{CellClass}
 use Rattle.in_arena.specs.declared.content.CellClass.TheVariants.{Small, Large, Wide}
-use Rattle.in_check.specs.declared.checked.Counts.{Counts}
+use Rattle.in_check.specs.declared.checked.ProgramCounts.{ProgramCounts}
 use Rattle.in_run.specs.declared.stops.Stop.{Stop}
 use Rattle.in_run.specs.declared.stops.Stop.TheVariants.{Normal, Limit, Full}
 
@@ -15,7 +15,7 @@ abbrev pub line_end : List ℕ
 line_end = line_feed ∷ []
 
 -- the line of an accepted program
-abbrev pub accepted_line : Counts → List ℕ
+abbrev pub accepted_line : ProgramCounts → List ℕ
 accepted_line c =
     codes "accepted: " ++ (decimal c.types ++ (codes " types, " ++ (decimal c.symbols
     ++ (codes " symbols, " ++ (decimal c.rules ++ (codes " rules, " ++ (decimal c.agents ++ (codes " agents" ++ line_end))))))))

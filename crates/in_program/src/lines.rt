@@ -1,15 +1,15 @@
 ghost use Rattle.std.specs.Prelude.{◌≡◌, ◌++◌, IfOk, OnOk, slice_range};
 ghost use Rattle.in_program.specs.Lines.{accepted_line, code_name, line_end, text_at, other_at, refused_line};
 
-use in_check::Counts;
+use in_check::ProgramCounts;
 use in_syntax::{Code, Place, Refusal};
 use std::alloc::{AllocError, Global};
 
 /// The line of an accepted program.
-pub fn accepted_line(alloc: Global, counts: Counts) -> Result<Vec<u8>, AllocError>
+pub fn accepted_line(alloc: Global, counts: ProgramCounts) -> Result<Vec<u8>, AllocError>
     ensures { IfOk result (λ line. line.items ≡ accepted_line counts) }
 {
-    let Counts {
+    let ProgramCounts {
         types,
         symbols,
         rules,

@@ -13,8 +13,8 @@ use Rattle.in_compile.specs.Templates.{TemplatesParts}
 use Rattle.in_rounds.specs.Dones.{DoneParts}
 use Rattle.in_rounds.specs.Gathers.{bags_of}
 use Rattle.in_rounds.specs.Holding.{AreBagsOf, Returns, holders}
-use Rattle.in_rounds.specs.declared.gather.Slot.{Slot}
-use Rattle.in_rounds.specs.declared.gather.Slot.TheVariants.{Fresh, Kept}
+use Rattle.in_rounds.specs.declared.gather.JobState.{JobState}
+use Rattle.in_rounds.specs.declared.gather.JobState.TheVariants.{Fresh, Kept}
 use Rattle.in_rounds.proofs.Holding.{are_bags_by, bags_are_of_one, beside_are_bags, end_are_bags, first_are_bags, first_is_bag, front_are_bags, holders-append, holders-cons, holders-first, left_are_bags, none_returned, one_returned, rest_are_bags, returns_beside, returns_both, returns_by}
 use Rattle.in_rounds.proofs.Keeping.{put_all, put_holders}
 use Rattle.in_rounds.specs.Bringing.{in_hand, in_hands, AreMadeWith}
@@ -55,7 +55,7 @@ module _ (ds es : List DoneParts) (d : DoneParts) (ks : List ArenaView) (split :
       )
 
 -- or kept
-pub last_kept : (ds es : List DoneParts) (d : DoneParts) (slots new : List Slot) (split : ds ≡ es ++ d ∷ []) (a b : ArenaView) (xs : List ArenaView) → Returns xs (bags ds ++ bags_of slots) a b → AreBagsOf (bags ds ++ bags_of slots) b
+pub last_kept : (ds es : List DoneParts) (d : DoneParts) (slots new : List JobState) (split : ds ≡ es ++ d ∷ []) (a b : ArenaView) (xs : List ArenaView) → Returns xs (bags ds ++ bags_of slots) a b → AreBagsOf (bags ds ++ bags_of slots) b
     → slice_get slots d.job ≡ Some Fresh → new ≡ set slots d.job (Kept d) → Returns xs (bags es ++ bags_of new) a b × AreBagsOf (bags es ++ bags_of new) b
 last_kept ds es d slots new split a b xs before of fresh is =
     let bag = d.placed.placed.bag in
@@ -63,7 +63,7 @@ last_kept ds es d slots new split a b xs before of fresh is =
     let one = bags_are_of_one (bag ∷ (bags es ++ bags_of slots)) b first in
     let rest = rest_are_bags bag (bags es ++ bags_of slots) b first in
     let same : (n : ℕ) → holders n (bags es ++ bags_of new) ≡ holders n (bags ds ++ bags_of slots) = λ n.
-    let put = ap (λ (z : List Slot). holders n (bags_of z)) is ∙ put_holders n slots d.job d fresh in
+    let put = ap (λ (z : List JobState). holders n (bags_of z)) is ∙ put_holders n slots d.job d fresh in
     let now = holders-append n (bags es) (bags_of new) in
     let old = last_holders ds es d (bags_of slots) split n in
     let cons = holders-cons n bag (bags es ++ bags_of slots) in
@@ -71,7 +71,7 @@ last_kept ds es d slots new split a b xs before of fresh is =
     omega (arith, put, now, old, cons, both)
     in
     let here = first_is_bag bag (bags es ++ bags_of slots) b first in
-    let kept = subst (λ (z : List Slot). All (AreOfOne b) (bags_of z)) (sym is)
+    let kept = subst (λ (z : List JobState). All (AreOfOne b) (bags_of z)) (sym is)
     (put_all (AreOfOne b) slots d.job d (here.memory, here.cells) (bags_are_of_one (bags_of slots) b (end_are_bags (bags es) (bags_of slots) b rest)))
     in (
       returns_both xs (bags ds ++ bags_of slots) (bags es ++ bags_of new) a b b before (none_returned (bags ds ++ bags_of slots) (bags es ++ bags_of new) b same),
@@ -80,11 +80,11 @@ last_kept ds es d slots new split a b xs before of fresh is =
           (λ n. let e = same n in omega (arith, e)),
     )
 
-pub made_with : (ts : TemplatesParts) (slots new : List Slot) (d : DoneParts) → AreMadeWith ts slots → d.templates ≡ ts → slice_get slots d.job ≡ Some Fresh → new ≡ set slots d.job (Kept d) → AreMadeWith ts new
+pub made_with : (ts : TemplatesParts) (slots new : List JobState) (d : DoneParts) → AreMadeWith ts slots → d.templates ≡ ts → slice_get slots d.job ≡ Some Fresh → new ≡ set slots d.job (Kept d) → AreMadeWith ts new
 made_with ts slots new d all one fresh is k e at = go (cases_eq k d.job)
   where
     at_set : slice_get (set slots d.job (Kept d)) k ≡ Some (Kept e)
-    at_set = sym (ap (λ (z : List Slot). slice_get z k) is) ∙ at
+    at_set = sym (ap (λ (z : List JobState). slice_get z k) is) ∙ at
 
     go : (k ≡ d.job) ⊎ (k ≢ d.job) → e.templates ≡ ts
     go (inl same) =

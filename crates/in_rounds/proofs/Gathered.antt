@@ -10,8 +10,8 @@ use Rattle.in_compile.specs.Templates.{TemplatesParts}
 use Rattle.in_rounds.specs.Dones.{DoneParts}
 use Rattle.in_rounds.specs.Gathers.{bags_of}
 use Rattle.in_rounds.specs.Holding.{AreBagsOf, HaveAllLeased, Returns, holders}
-use Rattle.in_rounds.specs.declared.gather.Slot.{Slot}
-use Rattle.in_rounds.specs.declared.gather.Slot.TheVariants.{Fresh, Kept}
+use Rattle.in_rounds.specs.declared.gather.JobState.{JobState}
+use Rattle.in_rounds.specs.declared.gather.JobState.TheVariants.{Fresh, Kept}
 use Rattle.in_rounds.proofs.Holding.{are_bags_by, bags_are_of_one, fewer_or_same, holders-append}
 use Rattle.in_rounds.proofs.Placing.{one_of_one}
 use Rattle.in_rounds.specs.Bringing.{in_hand, in_hands, AreMadeWith, IsHandMadeWith, HandsAreMadeWith}
@@ -97,7 +97,7 @@ none_made ts (suc n) zero d at = absurd (let e : Some Fresh ≡ Some (Kept d) = 
 none_made ts (suc n) (suc k) d at = none_made ts n k d at
 
 -- the workers' hands, of which the caller's was the last, have the cells that were lent
-module _ (plan : PlanParts) (lent others results : List Hand) (mine : Hand) (split : lent ≡ others ++ mine ∷ []) (all : AllZip (IsWorked plan) (mine ∷ others) results) (none : HaveNone lent) (slots : List Slot) (fresh : (k : ℕ) × (slots ≡ replicate k Fresh)) (a a' : ArenaView) (out : AreLentOut (in_hands lent) a a') where
+module _ (plan : PlanParts) (lent others results : List Hand) (mine : Hand) (split : lent ≡ others ++ mine ∷ []) (all : AllZip (IsWorked plan) (mine ∷ others) results) (none : HaveNone lent) (slots : List JobState) (fresh : (k : ℕ) × (slots ≡ replicate k Fresh)) (a a' : ArenaView) (out : AreLentOut (in_hands lent) a a') where
   none_first : HaveNone (mine ∷ others)
   none_first = first (λ (p : Hand). p.done.items ≡ []) lent others mine split none
     where

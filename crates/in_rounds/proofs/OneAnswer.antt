@@ -3,7 +3,7 @@ use Rattle.std.proofs.Common.{◌≡◌, inl, inr, ℕ, Some, None, Ok, Err, sli
 use Rattle.in_rounds.specs.Dones.{DoneParts}
 use Rattle.in_rounds.specs.Gathers.{GatherParts, IsPutRefused}
 use Rattle.in_rounds.specs.Laws.{PutsAreOne, TakesAreOne}
-use Rattle.in_rounds.specs.declared.gather.Slot.TheVariants.{Fresh, Kept, Taken}
+use Rattle.in_rounds.specs.declared.gather.JobState.TheVariants.{Fresh, Kept, Taken}
 use Rattle.in_rounds.specs.declared.gather.Why.{Why}
 use Rattle.in_rounds.specs.declared.gather.Why.TheVariants.{Double, Stranger}
 

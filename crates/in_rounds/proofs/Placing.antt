@@ -1,5 +1,5 @@
 -- A member placed from a stock, and the rest of the stock.
-use Rattle.std.proofs.Common.{◌≡◌, ◌⊎◌, inl, inr, ◌+◌, ℕ, cond, [], ◌∷◌, Some, slice_get, sym, ap, ◌∙◌, subst, arith}
+use Rattle.std.proofs.Common.{◌≡◌, ◌+◌, ℕ, cond, [], ◌∷◌, Some, slice_get, ap, ◌∙◌, subst, arith}
 use Rattle.std.proofs.lemmas.Option.{option_and_then_some}
 use Rattle.in_base.proofs.Each.{all_at}
 use Rattle.in_arena.specs.Arenas.{ArenaView, state_at}
@@ -12,7 +12,7 @@ use Rattle.in_cover.specs.declared.table.RuleNo.{RuleNo}
 use Rattle.in_compile.specs.declared.cells.Need.{Need}
 use Rattle.in_compile.specs.Cells.{count_of, IsEnough}
 use Rattle.in_compile.specs.Placing.{PlacedParts, AreCellsOf, TakesCells}
-use Rattle.in_compile.specs.Stocks.{StockParts, held, with_all}
+use Rattle.in_compile.specs.Stocks.{StockParts, held}
 use Rattle.in_compile.specs.Templates.{TemplateParts, TemplatesParts, IsLargestNeed, template_at}
 use Rattle.in_compile.proofs.Public.{as_left, one_of_all, cells_all, memory_all}
 use Rattle.in_rounds.specs.Holding.{holders, is_own}

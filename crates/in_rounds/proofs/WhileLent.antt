@@ -9,8 +9,8 @@ use Rattle.in_compile.specs.Stocks.{Regains}
 use Rattle.in_rounds.specs.Dones.{DoneParts}
 use Rattle.in_rounds.specs.Gathers.{bags_of}
 use Rattle.in_rounds.specs.Holding.{HaveAllLeased, Returns, holders}
-use Rattle.in_rounds.specs.declared.gather.Slot.{Slot}
-use Rattle.in_rounds.specs.declared.gather.Slot.TheVariants.{Fresh, Kept, Taken}
+use Rattle.in_rounds.specs.declared.gather.JobState.{JobState}
+use Rattle.in_rounds.specs.declared.gather.JobState.TheVariants.{Fresh, Kept, Taken}
 use Rattle.in_rounds.proofs.Holding.{holders-cons, in_one, leased_of, out_of_one}
 use Rattle.in_rounds.proofs.Keeping.{take_holders}
 use Rattle.in_reducer.specs.declared.body.Body.{Body}
@@ -165,7 +165,7 @@ module _ (bs : List ArenaView) (a b : ArenaView) (lent : AreLentOut bs a b) wher
 -- ---- taken
 
 -- what holds of each bag holds of that of what is kept
-pub kept_has : (P : ArenaView → Type 0) (slots : List Slot) (j : ℕ) (d : DoneParts) → slice_get slots j ≡ Some (Kept d) → All P (bags_of slots) → P d.placed.placed.bag
+pub kept_has : (P : ArenaView → Type 0) (slots : List JobState) (j : ℕ) (d : DoneParts) → slice_get slots j ≡ Some (Kept d) → All P (bags_of slots) → P d.placed.placed.bag
 kept_has P [] j d at all = cc
 kept_has P (Fresh ∷ slots) zero d at all = absurd (let f : Some Fresh ≡ Some (Kept d) = at in cc)
 kept_has P (Kept e ∷ slots) zero d at all =
@@ -177,7 +177,7 @@ kept_has P (Kept e ∷ slots) (suc j) d at all = kept_has P slots j d at (All-ta
 kept_has P (Taken ∷ slots) (suc j) d at all = kept_has P slots j d at all
 
 -- .. and of those that are left
-left_have : (P : ArenaView → Type 0) (slots : List Slot) (j : ℕ) → All P (bags_of slots) → All P (bags_of (set slots j Taken))
+left_have : (P : ArenaView → Type 0) (slots : List JobState) (j : ℕ) → All P (bags_of slots) → All P (bags_of (set slots j Taken))
 left_have P [] j all = all
 left_have P (Fresh ∷ slots) zero all = all
 left_have P (Kept e ∷ slots) zero all = All-tail P e.placed.placed.bag (bags_of slots) all
@@ -188,14 +188,14 @@ left_have P (Kept e ∷ slots) (suc j) all =
 left_have P (Taken ∷ slots) (suc j) all = left_have P slots j all
 
 -- what is left of the slots after one was taken
-pub left_at : (slots : List Slot) (j k : ℕ) (d : DoneParts) → slice_get (set slots j Taken) k ≡ Some (Kept d) → slice_get slots k ≡ Some (Kept d)
+pub left_at : (slots : List JobState) (j k : ℕ) (d : DoneParts) → slice_get (set slots j Taken) k ≡ Some (Kept d) → slice_get slots k ≡ Some (Kept d)
 left_at [] j k d at = at
 left_at (s ∷ slots) zero zero d at = absurd (let f : Some Taken ≡ Some (Kept d) = at in cc)
 left_at (s ∷ slots) zero (suc k) d at = at
 left_at (s ∷ slots) (suc j) zero d at = at
 left_at (s ∷ slots) (suc j) (suc k) d at = left_at slots j k d at
 
-module _ (slots : List Slot) (j : ℕ) (d : DoneParts) (at : slice_get slots j ≡ Some (Kept d)) (a : ArenaView) (have : HaveAllLeased (bags_of slots) a) where
+module _ (slots : List JobState) (j : ℕ) (d : DoneParts) (at : slice_get slots j ≡ Some (Kept d)) (a : ArenaView) (have : HaveAllLeased (bags_of slots) a) where
   pub taken_is_bag : IsBagOf d.placed.placed.bag a
   taken_is_bag = kept_has (λ b. IsBagOf b a) slots j d at have.bags.each
 

@@ -3,8 +3,8 @@ use Rattle.std.specs.Prelude.{◌≡◌, ℕ, List, [], ◌∷◌, ◌++◌, Som
 use Rattle.in_arena.specs.Arenas.{ArenaView}
 use Rattle.in_compile.specs.Templates.{TemplatesParts}
 use Rattle.in_rounds.specs.Dones.{DoneParts}
-use Rattle.in_rounds.specs.declared.gather.Slot.{Slot}
-use Rattle.in_rounds.specs.declared.gather.Slot.TheVariants.{Kept}
+use Rattle.in_rounds.specs.declared.gather.JobState.{JobState}
+use Rattle.in_rounds.specs.declared.gather.JobState.TheVariants.{Kept}
 use Rattle.in_rounds.specs.Works.{bags}
 use Rattle.in_rounds.specs.declared.hand.Hand.{Hand}
 
@@ -17,7 +17,7 @@ in_hands [] = []
 in_hands (p ∷ ps) = in_hand p ++ in_hands ps
 
 -- all that is kept was made with these templates
-abbrev pub AreMadeWith : TemplatesParts → List Slot → Type 0
+abbrev pub AreMadeWith : TemplatesParts → List JobState → Type 0
 AreMadeWith ts slots = (k : ℕ) (d : DoneParts) → slice_get slots k ≡ Some (Kept d) → d.templates ≡ ts
 
 abbrev pub IsHandMadeWith : TemplatesParts → Hand → Type 0

@@ -2,8 +2,8 @@
 use Rattle.std.specs.Prelude.{◌≡◌, ◌⊎◌, ℕ, List, [], ◌∷◌, length, replicate, slice_get, slice_set, Option, Some, None, Result, Ok, Err}
 use Rattle.in_symbols.specs.declared.symbols.SymbolNo.{SymbolNo}
 use Rattle.in_arena.specs.Arenas.{ArenaView}
-use Rattle.in_rounds.specs.declared.gather.Slot.{Slot}
-use Rattle.in_rounds.specs.declared.gather.Slot.TheVariants.{Fresh, Kept, Taken}
+use Rattle.in_rounds.specs.declared.gather.JobState.{JobState}
+use Rattle.in_rounds.specs.declared.gather.JobState.TheVariants.{Fresh, Kept, Taken}
 use Rattle.in_rounds.specs.declared.gather.Why.{Why}
 use Rattle.in_rounds.specs.declared.gather.Why.TheVariants.{Double, Stranger}
 use Rattle.in_rounds.specs.Dones.{DoneParts}
@@ -13,14 +13,14 @@ use Rattle.in_rounds.specs.Dones.{DoneParts}
 -- the symbols of each job's pair, and what became of each job
 pub record GatherParts : Type 0 where
   pub jobs : List (SymbolNo × SymbolNo)
-  pub slots : List Slot
+  pub slots : List JobState
 
 -- the list that was lent, and nothing was put
 abbrev pub new_gather : List (SymbolNo × SymbolNo) → GatherParts
 new_gather jobs = record { jobs = jobs; slots = replicate (length jobs) Fresh }
 
 -- the cells of what is put and not taken
-abbrev pub bags_of : List Slot → List ArenaView
+abbrev pub bags_of : List JobState → List ArenaView
 bags_of [] = []
 bags_of (Fresh ∷ slots) = bags_of slots
 bags_of (Kept d ∷ slots) = d.placed.placed.bag ∷ bags_of slots
@@ -38,7 +38,7 @@ IsFreshJob g job = slice_get g.slots job ≡ Some Fresh
 abbrev pub WasPut : GatherParts → ℕ → Type 0
 WasPut g job = ((d : DoneParts) × (slice_get g.slots job ≡ Some (Kept d))) ⊎ (slice_get g.slots job ≡ Some Taken)
 
-abbrev pub with_slot : GatherParts → ℕ → Slot → GatherParts
+abbrev pub with_slot : GatherParts → ℕ → JobState → GatherParts
 with_slot g job s = record { jobs = g.jobs; slots = slice_set g.slots job s }
 
 -- ---- what the calls change

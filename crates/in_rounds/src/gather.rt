@@ -1,6 +1,6 @@
 // The results, kept by the numbers of their jobs.
 ghost use Rattle.std.specs.Prelude.{◌≡◌, ◌⊎◌, ◌<◌, true, false, [], IfOk, replicate, length, Some, slice_get};
-ghost use Rattle.in_rounds.specs.declared.gather.Slot.TheVariants.{Fresh, Kept, Taken};
+ghost use Rattle.in_rounds.specs.declared.gather.JobState.TheVariants.{Fresh, Kept, Taken};
 ghost use Rattle.in_rounds.specs.Dones.{DoneParts};
 ghost use Rattle.in_rounds.specs.Gathers.{bags_of, new_gather, Puts, TakesDone};
 ghost use Rattle.in_rounds.specs.Holding.{AreBagsOf, Returns};
@@ -21,7 +21,7 @@ pub enum Why {
 
 /// The state of a job: no result was put yet; the result is kept; or it was put and taken.
 #[derive(Drop)]
-pub(crate) enum Slot<'t> {
+pub(crate) enum JobState<'t> {
     Fresh,
     Kept(Done<'t>),
     Taken,
@@ -33,7 +33,7 @@ pub(crate) enum Slot<'t> {
 #[derive(Drop)]
 pub struct Gather<'t> {
     jobs: Vec<(SymbolNo, SymbolNo)>,
-    slots: Vec<Slot<'t>>,
+    slots: Vec<JobState<'t>>,
 }
 
 impl<'t> Model for Gather<'t> {
@@ -48,12 +48,12 @@ impl<'t> Model for Gather<'t> {
 }
 
 /// A slot for each job, for which nothing was put.
-fn fresh<'t>(alloc: Global, count: usize) -> Result<Vec<Slot<'t>>, AllocError>
+fn fresh<'t>(alloc: Global, count: usize) -> Result<Vec<JobState<'t>>, AllocError>
     ensures { IfOk result (λ v. v.items ≡ replicate count Fresh) }
 {
     let mut slots = Vec::with_capacity(alloc, count)?;
     for _made in 0..count {
-        slots.push_reserved(Slot::Fresh);
+        slots.push_reserved(JobState::Fresh);
     }
     Ok(slots)
 }
@@ -84,24 +84,24 @@ fn has_job(jobs: &[(SymbolNo, SymbolNo)], done: &Done) -> bool
 }
 
 /// Whether nothing was put for the job, which is in the list.
-fn is_fresh(slots: &[Slot], job: u32) -> bool
+fn is_fresh(slots: &[JobState], job: u32) -> bool
     requires { job < length slots.now }
     ensures yes { result ≡ true → slice_get slots.now job ≡ Some Fresh }
     ensures other { result ≡ false → ((d : DoneParts) × (slice_get slots.now job ≡ Some (Kept d))) ⊎ (slice_get slots.now job ≡ Some Taken) }
 {
     match &slots[job as usize] {
-        Slot::Fresh => true,
-        Slot::Kept(_) | Slot::Taken => false,
+        JobState::Fresh => true,
+        JobState::Kept(_) | JobState::Taken => false,
     }
 }
 
 /// Gives back the cells of all slots.
-fn spend_all(mut slots: Vec<Slot>, arena: &mut Arena)
+fn spend_all(mut slots: Vec<JobState>, arena: &mut Arena)
     requires { AreBagsOf (bags_of slots.items) arena.old }
     ensures { Returns (bags_of slots.entry.items) [] arena.old arena.new }
 {
     while let Some(slot) = slots.pop() {
-        if let Slot::Kept(done) = slot {
+        if let JobState::Kept(done) = slot {
             done.spend(arena);
         }
     }
@@ -130,7 +130,7 @@ impl<'t> Gather<'t> {
         if !is_fresh(self.slots.as_slice(), job) {
             return Err((done, Why::Double));
         }
-        self.slots[job as usize] = Slot::Kept(done);
+        self.slots[job as usize] = JobState::Kept(done);
         Ok(())
     }
 
@@ -142,9 +142,9 @@ impl<'t> Gather<'t> {
         if index >= self.slots.len() {
             return None;
         }
-        if let Slot::Kept(_) = &self.slots[index] {
-            match mem::replace(&mut self.slots[index], Slot::Taken) {
-                Slot::Kept(done) => Some(done),
+        if let JobState::Kept(_) = &self.slots[index] {
+            match mem::replace(&mut self.slots[index], JobState::Taken) {
+                JobState::Kept(done) => Some(done),
                 // The slot was tested just now, and it keeps one.
                 _ => unreachable!(),
             }

@@ -24,8 +24,12 @@ pub record ReachesWith (p : Program) (cells k : ℕ) (m : MachineParts) : Type 0
   pub counted : HasCells cells m
   pub reached : IsReachedBy (plain_of m) k
 
+-- what is said of a run of a program within limits, by how it ends
+abbrev pub RunLaw : Type 1
+RunLaw = Program → Limits → Result Outcome RunFault → Type 0
+
 -- the outcome of a run within the limits. Or there is no start; no run is refused once it has one
-abbrev pub RunsInAnyOrder : Program → Limits → Result Outcome RunFault → Type 0
+abbrev pub RunsInAnyOrder : RunLaw
 RunsInAnyOrder p l (Ok o) = ReachesWith p l.cells o.interactions o.machine × (o.interactions ≤ l.limit) × IsStop l.limit o.machine o.interactions o.stop
 RunsInAnyOrder p l (Err (Start f)) = IsNoStart p l.cells f
 RunsInAnyOrder p l (Err (Memory m k)) = ⊥
@@ -33,7 +37,7 @@ RunsInAnyOrder p l (Err (Memory m k)) = ⊥
 -- ---- in turn
 
 -- the same of interactions that are first in, first out
-abbrev pub RunsInTurn : Program → Limits → Result Outcome RunFault → Type 0
+abbrev pub RunsInTurn : RunLaw
 RunsInTurn p l (Ok o) = (start : MachineParts) × IsStart p l.cells start × IsOutcome start l.limit o.machine o.interactions o.stop
 RunsInTurn p l (Err (Start f)) = IsNoStart p l.cells f
 RunsInTurn p l (Err (Memory m k)) = ⊥
@@ -41,7 +45,7 @@ RunsInTurn p l (Err (Memory m k)) = ⊥
 -- ---- as the limits say
 
 -- how several workers share the interactions, and so in which order these come, is open; one worker does them in turn
-abbrev pub RunsTo : Program → Limits → Result Outcome RunFault → Type 0
+abbrev pub RunsTo : RunLaw
 RunsTo p l r = RunsInAnyOrder p l r × (l.workers ≡ 1 → RunsInTurn p l r)
 
 -- what is refused at its start alone

@@ -1,5 +1,5 @@
 -- A graft: its classes are gathered one by one, and its own ports joined to them.
-use Rattle.std.proofs.Common.{◌≡◌, ◌↔◌, ◌<◌, ◌≤◌, ◌+◌, ◌-◌, ℕ, zero, suc, Bool, true, false, cond, ◌||◌, nat_eq, Option, Some, None, List, [], ◌∷◌, length, drop, get_or, slice_get, refl, sym, subst, ap, inl, inr, ◌∙◌, eq-eqb, ne_eqb, arith}
+use Rattle.std.proofs.Common.{◌≡◌, ◌↔◌, ◌<◌, ◌≤◌, ◌+◌, ◌-◌, ℕ, zero, suc, Bool, true, false, cond, ◌||◌, nat_eq, Some, None, List, [], ◌∷◌, length, drop, get_or, slice_get, refl, sym, subst, ap, inl, inr, ◌∙◌, eq-eqb, ne_eqb, arith}
 use Rattle.std.proofs.Math.ListN.{set}
 use Rattle.std.proofs.lemmas.List.{length-set, drop_all}
 use Rattle.std.proofs.lemmas.Option.{slice_get_within}
@@ -9,7 +9,7 @@ use Rattle.in_simple.specs.declared.verifying.Built.{Built}
 use Rattle.in_open_nets.specs.OpenNets.{OpenNet, IsWire, IsAgent, classes_of, class_in}
 use Rattle.in_open_nets.specs.declared.derivations.Step.TheVariants.{Graft}
 use Rattle.in_open_nets.specs.Derivations.{Part, is_principal, is_auxiliary, is_among, nodes_of, links_of, ends_of, IsGrafted, times}
-use Rattle.in_simple.specs.Checking.{ends_at, has_node, has_link, in_one, IsSizedBuilt, IsBuiltPart, AllHold, Gathers, IsNothing, Took, MakesPart, IsMadeByStep, AreOpen, IsInClass, IsOpenAt, IsOpen, HasClassBuilt, AreGrafted, OnStep, IsClassTaken, IsClassRefused, AreGathered, AreRefused, IsGraftedTo, LacksSome}
+use Rattle.in_simple.specs.Checking.{BuiltParts, ends_at, has_node, has_link, in_one, IsSizedBuilt, IsBuiltPart, AllHold, Gathers, IsNothing, Took, MakesPart, IsMadeByStep, AreOpen, IsInClass, IsOpenAt, IsOpen, HasClassBuilt, AreGrafted, OnStep, IsClassTaken, IsClassRefused, AreGathered, AreRefused, IsGraftedTo, LacksSome}
 use Rattle.in_open_nets.specs.Members.{nodes_in}
 use Rattle.in_open_nets.proofs.Public.{same_nat, one_same, one_other, at_set, at_other, drop_here}
 use Rattle.in_base.proofs.Places.{some_same}
@@ -23,7 +23,7 @@ all_length o [] (x ∷ xs) h = absurd h
 all_length o (b ∷ bs) [] h = absurd h
 all_length o (b ∷ bs) (x ∷ xs) h = ap suc (all_length o bs xs h.1)
 
-took_length : (is : List ℕ) (old new : List (Option Built)) (bs : List Built) → Took is old new bs → length is ≡ length bs
+took_length : (is : List ℕ) (old new : BuiltParts) (bs : List Built) → Took is old new bs → length is ≡ length bs
 took_length [] old new [] h = refl
 took_length [] old new (b ∷ bs) h = absurd h
 took_length (i ∷ is) old new [] h = absurd h
@@ -52,7 +52,7 @@ module _ (o : OpenNet) (n : ℕ) where
           omega arith
       go (Free j) q f g u = absurd f
 
-  pub gathered_none : (old : List (Option Built)) (c : ℕ) (built : Built) → IsNothing o built → AreGathered o n c [] old old built
+  pub gathered_none : (old : BuiltParts) (c : ℕ) (built : Built) → IsNothing o built → AreGathered o n c [] old old built
   gathered_none old c built h = record {
     from = [];
     took = refl;
@@ -64,7 +64,7 @@ module _ (o : OpenNet) (n : ℕ) where
       go [] a = (gathers_none o built h, tt)
       go (x ∷ xs) a = absurd a
 
-  pub gathered_more : (c i : ℕ) (is : List ℕ) (old mid new : List (Option Built)) (built built' : Built) → AreGathered o n (suc c) is old mid built → IsClassTaken o n (suc c) i mid new built built' → AreGathered o n c (i ∷ is) old new built'
+  pub gathered_more : (c i : ℕ) (is : List ℕ) (old mid new : BuiltParts) (built built' : Built) → AreGathered o n (suc c) is old mid built → IsClassTaken o n (suc c) i mid new built built' → AreGathered o n c (i ∷ is) old new built'
   gathered_more c i is old mid new built built' h t = record {
     from = t.0 ∷ h.from;
     took = (mid, h.took, t.1);
@@ -77,7 +77,7 @@ module _ (o : OpenNet) (n : ℕ) where
       go (x ∷ xs) a = let r = h.gathers xs a.1 in (gathers_more o t.0 built built' x xs t.3 a.0 r.0, (class_ends (suc c) t.0 x a.0 t.2, r.1))
 
   -- what is refused at one class is refused
-  pub refused_here : (c i : ℕ) (is : List ℕ) (old mid : List (Option Built)) (built : Built) → AreGathered o n (suc c) is old mid built → IsClassRefused o n (suc c) i mid built → AreRefused o n c (i ∷ is) old
+  pub refused_here : (c i : ℕ) (is : List ℕ) (old mid : BuiltParts) (built : Built) → AreGathered o n (suc c) is old mid built → IsClassRefused o n (suc c) i mid built → AreRefused o n c (i ∷ is) old
   refused_here c i is old mid built h (inl none) all from held e d s p = (i, or_left (nat_eq i i) (is_among i is) (eq-eqb i i refl), again_left is old mid h.from i h.took none d.0)
   refused_here c i is old mid built h (inr r) all [] held e d s p = absurd e
   refused_here c i is old mid built h (inr r) all (x ∷ xs) held e d s p =
@@ -88,20 +88,20 @@ module _ (o : OpenNet) (n : ℕ) where
         | inr shared ↦ absurd (share_none o r.0 built x xs shared b (h.gathers xs (took_hold o all (length old) is old mid h.from xs h.took held e.2)).0 s)
       ]
 
-  refused_more : (c i : ℕ) (is : List ℕ) (old : List (Option Built)) → AreRefused o n (suc c) is old → AreRefused o n c (i ∷ is) old
+  refused_more : (c i : ℕ) (is : List ℕ) (old : BuiltParts) → AreRefused o n (suc c) is old → AreRefused o n c (i ∷ is) old
   refused_more c i is old r all [] held e d s p = absurd e
   refused_more c i is old r all (x ∷ xs) held e d s p =
       let k = r all xs held e.2 d.1 s.2 p.1 in
       (k.0, or_right (nat_eq k.0 i) (is_among k.0 is) k.1, k.2)
 
-  refused_from : (k c : ℕ) (is : List ℕ) (old : List (Option Built)) → k < length is → AreRefused o n (k + c) (drop k is) old → AreRefused o n c is old
+  refused_from : (k c : ℕ) (is : List ℕ) (old : BuiltParts) → k < length is → AreRefused o n (k + c) (drop k is) old → AreRefused o n c is old
   refused_from zero c is old l r = let e : 0 + c ≡ c = omega arith in subst (λ z. AreRefused o n z is old) e r
   refused_from (suc k) c [] old l r = absurd (omega arith)
   refused_from (suc k) c (i ∷ is) old l r =
       let e : suc k + c ≡ k + suc c = omega arith in
       refused_more c i is old (refused_from k (suc c) is old (omega arith) (subst (λ z. AreRefused o n z (drop k is) old) e r))
 
-  pub refused_all : (k : ℕ) (is : List ℕ) (old : List (Option Built)) → k < length is → AreRefused o n k (drop k is) old → AreRefused o n 0 is old
+  pub refused_all : (k : ℕ) (is : List ℕ) (old : BuiltParts) → k < length is → AreRefused o n k (drop k is) old → AreRefused o n 0 is old
   refused_all k is old l r = let e : k + 0 ≡ k = omega arith in refused_from k 0 is old l (subst (λ z. AreRefused o n z (drop k is) old) (sym e) r)
 
   -- the ends for the classes, one by one
@@ -182,7 +182,7 @@ module _ (o : OpenNet) (n : ℕ) where
         },
       )
 
-  pub graft_made : (is : List ℕ) (old new : List (Option Built)) (built c : Built) → IsAgent o n → length is ≡ classes_of o n → AreGathered o n 0 is old new built → IsGraftOf built c → IsSizedBuilt o c → IsMadeByStep o (Graft n is) old new c
+  pub graft_made : (is : List ℕ) (old new : BuiltParts) (built c : Built) → IsAgent o n → length is ≡ classes_of o n → AreGathered o n 0 is old new built → IsGraftOf built c → IsSizedBuilt o c → IsMadeByStep o (Graft n is) old new c
   graft_made is old new built c a m g h s = record {
     from = g.from;
     took = g.took;
@@ -226,7 +226,7 @@ module _ (o : OpenNet) (n : ℕ) where
     above = λ w b. at_other es k left (0, 0) w (λ d. b (omega arith)) ∙ h.above w (λ l. b (omega arith));
   }
 
-  pub classes_more : (is : List ℕ) (old mid new : List (Option Built)) (built built' : Built) (class : ℕ) → 0 < class → class ≤ length is → AreGathered o n class (drop class is) old mid built → IsClassTaken o n class (get_or is (class - 1) 0) mid new built built' → AreGathered o n (class - 1) (drop (class - 1) is) old new built'
+  pub classes_more : (is : List ℕ) (old mid new : BuiltParts) (built built' : Built) (class : ℕ) → 0 < class → class ≤ length is → AreGathered o n class (drop class is) old mid built → IsClassTaken o n class (get_or is (class - 1) 0) mid new built built' → AreGathered o n (class - 1) (drop (class - 1) is) old new built'
   classes_more is old mid new built built' zero l m h t = absurd (omega arith)
   classes_more is old mid new built built' (suc k) l m h t =
       let e : suc k - 1 ≡ k = omega arith in
@@ -234,7 +234,7 @@ module _ (o : OpenNet) (n : ℕ) where
       (subst (λ z. AreGathered o n k z old new built') (sym (drop_here is k (omega arith)))
       (gathered_more k (get_or is k 0) (drop (suc k) is) old mid new built built' h (subst (λ z. IsClassTaken o n (suc k) (get_or is z 0) mid new built built') e t)))
 
-  pub classes_refused : (is : List ℕ) (old mid : List (Option Built)) (built : Built) (class : ℕ) → 0 < class → class ≤ length is → AreGathered o n class (drop class is) old mid built → IsClassRefused o n class (get_or is (class - 1) 0) mid built → AreRefused o n 0 is old
+  pub classes_refused : (is : List ℕ) (old mid : BuiltParts) (built : Built) (class : ℕ) → 0 < class → class ≤ length is → AreGathered o n class (drop class is) old mid built → IsClassRefused o n class (get_or is (class - 1) 0) mid built → AreRefused o n 0 is old
   classes_refused is old mid built zero l m h t = absurd (omega arith)
   classes_refused is old mid built (suc k) l m h t =
       let e : suc k - 1 ≡ k = omega arith in
@@ -242,24 +242,24 @@ module _ (o : OpenNet) (n : ℕ) where
       (subst (λ z. AreRefused o n k z old) (sym (drop_here is k (omega arith)))
       (refused_here k (get_or is k 0) (drop (suc k) is) old mid built h (subst (λ z. IsClassRefused o n (suc k) (get_or is z 0) mid built) e t)))
 
-  pub classes_start : (is : List ℕ) (old : List (Option Built)) (built : Built) → IsNothing o built → AreGathered o n (length is) (drop (length is) is) old old built
+  pub classes_start : (is : List ℕ) (old : BuiltParts) (built : Built) → IsNothing o built → AreGathered o n (length is) (drop (length is) is) old old built
   classes_start is old built h = subst (λ z. AreGathered o n (length is) z old old built) (sym (drop_all (length is) is (omega arith))) (gathered_none old (length is) built h)
 
   -- ---- why a graft is refused
 
-  pub none_grafts : (is : List ℕ) (old new : List (Option Built)) → (IsAgent o n × (length is ≡ classes_of o n) → ⊥) → OnStep o (Graft n is) old new None
+  pub none_grafts : (is : List ℕ) (old new : BuiltParts) → (IsAgent o n × (length is ≡ classes_of o n) → ⊥) → OnStep o (Graft n is) old new None
   none_grafts is old new h all x held b = absurd (h (b.joins.0.agent, earlier_length all (length old) is b.from b.earlier ∙ b.joins.0.many))
 
-  pub classes_none : (is : List ℕ) (old new : List (Option Built)) → AreRefused o n 0 is old → OnStep o (Graft n is) old new None
+  pub classes_none : (is : List ℕ) (old new : BuiltParts) → AreRefused o n 0 is old → OnStep o (Graft n is) old new None
   classes_none is old new h all x held b = inl (h all b.from held b.earlier b.different b.apart (grafted_open b.from b.joins.0))
 
-  pub node_again : (is : List ℕ) (old new : List (Option Built)) (built : Built) → AreGathered o n 0 is old new built → has_node built n ≡ true → OnStep o (Graft n is) old new None
+  pub node_again : (is : List ℕ) (old new : BuiltParts) (built : Built) → AreGathered o n 0 is old new built → has_node built n ≡ true → OnStep o (Graft n is) old new None
   node_again is old new built g h all x held b =
       let u = g.counted n in
       let v : in_one built n ≡ 1 = ap (λ z. cond z 1 0) h in
       inr (n, or_left (nat_eq n n) false (eq-eqb n n refl), omega arith)
 
-  pub ends_lack : (is : List ℕ) (old new : List (Option Built)) (built : Built) → AreGathered o n 0 is old new built → LacksSome o n built.ends → OnStep o (Graft n is) old new None
+  pub ends_lack : (is : List ℕ) (old new : BuiltParts) (built : Built) → AreGathered o n 0 is old new built → LacksSome o n built.ends → OnStep o (Graft n is) old new None
   ends_lack is old new built g l all x held b =
       let a = took_hold o all (length old) is old new g.from b.from g.took held b.earlier in
       absurd (graft_lacks built b.from x l (g.gathers b.from a).0 b.joins.1)

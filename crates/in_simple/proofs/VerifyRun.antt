@@ -5,7 +5,7 @@ use Rattle.in_simple.specs.declared.verifying.Built.{Built}
 use Rattle.in_open_nets.specs.OpenNets.{OpenNet, IsOpenNet}
 use Rattle.in_open_nets.specs.declared.derivations.Step.{Step}
 use Rattle.in_open_nets.specs.Derivations.{Part, named, own_nodes, is_among, HaveNoRepeats, AreEarlier, BuildsPart, IsDerivation, is_free, times, times_in}
-use Rattle.in_simple.specs.Checking.{AreSizedBuilt, AreHeld, AllHold, Again, IsBuiltPart, IsLastBuilt, IsMadeByStep, IsWholeNet, IsSizedBuilt, IsTaken, Took, MakesPart, OnStep, OnAlone, OnPair, has_node, in_one, left_of, left_at, times_left}
+use Rattle.in_simple.specs.Checking.{BuiltParts, AreSizedBuilt, AreHeld, AllHold, Again, IsBuiltPart, IsLastBuilt, IsMadeByStep, IsWholeNet, IsSizedBuilt, IsTaken, Took, MakesPart, OnStep, OnAlone, OnPair, has_node, in_one, left_of, left_at, times_left}
 use Rattle.in_simple.proofs.Named.{AreLeft, left_start, left_more, left_app, take_whole, times_next}
 use Rattle.in_open_nets.proofs.Public.{get_past, get_cases, same_nat, at_most, one_same, one_other, earlier_of, times_among}
 use Rattle.in_open_nets.proofs.Public.{is_node}
@@ -21,7 +21,7 @@ abbrev pub IsPrefix : OpenNet → List Step → ℕ → List Part → Type 0
 IsPrefix o steps k all = (i : ℕ) (step : Step) → i < k → slice_get steps i ≡ Some step → (x : Part) × (slice_get all i ≡ Some x) × BuildsPart o all i step x
 
 -- what the first k steps leave
-pub record AreBuilt (o : OpenNet) (steps : List Step) (k : ℕ) (parts : List (Option Built)) : Type 0 where
+pub record AreBuilt (o : OpenNet) (steps : List Step) (k : ℕ) (parts : BuiltParts) : Type 0 where
   pub left : AreLeft steps k parts
   pub last : (j : ℕ) → k ≡ suc j → left_at parts j ≡ 1
   pub sized : AreSizedBuilt o parts
@@ -36,7 +36,7 @@ earlier_as all more k f [] (x ∷ xs) e = e
 earlier_as all more k f (i ∷ is) [] e = e
 earlier_as all more k f (i ∷ is) (x ∷ xs) e = (e.0, f i x e.0 e.1, earlier_as all more k f is xs e.2)
 
-times_left_app : (n : ℕ) (parts : List (Option Built)) (c : Built) → times_left n (parts ++ Some c ∷ []) ≡ times_left n parts + in_one c n
+times_left_app : (n : ℕ) (parts : BuiltParts) (c : Built) → times_left n (parts ++ Some c ∷ []) ≡ times_left n parts + in_one c n
 times_left_app n [] c = omega arith
 times_left_app n (None ∷ parts) c = times_left_app n parts c
 times_left_app n (Some b ∷ parts) c = let r = times_left_app n parts c in omega arith
@@ -54,12 +54,12 @@ module _ (o : OpenNet) where
   }
 
   -- a step that is made builds just what is held
-  pub builds_held : (step : Step) (old new : List (Option Built)) (c : Built) (all : List Part) → IsMadeByStep o step old new c → AreHeld o old all → (k : ℕ) (x : Part) → BuildsPart o all k step x → IsBuiltPart o c x
+  pub builds_held : (step : Step) (old new : BuiltParts) (c : Built) (all : List Part) → IsMadeByStep o step old new c → AreHeld o old all → (k : ℕ) (x : Part) → BuildsPart o all k step x → IsBuiltPart o c x
   builds_held step old new c all m held k x b =
       (m.makes b.from (took_hold o all k (named step) old new m.from b.from m.took held b.earlier) x).0
       (record { apart = b.apart; nodes = b.nodes; links = b.links; joins = b.joins })
 
-  pub held_builds : (step : Step) (old new : List (Option Built)) (c : Built) (all : List Part) → IsMadeByStep o step old new c → AreHeld o old all → (x : Part) → IsBuiltPart o c x → BuildsPart o all (length old) step x
+  pub held_builds : (step : Step) (old new : BuiltParts) (c : Built) (all : List Part) → IsMadeByStep o step old new c → AreHeld o old all → (x : Part) → IsBuiltPart o c x → BuildsPart o all (length old) step x
   held_builds step old new c all m held x h =
       let f = took_from o all (named step) old new m.from m.took held in
       let k = (m.makes f.0 f.2 x).1 h in
@@ -83,7 +83,7 @@ module _ (o : OpenNet) where
   from_none all k [] (x ∷ xs) e h = absurd h
   from_none all k (i ∷ is) xs e h = cc
 
-  pub step_alone : (step : Step) (old : List (Option Built)) (r : Option Built) → named step ≡ [] → OnAlone o step r → OnStep o step old old r
+  pub step_alone : (step : Step) (old : BuiltParts) (r : Option Built) → named step ≡ [] → OnAlone o step r → OnStep o step old old r
   step_alone step old None e h = λ all x held b. absurd (h x (subst (λ z. MakesPart o step z x) (from_none all (length old) (named step) b.from e b.earlier) (makes_of all (length old) step x b)))
   step_alone step old (Some c) e h = record {
     from = [];
@@ -97,16 +97,16 @@ module _ (o : OpenNet) where
       go [] a = h.1
       go (x ∷ xs) a = absurd a
 
-  module _ (f : ℕ → ℕ → Step) (two : (i j : ℕ) → named (f i j) ≡ i ∷ j ∷ []) (own : (i j : ℕ) → own_nodes (f i j) ≡ []) (a b : ℕ) (old : List (Option Built)) where
-    pub second_refused : (new : List (Option Built)) → left_at old b ≡ 0 → OnStep o (f a b) old new None
+  module _ (f : ℕ → ℕ → Step) (two : (i j : ℕ) → named (f i j) ≡ i ∷ j ∷ []) (own : (i j : ℕ) → own_nodes (f i j) ≡ []) (a b : ℕ) (old : BuiltParts) where
+    pub second_refused : (new : BuiltParts) → left_at old b ≡ 0 → OnStep o (f a b) old new None
     second_refused new h all x held k = inl (b, subst (λ z. is_among b z ≡ true) (sym (two a b)) (or_right (nat_eq b a) (is_among b (b ∷ [])) (or_left (nat_eq b b) false (eq-eqb b b refl))), h)
 
-    pub first_refused : (mid new : List (Option Built)) (second : Built) → IsTaken b old mid second → left_at mid a ≡ 0 → OnStep o (f a b) old new None
+    pub first_refused : (mid new : BuiltParts) (second : Built) → IsTaken b old mid second → left_at mid a ≡ 0 → OnStep o (f a b) old new None
     first_refused mid new second t h all x held k =
         let d = subst HaveNoRepeats (two a b) k.different in
         inl (a, subst (λ z. is_among a z ≡ true) (sym (two a b)) (or_left (nat_eq a a) (is_among a (b ∷ [])) (eq-eqb a a refl)), again_left (b ∷ []) old mid (second ∷ []) a (old, refl, t) h d.0)
 
-    pub step_pair : (mid new : List (Option Built)) (first second : Built) (r : Option Built) → IsTaken b old mid second → IsTaken a mid new first → OnPair o f first second r → OnStep o (f a b) old new r
+    pub step_pair : (mid new : BuiltParts) (first second : Built) (r : Option Built) → IsTaken b old mid second → IsTaken a mid new first → OnPair o f first second r → OnStep o (f a b) old new r
     step_pair mid new first second None t u h =
         λ all x held k. go x k.from (took_hold o all (length old) (a ∷ b ∷ []) old new (first ∷ second ∷ []) k.from (mid, (old, refl, t), u) held (subst (λ z. AreEarlier all (length old) z k.from) (two a b) k.earlier)) (makes_of all (length old) (f a b) x k)
       where
@@ -143,7 +143,7 @@ take_most f n (x ∷ xs) zero = omega arith
 take_most f n (x ∷ xs) (suc k) = let r = take_most f n xs k in omega arith
 
 module _ (o : OpenNet) (steps : List Step) where
-  pub built_start : (parts : List (Option Built)) → parts ≡ [] → AreBuilt o steps 0 parts
+  pub built_start : (parts : BuiltParts) → parts ≡ [] → AreBuilt o steps 0 parts
   built_start parts e = subst (λ z. AreBuilt o steps 0 z) (sym e) (record {
     left = left_start steps [] refl;
     last = λ j f. cc;
@@ -153,7 +153,7 @@ module _ (o : OpenNet) (steps : List Step) where
     some = λ net. ([], refl, (λ i step l f. absurd (omega arith)));
   })
 
-  pub built_more : (k : ℕ) (parts new : List (Option Built)) (step : Step) (c : Built) → AreBuilt o steps k parts → slice_get steps k ≡ Some step → IsMadeByStep o step parts new c → AreBuilt o steps (k + 1) (new ++ Some c ∷ [])
+  pub built_more : (k : ℕ) (parts new : BuiltParts) (step : Step) (c : Built) → AreBuilt o steps k parts → slice_get steps k ≡ Some step → IsMadeByStep o step parts new c → AreBuilt o steps (k + 1) (new ++ Some c ∷ [])
   built_more k parts new step c h e m =
       let t = took_takes (named step) parts new m.from m.took in
       let size : length new ≡ k = t.size ∙ h.left.size in
@@ -218,7 +218,7 @@ module _ (o : OpenNet) (steps : List Step) where
             ],
           )
 
-  pub built_refused : (k : ℕ) (parts new : List (Option Built)) (step : Step) → AreBuilt o steps k parts → slice_get steps k ≡ Some step → OnStep o step parts new None → IsDerivation o steps → ⊥
+  pub built_refused : (k : ℕ) (parts new : BuiltParts) (step : Step) → AreBuilt o steps k parts → slice_get steps k ≡ Some step → OnStep o step parts new None → IsDerivation o steps → ⊥
   built_refused k parts new step h e r d =
       let x = d.each k step e in
       let held = h.held d.parts (λ i step' l f. d.each i step' f) in
@@ -246,12 +246,12 @@ module _ (o : OpenNet) (steps : List Step) where
 
   -- ---- the last step
 
-  left_all : (n : ℕ) (front : List (Option Built)) → ((i : ℕ) → left_at front i ≡ 0) → times_left n front ≡ 0
+  left_all : (n : ℕ) (front : BuiltParts) → ((i : ℕ) → left_at front i ≡ 0) → times_left n front ≡ 0
   left_all n [] h = refl
   left_all n (None ∷ front) h = left_all n front (λ i. h (suc i))
   left_all n (Some b ∷ front) h = let a : ◌≡◌ {A = ℕ} 1 0 = h 0 in absurd (omega arith)
 
-  pub built_whole : (parts : List (Option Built)) → IsOpenNet o → AreBuilt o steps (length steps) parts → IsWholeNet o parts → IsDerivation o steps
+  pub built_whole : (parts : BuiltParts) → IsOpenNet o → AreBuilt o steps (length steps) parts → IsWholeNet o parts → IsDerivation o steps
   built_whole parts net h (front, b, e, last) =
       let free = last.0 in
       let all_nodes = last.1 in
@@ -287,13 +287,13 @@ module _ (o : OpenNet) (steps : List Step) where
             at_points o (λ w p q e. e ≡ is_free q) b x (λ w p q g. free w p q (slice_get_within o.wires w (p, q) g) g) (subst (λ z. IsBuiltPart o b z) same y.2) w p q wire;
       }
 
-  pub whole_built : (parts : List (Option Built)) → AreBuilt o steps (length steps) parts → IsDerivation o steps → IsWholeNet o parts
+  pub whole_built : (parts : BuiltParts) → AreBuilt o steps (length steps) parts → IsDerivation o steps → IsWholeNet o parts
   whole_built parts h d = go (unsnoc parts (let a = d.some in let b = h.left.size in omega arith))
     where
-      there : (front : List (Option Built)) (last : Option Built) → parts ≡ front ++ last ∷ [] → slice_get parts (length front) ≡ Some last
+      there : (front : BuiltParts) (last : Option Built) → parts ≡ front ++ last ∷ [] → slice_get parts (length front) ≡ Some last
       there front last e = subst (λ z. slice_get z (length front) ≡ Some last) (sym e) (get_past front (last ∷ []) 0 (length front) last (omega arith) refl)
 
-      of : (front : List (Option Built)) (b : Built) → parts ≡ front ++ Some b ∷ [] → length front + 1 ≡ length steps → IsWholeNet o parts
+      of : (front : BuiltParts) (b : Built) → parts ≡ front ++ Some b ∷ [] → length front + 1 ≡ length steps → IsWholeNet o parts
       of front b e size =
           let none : (i : ℕ) → left_at front i ≡ 0 = λ i.
           let c : left_at parts i ≡ left_at (front ++ Some b ∷ []) i = ap (λ z. left_at z i) e in
@@ -337,7 +337,7 @@ module _ (o : OpenNet) (steps : List Step) where
             ),
           )
 
-      go : (front : List (Option Built)) × (last : Option Built) × (parts ≡ front ++ last ∷ []) → IsWholeNet o parts
+      go : (front : BuiltParts) × (last : Option Built) × (parts ≡ front ++ last ∷ []) → IsWholeNet o parts
       go (front, None, e) =
           let size : length front + 1 ≡ length steps = sym (length-append front (None ∷ [])) ∙ ap length (sym e) ∙ h.left.size in
           let a = h.last (length front) (omega arith) in
@@ -345,7 +345,7 @@ module _ (o : OpenNet) (steps : List Step) where
           absurd (omega arith)
       go (front, Some b, e) = of front b e (sym (length-append front (Some b ∷ [])) ∙ ap length (sym e) ∙ h.left.size)
 
-pub whole_last : (o : OpenNet) (parts others : List (Option Built)) (b : Built) → parts ≡ others ++ Some b ∷ [] → IsWholeNet o parts → IsLastBuilt o b others
+pub whole_last : (o : OpenNet) (parts others : BuiltParts) (b : Built) → parts ≡ others ++ Some b ∷ [] → IsWholeNet o parts → IsLastBuilt o b others
 whole_last o parts others b e w =
     let r = snoc_parts w.0 others (Some w.1) (Some b) (sym w.2 ∙ e) in
     let s : w.1 ≡ b = let f = r.1 in cc in

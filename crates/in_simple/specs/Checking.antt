@@ -169,37 +169,41 @@ left_of None = 0
 left_of (Some None) = 0
 left_of (Some (Some b)) = 1
 
-abbrev pub left_at : List (Option Built) → ℕ → ℕ
+-- what the steps so far have built, where no later one has taken it
+abbrev pub BuiltParts : Type 0
+BuiltParts = List (Option Built)
+
+abbrev pub left_at : BuiltParts → ℕ → ℕ
 left_at parts i = left_of (slice_get parts i)
 
 -- how many of those that are left have the node
-abbrev pub times_left : ℕ → List (Option Built) → ℕ
+abbrev pub times_left : ℕ → BuiltParts → ℕ
 times_left n [] = 0
 times_left n (None ∷ parts) = times_left n parts
 times_left n (Some b ∷ parts) = in_one b n + times_left n parts
 
-abbrev pub AreSizedBuilt : OpenNet → List (Option Built) → Type 0
+abbrev pub AreSizedBuilt : OpenNet → BuiltParts → Type 0
 AreSizedBuilt o parts = (i : ℕ) (b : Built) → slice_get parts i ≡ Some (Some b) → IsSizedBuilt o b
 
 -- these steps were left, each named once, and aren't any more
-pub record TakesNamed (ns : List ℕ) (old new : List (Option Built)) : Type 0 where
+pub record TakesNamed (ns : List ℕ) (old new : BuiltParts) : Type 0 where
   pub size : length new ≡ length old
   pub each : (i : ℕ) → left_at new i + times i ns ≡ left_at old i
 
 -- step i was left with b, and isn't any more
-abbrev pub IsTaken : ℕ → List (Option Built) → List (Option Built) → Built → Type 0
+abbrev pub IsTaken : ℕ → BuiltParts → BuiltParts → Built → Type 0
 IsTaken i old new b = (slice_get old i ≡ Some (Some b)) × (new ≡ slice_set old i None)
 
-abbrev pub OnTaken : ℕ → List (Option Built) → List (Option Built) → Option Built → Type 0
+abbrev pub OnTaken : ℕ → BuiltParts → BuiltParts → Option Built → Type 0
 OnTaken i old new None = left_at old i ≡ 0
 OnTaken i old new (Some b) = IsTaken i old new b
 
 -- these steps were taken, the last of them first
-abbrev pub Took : List ℕ → List (Option Built) → List (Option Built) → List Built → Type 0
+abbrev pub Took : List ℕ → BuiltParts → BuiltParts → List Built → Type 0
 Took [] old new [] = new ≡ old
 Took [] old new (b ∷ bs) = ⊥
 Took (i ∷ is) old new [] = ⊥
-Took (i ∷ is) old new (b ∷ bs) = (mid : List (Option Built)) × Took is old mid bs × IsTaken i mid new b
+Took (i ∷ is) old new (b ∷ bs) = (mid : BuiltParts) × Took is old mid bs × IsTaken i mid new b
 
 abbrev pub AllHold : OpenNet → List Built → List Part → Type 0
 AllHold o [] [] = Unit {0}
@@ -208,22 +212,22 @@ AllHold o (b ∷ bs) [] = ⊥
 AllHold o (b ∷ bs) (x ∷ xs) = IsBuiltPart o b x × AllHold o bs xs
 
 -- the parts of the steps that are left
-abbrev pub AreHeld : OpenNet → List (Option Built) → List Part → Type 0
+abbrev pub AreHeld : OpenNet → BuiltParts → List Part → Type 0
 AreHeld o parts all = (i : ℕ) (b : Built) → slice_get parts i ≡ Some (Some b) → (x : Part) × (slice_get all i ≡ Some x) × IsBuiltPart o b x
 
 -- the step names one that is not left, or has a node that a step before it has
-abbrev pub Again : Step → List (Option Built) → Type 0
+abbrev pub Again : Step → BuiltParts → Type 0
 Again step old = ((i : ℕ) × (is_among i (named step) ≡ true) × (left_at old i ≡ 0))
     ⊎ ((n : ℕ) × (is_among n (own_nodes step) ≡ true) × (0 < times_left n old))
 
-pub record IsMadeByStep (o : OpenNet) (step : Step) (old new : List (Option Built)) (c : Built) : Type 0 where
+pub record IsMadeByStep (o : OpenNet) (step : Step) (old new : BuiltParts) (c : Built) : Type 0 where
   pub from : List Built
   pub took : Took (named step) old new from
   pub sized : IsSizedBuilt o c
   pub makes : (xs : List Part) → AllHold o from xs → (x : Part) → MakesPart o step xs x ↔ IsBuiltPart o c x
   pub counted : (n : ℕ) → times_left n new + in_one c n ≡ times_left n old + times n (own_nodes step)
 
-abbrev pub OnStep : OpenNet → Step → List (Option Built) → List (Option Built) → Option Built → Type 0
+abbrev pub OnStep : OpenNet → Step → BuiltParts → BuiltParts → Option Built → Type 0
 OnStep o step old new None = (all : List Part) (x : Part) → AreHeld o old all → BuildsPart o all (length old) step x → Again step old
 OnStep o step old new (Some c) = IsMadeByStep o step old new c
 
@@ -233,27 +237,27 @@ AreOpen o n c [] = Unit {0}
 AreOpen o n c (x ∷ xs) = ((w i : ℕ) (q : OpenPoint) → IsWire o w (Port n i) q → class_in o n i ≡ suc c → 0 < x.ends (Port n i)) × AreOpen o n (suc c) xs
 
 -- one more class beside those after it
-abbrev pub IsClassTaken : OpenNet → ℕ → ℕ → ℕ → List (Option Built) → List (Option Built) → Built → Built → Type 0
+abbrev pub IsClassTaken : OpenNet → ℕ → ℕ → ℕ → BuiltParts → BuiltParts → Built → Built → Type 0
 IsClassTaken o n c i old new built built' = (b : Built) × IsTaken i old new b × HasClassBuilt o n c b × AreBeside b built built'
 
-abbrev pub IsClassRefused : OpenNet → ℕ → ℕ → ℕ → List (Option Built) → Built → Type 0
+abbrev pub IsClassRefused : OpenNet → ℕ → ℕ → ℕ → BuiltParts → Built → Type 0
 IsClassRefused o n c i old built = (left_at old i ≡ 0) ⊎ ((b : Built) × (slice_get old i ≡ Some (Some b)) × ((HasClassBuilt o n c b → ⊥) ⊎ ShareOne b built))
 
 -- the steps of the classes after c are taken, and side by side
-pub record AreGathered (o : OpenNet) (n c : ℕ) (is : List ℕ) (old new : List (Option Built)) (built : Built) : Type 0 where
+pub record AreGathered (o : OpenNet) (n c : ℕ) (is : List ℕ) (old new : BuiltParts) (built : Built) : Type 0 where
   pub from : List Built
   pub took : Took is old new from
   pub gathers : (xs : List Part) → AllHold o from xs → Gathers o built xs × AreOpen o n c xs
   pub counted : (m : ℕ) → times_left m new + in_one built m ≡ times_left m old
 
-abbrev pub AreRefused : OpenNet → ℕ → ℕ → List ℕ → List (Option Built) → Type 0
+abbrev pub AreRefused : OpenNet → ℕ → ℕ → List ℕ → BuiltParts → Type 0
 AreRefused o n c is old = (all from : List Part) → AreHeld o old all → AreEarlier all (length old) is from → HaveNoRepeats is → ShareNothing from → AreOpen o n c from → (i : ℕ) × (is_among i is ≡ true) × (left_at old i ≡ 0)
 
 -- ---- the whole
 
 -- it has all nodes and the free ends, and no step is left
-abbrev pub IsLastBuilt : OpenNet → Built → List (Option Built) → Type 0
+abbrev pub IsLastBuilt : OpenNet → Built → BuiltParts → Type 0
 IsLastBuilt o b others = HasFreeEnds o b (length o.wires) × AreAll b.nodes (length b.nodes) × ((i : ℕ) → left_at others i ≡ 0)
 
-abbrev pub IsWholeNet : OpenNet → List (Option Built) → Type 0
-IsWholeNet o parts = (others : List (Option Built)) × (b : Built) × (parts ≡ others ++ Some b ∷ []) × IsLastBuilt o b others
+abbrev pub IsWholeNet : OpenNet → BuiltParts → Type 0
+IsWholeNet o parts = (others : BuiltParts) × (b : Built) × (parts ≡ others ++ Some b ∷ []) × IsLastBuilt o b others

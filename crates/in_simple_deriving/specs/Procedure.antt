@@ -9,19 +9,19 @@ use Rattle.in_open_nets.specs.Members.{nodes_in}
 use Rattle.in_open_nets.specs.Parts.{IsReached, PortSplits}
 use Rattle.in_open_nets.specs.Pieces.{IsLeftOf, IsPieceOrWhole}
 use Rattle.in_open_nets.specs.Splitting.{Splits}
-use Rattle.in_open_nets.specs.OpenNets.{OpenNet, open_graph}
+use Rattle.in_open_nets.specs.OpenNets.{OpenNet, NodeTest, open_graph}
 use Rattle.in_open_nets.specs.Stuck.{IsPart, ComesAt, FirstStuck}
 
-abbrev pub AllSplit : OpenNet → (ℕ → Bool) → Type 0
+abbrev pub AllSplit : OpenNet → NodeTest → Type 0
 AllSplit o s = Splits (open_graph o) (λ m n. m < n) s
 
 -- no component has a turn from low on and below k
-abbrev pub HasNoTurn : OpenNet → ℕ → (ℕ → Bool) → ℕ → ℕ → Type 0
-HasNoTurn o n s low k = (d : ℕ → Bool) (l : ℕ) → IsPart o n s d → ComesAt o n d l → low ≤ l → l < k → ⊥
+abbrev pub HasNoTurn : OpenNet → ℕ → NodeTest → ℕ → ℕ → Type 0
+HasNoTurn o n s low k = (d : NodeTest) (l : ℕ) → IsPart o n s d → ComesAt o n d l → low ≤ l → l < k → ⊥
 
 -- the tasks derive the components that n leaves of s, by their turns from low on
-abbrev pub Lists : OpenNet → ℕ → (ℕ → Bool) → ℕ → List Task → Type 0
-Lists o n s low [] = (d : ℕ → Bool) (l : ℕ) → IsPart o n s d → ComesAt o n d l → low ≤ l → ⊥
+abbrev pub Lists : OpenNet → ℕ → NodeTest → ℕ → List Task → Type 0
+Lists o n s low [] = (d : NodeTest) (l : ℕ) → IsPart o n s d → ComesAt o n d l → low ≤ l → ⊥
 Lists o n s low (Derive c ∷ ts) = (k : ℕ) × (low ≤ k) × IsPart o n s (nodes_in c) × ComesAt o n (nodes_in c) k × HasNoTurn o n s low k × Lists o n s (suc k) ts
 Lists o n s low (Make x ∷ ts) = Lists o n s low ts
 
@@ -32,8 +32,8 @@ AreSizedTasks b (Derive c ∷ ts) = (length c ≡ b) × ((m : ℕ) × IsIn m (no
 AreSizedTasks b (Make x ∷ ts) = AreSizedTasks b ts
 
 -- the nodes of the components that come before a turn
-abbrev pub AreBefore : OpenNet → ℕ → (ℕ → Bool) → ℕ → List Bool → Type 0
-AreBefore o n s turn done = (m : ℕ) → IsIn m (nodes_in done) ↔ ((d : ℕ → Bool) × (l : ℕ) × IsPart o n s d × ComesAt o n d l × (l < turn) × IsIn m d)
+abbrev pub AreBefore : OpenNet → ℕ → NodeTest → ℕ → List Bool → Type 0
+AreBefore o n s turn done = (m : ℕ) → IsIn m (nodes_in done) ↔ ((d : NodeTest) × (l : ℕ) × IsPart o n s d × ComesAt o n d l × (l < turn) × IsIn m d)
 
 -- a plan for the rest, without n, has reached a turn
 pub record IsPlanAtTurn (o : OpenNet) (n : ℕ) (turn : ℕ) (p : TaskPlan) : Type 0 where
@@ -52,7 +52,7 @@ StaysForRest o n turn old new = IsPlanAtTurn o n turn new × (new.rest ≡ old.r
 
 -- the component of a node has this turn
 abbrev pub HasTurn : OpenNet → ℕ → TaskPlan → ℕ → ℕ → Type 0
-HasTurn o n p near turn = (c : ℕ → Bool) → IsPart o n (nodes_in p.rest) c → IsIn near c → ComesAt o n c turn
+HasTurn o n p near turn = (c : NodeTest) → IsPart o n (nodes_in p.rest) c → IsIn near c → ComesAt o n c turn
 
 -- the component of near is derived too
 pub record DerivesNear (o : OpenNet) (near : ℕ) (old new : TaskPlan) : Type 0 where
@@ -83,7 +83,7 @@ AreMakes (Derive c ∷ ts) = ⊥
 AreMakes (Make x ∷ ts) = AreMakes ts
 
 -- the first of the tasks' parts that doesn't split has t as its first stuck sub-net
-abbrev pub StuckIn : OpenNet → List Task → (ℕ → Bool) → Type 0
+abbrev pub StuckIn : OpenNet → List Task → NodeTest → Type 0
 StuckIn o [] t = ⊥
 StuckIn o (Derive c ∷ ts) t = FirstStuck o (nodes_in c) t ⊎ (AllSplit o (nodes_in c) × StuckIn o ts t)
 StuckIn o (Make x ∷ ts) t = StuckIn o ts t
@@ -111,9 +111,9 @@ pub record IsWork (o : OpenNet) (tasks : List Task) : Type 0 where
   pub sized : AreSizedTasks (length o.nodes) tasks
   pub apart : AreTasksApart tasks
   pub pieces : ArePieces o tasks
-  pub whole : ℕ → Bool
+  pub whole : NodeTest
   pub nodes : (n : ℕ) → IsIn n whole ↔ (n < length o.nodes)
-  pub stuck : (t : ℕ → Bool) → StuckIn o tasks t → FirstStuck o whole t
+  pub stuck : (t : NodeTest) → StuckIn o tasks t → FirstStuck o whole t
 
 -- steps are taken from the tasks
 abbrev pub PassesSteps : List Task → List Task → Type 0

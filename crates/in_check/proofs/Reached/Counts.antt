@@ -1,5 +1,5 @@
 -- The agents of a net, each once, are as many under other names.
-use Rattle.std.proofs.Common.{◌≡◌, ◌≢◌, ◌≤◌, IsSome, List, [], ◌∷◌, map, length, refl, sym, subst, ap, inl, inr, ◌∙◌, arith}
+use Rattle.std.proofs.Common.{◌≡◌, ◌≢◌, ◌≤◌, IsSome, List, [], ◌∷◌, map, length, refl, sym, subst, ap, ◌∙◌, arith}
 use Rattle.std.specs.List.{AllByRecursion}
 use Rattle.std.proofs.lemmas.List.{length-map}
 use Rattle.in_base.proofs.Among.{among_all, in_map, of_map}

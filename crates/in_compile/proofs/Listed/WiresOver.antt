@@ -1,5 +1,5 @@
 -- The wires with boundary ends are listed.
-use Rattle.std.proofs.Common.{◌≡◌, ◌≤◌, ◌<◌, ℕ, true, Some, List, slice_get, refl, sym, ap, subst, ◌∙◌, leb-true, le-leb, arith}
+use Rattle.std.proofs.Common.{◌≡◌, ◌≤◌, ◌<◌, ℕ, true, Some, map, slice_get, refl, sym, ap, subst, ◌∙◌, leb-true, le-leb, arith}
 use Rattle.std.specs.Prelude.{option_map}
 use Rattle.std.proofs.lemmas.Option.{slice_get-map}
 use Rattle.in_base.proofs.Places.{of_mapped}

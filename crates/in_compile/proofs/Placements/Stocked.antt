@@ -313,9 +313,9 @@ module _ (b : ArenaView) (l k : CellClass → List CellNo) (c : CellClass) (n : 
     rest_listed = record {
       all = length-set b.states n.0 Leased ∙ h.all;
       each = λ d i m s.
-          let was = h.each d i m (still d i m (same_or_other c d) s) in
+          let was = h.each d i m (kept here d i m (same_or_other c d) s) in
           (was.0, get_or-set_other b.states n.0 m.0 Leased Leased (differs d i m s) ∙ was.1);
-      once = λ d i j m s r. h.once d i j m (still d i m (same_or_other c d) s) (still d j m (same_or_other c d) r);
+      once = λ d i j m s r. h.once d i j m (kept here d i m (same_or_other c d) s) (kept here d j m (same_or_other c d) r);
       only = λ m in_it. only_left m (cases_eq m n.0) in_it;
       count = λ d. count_left d (same_or_other c d);
     }

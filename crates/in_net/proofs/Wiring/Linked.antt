@@ -4,7 +4,7 @@ use Rattle.std.proofs.lemmas.List.{get_or_append_left, get_or-append-add, length
 use Rattle.std.proofs.lemmas.Bool.{cases_lt}
 use Rattle.in_syntax.specs.declared.places.Place.{Place}
 use Rattle.in_net.specs.declared.joining.Link.{Link}
-use Rattle.in_net.specs.declared.reading.Joint.{Joint}
+use Rattle.in_net.specs.declared.reading.TextJoint.{TextJoint}
 use Rattle.in_net.specs.declared.reading.Spot.{Spot}
 use Rattle.in_net.specs.declared.reading.Reading.{Reading}
 use Rattle.in_net.specs.Building.{nth_link}
@@ -62,7 +62,7 @@ link_append links more one other place a b =
     ap (λ z. set z other (record { to = one; place = place })) (set-append_left links more one (record { to = other; place = place }) a)
     ∙ set-append_left (set links one (record { to = other; place = place })) more other (record { to = one; place = place }) (omega (arith, count))
 
-joints_append : (n : ℕ) (links more : List Link) (js : List Joint) → length links ≡ n → JointsInside n js → with_joints (links ++ more) js ≡ with_joints links js ++ more
+joints_append : (n : ℕ) (links more : List Link) (js : List TextJoint) → length links ≡ n → JointsInside n js → with_joints (links ++ more) js ≡ with_joints links js ++ more
 joints_append n links more [] count all = refl
 joints_append n links more (j ∷ js) count all =
     ap (λ z. with_joints z js) (link_append links more (j.one + j.port) j.other j.place (omega (arith, count, all.0.0)) (omega (arith, count, all.0.1)))
@@ -72,7 +72,7 @@ pub length-links_of : (r : Reading) → length (links_of r) ≡ length r.spots
 length-links_of r = length-with_joints (self_links 0 (length r.spots)) r.joints ∙ length-self_links 0 (length r.spots)
 
 -- spots that are added are joined to none
-pub links_more : (spots more : List Spot) (js : List Joint) → JointsInside (length spots) js →
+pub links_more : (spots more : List Spot) (js : List TextJoint) → JointsInside (length spots) js →
     with_joints (self_links 0 (length (spots ++ more))) js ≡ with_joints (self_links 0 (length spots)) js ++ self_links (length spots) (length more)
 links_more spots more js all =
     let zero_on : 0 + length spots ≡ length spots = omega arith in
@@ -80,7 +80,7 @@ links_more spots more js all =
     ∙ ap (λ z. with_joints z js) (self_append 0 (length spots) (length more) ∙ ap (λ k. self_links 0 (length spots) ++ self_links k (length more)) zero_on)
     ∙ joints_append (length spots) (self_links 0 (length spots)) (self_links (length spots) (length more)) js (length-self_links 0 (length spots)) all
 
-joints_snoc : (links : List Link) (js : List Joint) (j : Joint) → with_joints links (js ++ j ∷ []) ≡ with_link (with_joints links js) (j.one + j.port) j.other j.place
+joints_snoc : (links : List Link) (js : List TextJoint) (j : TextJoint) → with_joints links (js ++ j ∷ []) ≡ with_link (with_joints links js) (j.one + j.port) j.other j.place
 joints_snoc links [] j = refl
 joints_snoc links (k ∷ js) j = joints_snoc (with_link links (k.one + k.port) k.other k.place) js j
 
@@ -88,7 +88,7 @@ pub links_joint : (r : Reading) (one port other : ℕ) (place : Place) → links
 links_joint r one port other place = joints_snoc (self_links 0 (length r.spots)) r.joints (record { one = one; port = port; other = other; place = place })
 
 -- the same for one spot
-module _ (spots more : List Spot) (js : List Joint) (all : JointsInside (length spots) js) where
+module _ (spots more : List Spot) (js : List TextJoint) (all : JointsInside (length spots) js) where
   pub stays : (i : ℕ) → i < length spots → nth_link (with_joints (self_links 0 (length (spots ++ more))) js) i ≡ nth_link (with_joints (self_links 0 (length spots)) js) i
   stays i lt =
       let count = length-with_joints (self_links 0 (length spots)) js ∙ length-self_links 0 (length spots) in

@@ -4,7 +4,7 @@ use Rattle.std.specs.List.{AllByRecursion}
 use Rattle.std.proofs.lemmas.List.{length-set}
 use Rattle.in_syntax.specs.declared.places.Place.{Place}
 use Rattle.in_net.specs.declared.joining.Link.{Link}
-use Rattle.in_net.specs.declared.reading.Joint.{Joint}
+use Rattle.in_net.specs.declared.reading.TextJoint.{TextJoint}
 use Rattle.in_net.specs.Joining.{self_link, self_links, with_link, with_joints, JointsInside}
 
 -- one spot more
@@ -23,7 +23,7 @@ length-self_links k (suc n) = omega (arith, length-self_links (k + 1) n)
 pub length-with_link : (links : List Link) (one other : ℕ) (place : Place) → length (with_link links one other place) ≡ length links
 length-with_link links one other place = simp length-set refl
 
-pub length-with_joints : (links : List Link) (js : List Joint) → length (with_joints links js) ≡ length links
+pub length-with_joints : (links : List Link) (js : List TextJoint) → length (with_joints links js) ≡ length links
 length-with_joints links [] = refl
 length-with_joints links (j ∷ js) = length-with_joints (with_link links (j.one + j.port) j.other j.place) js ∙ length-with_link links (j.one + j.port) j.other j.place
 
@@ -56,6 +56,6 @@ pub within_self : (n k count : ℕ) → k + count ≤ n → AllByRecursion (λ l
 within_self n k zero le = tt
 within_self n k (suc count) le = (omega arith, within_self n (k + 1) count (omega arith))
 
-pub within_joints : (n : ℕ) (links : List Link) (js : List Joint) → AllByRecursion (λ l. l.to < n) links → JointsInside n js → AllByRecursion (λ l. l.to < n) (with_joints links js)
+pub within_joints : (n : ℕ) (links : List Link) (js : List TextJoint) → AllByRecursion (λ l. l.to < n) links → JointsInside n js → AllByRecursion (λ l. l.to < n) (with_joints links js)
 within_joints n links [] all h = all
 within_joints n links (j ∷ js) all h = within_joints n (with_link links (j.one + j.port) j.other j.place) js (within_link n links (j.one + j.port) j.other j.place all h.0.0 h.0.1) h.1

@@ -3,7 +3,7 @@ use Rattle.std.proofs.Common.{◌≡◌, ◌≢◌, ◌⊎◌, inl, inr, ℕ, �
 use Rattle.std.proofs.lemmas.Bool.{cases_eq}
 use Rattle.in_syntax.specs.declared.places.Place.{Place}
 use Rattle.in_net.specs.declared.joining.Link.{Link}
-use Rattle.in_net.specs.declared.reading.Joint.{Joint}
+use Rattle.in_net.specs.declared.reading.TextJoint.{TextJoint}
 use Rattle.in_net.specs.declared.reading.Spot.{Spot}
 use Rattle.in_net.specs.declared.reading.Spot.TheVariants.{Port, Free, End, Occurrence}
 use Rattle.in_symbols.specs.Tables.{Tables}
@@ -20,7 +20,7 @@ named (Free k m) = text.free_end k
 named (End k) = text.free_end k
 named (Occurrence m p) = text.occurrence p
 
-abbrev pub joined : List Spot → List Joint → List Link
+abbrev pub joined : List Spot → List TextJoint → List Link
 joined spots js = with_joints (self_links 0 (length spots)) js
 
 -- what a spot is joined to leads back, and they are joined in the text, at that place
@@ -29,7 +29,7 @@ pub record IsLinked (t : Tables) (b : Body) (spots : List Spot) (links : List Li
   pub back : LeadBack spots links
   pub sound : (i : ℕ) → i < length spots → (nth_link links i).to ≢ i → PlacedJoint t b (named (nth_spot spots i)) (named (nth_spot spots (nth_link links i).to)) (nth_link links i).place
 
-module _ (t : Tables) (b : Body) (spots more : List Spot) (js : List Joint) (all : JointsInside (length spots) js) (linked : IsLinked t b spots (joined spots js)) where
+module _ (t : Tables) (b : Body) (spots more : List Spot) (js : List TextJoint) (all : JointsInside (length spots) js) (linked : IsLinked t b spots (joined spots js)) where
   abbrev old : List Link
   old = joined spots js
 

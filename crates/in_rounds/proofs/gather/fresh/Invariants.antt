@@ -1,5 +1,5 @@
 use Rattle.std.proofs.Common.{◌≡◌, ◌≤◌, replicate, vec_capacity}
-use Rattle.in_rounds.specs.declared.gather.Slot.TheVariants.{Fresh}
+use Rattle.in_rounds.specs.declared.gather.JobState.TheVariants.{Fresh}
 use Rattle.in_rounds.proofs.gather.fresh.Given as goal
 
 abbrev pub invariant-loop-made : goal.invariant-loop-made

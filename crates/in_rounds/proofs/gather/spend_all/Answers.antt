@@ -1,6 +1,6 @@
 use Rattle.std.proofs.Common.{◌++◌, ap, ◌∙◌}
 use Rattle.std.specs.Option.{option_to_list}
-use Rattle.in_rounds.specs.declared.gather.Slot.TheVariants.{Kept}
+use Rattle.in_rounds.specs.declared.gather.JobState.TheVariants.{Kept}
 use Rattle.in_rounds.proofs.Keeping.{last_slot, last_is_bag, last_returned, none_kept}
 use Rattle.in_rounds.proofs.gather.spend_all.Goals as goal
 

@@ -4,7 +4,7 @@ use Rattle.in_arena.specs.Arenas.{free_of}
 use Rattle.in_compile.specs.Cells.{count_of}
 use Rattle.in_compile.specs.Templates.{TemplatesParts}
 use Rattle.in_rounds.specs.Gathers.{GatherParts, bags_of}
-use Rattle.in_rounds.specs.declared.gather.Slot.TheVariants.{Fresh}
+use Rattle.in_rounds.specs.declared.gather.JobState.TheVariants.{Fresh}
 use Rattle.in_rounds.specs.Bringing.{AreMadeWith, HandsAreMadeWith, in_hands}
 use Rattle.in_rounds.specs.Plans.{PlanParts}
 use Rattle.in_rounds.specs.Works.{IsReady}

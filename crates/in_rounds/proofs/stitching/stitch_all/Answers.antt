@@ -4,8 +4,8 @@ use Rattle.in_compile.specs.PlacedTemplates.{PlacedTemplateParts}
 use Rattle.in_compile.specs.Templates.{TemplatesParts, AreTemplatesOf, template_at}
 use Rattle.in_rounds.specs.Gathers.{GatherParts, bags_of}
 use Rattle.in_rounds.specs.Holding.{HaveAllLeased}
-use Rattle.in_rounds.specs.declared.gather.Slot.{Slot}
-use Rattle.in_rounds.specs.declared.gather.Slot.TheVariants.{Kept, Taken}
+use Rattle.in_rounds.specs.declared.gather.JobState.{JobState}
+use Rattle.in_rounds.specs.declared.gather.JobState.TheVariants.{Kept, Taken}
 use Rattle.in_arena.specs.Bags.{IsBagOf}
 use Rattle.in_reducer.specs.Inside.{reducer_view}
 use Rattle.in_reducer.specs.Lent.{AreSettled}
@@ -65,8 +65,8 @@ loop-job-preserved c =
     record {
       all = c.stitch.ensures.all;
       templates = subst (λ (p : Program). AreTemplatesOf p c.args.templates.now) (sym same) c.loop-job.invariant.templates;
-      made = λ k e at. c.loop-job.invariant.made k e (lending.left_at slots j k e (subst (λ (zs : List Slot). slice_get zs k ≡ Some (Kept e)) now at));
-      lent = subst (λ (zs : List Slot). HaveAllLeased (bags_of zs) b) (sym now) (lending.have_left slots j d c.in-Some.ensures.0 a c.loop-job.invariant.lent b settled);
+      made = λ k e at. c.loop-job.invariant.made k e (lending.left_at slots j k e (subst (λ (zs : List JobState). slice_get zs k ≡ Some (Kept e)) now at));
+      lent = subst (λ (zs : List JobState). HaveAllLeased (bags_of zs) b) (sym now) (lending.have_left slots j d c.in-Some.ensures.0 a c.loop-job.invariant.lent b settled);
       runs = subst (λ (k : ℕ). Runs (reducer_view c.args.body.now) k (reducer_view c.stitch.new.self)) (let z : suc j ≡ j + 1 = omega arith in z)
           (then_step (reducer_view c.args.body.now) (reducer_view c.loop-job.body) (reducer_view c.stitch.new.self) j c.loop-job.invariant.runs c.stitch.ensures.steps);
       left = (let l = c.loop-job.invariant.left in let f = lending.one_fewer c.loop-job.body.queue.items _ c.stitch.new.self.queue.items c.stitch.ensures.steps.queue in omega (arith, l, f));
