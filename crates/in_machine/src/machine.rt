@@ -1,6 +1,8 @@
 // A machine, how it starts, and one interaction of it.
 ghost use Rattle.std.specs.Prelude.{◌≡◌, ◌<◌, ◌≤◌, ℕ, suc, true, false, length};
 ghost use Rattle.in_check.specs.Plain.{IsReachedBy};
+ghost use Rattle.in_arena.specs.declared.content.CellClass.{CellClass};
+ghost use Rattle.in_compile.specs.Cells.{count_of};
 ghost use Rattle.in_reducer.specs.Limiting.{least_cells, most_cells};
 ghost use Rattle.in_reducer.specs.Machines.{plain_of};
 ghost use Rattle.in_reducer.specs.Steps.{HasRoomAt, StepsAt};
@@ -92,11 +94,12 @@ impl<'a> Machine<'a> {
 
     /// Interactions of the last pair of the queue, one after another, at most `most`, the newest pair first: the newest agents are still in the
     /// cache, and a net that is reduced so stays small. Fewer only if no pair is left, or the cells of the last one aren't free with `floor`
-    /// more of each class. Returns the number of interactions. The net is one that the program reaches by as many interactions more. It takes no
-    /// memory.
+    /// more of each class; and where so many are free, so many stay free. Returns the number of interactions. The net is one that the program reaches
+    /// by as many interactions more. It takes no memory.
     pub fn take_newest(&mut self, floor: u32, most: u64) -> u64
         ensures phase { IsPhase self.old result self.new }
         ensures most { result ≤ most }
+        ensures floor { ((c : CellClass) → floor ≤ count_of self.old.vacant c) → (c : CellClass) → floor ≤ count_of self.new.vacant c }
         ensures fewer { result < most → TakesNoLast floor self.new }
     {
         let count = self.reducer.take_newest(&self.templates, floor, most);
