@@ -1,4 +1,6 @@
+mod AnsweredOnce
 mod Chosen
+mod ChosenOnce
 mod Exported
 mod Given
 mod Said

@@ -1,4 +1,5 @@
 pub mod Answers
 pub mod Choosing
 pub mod Giving
+pub mod Laws
 pub mod Numbers

@@ -21,6 +21,7 @@ mod collecting;
 mod diagnosing;
 mod exporting;
 mod giving;
+pub mod laws;
 mod refusing;
 mod saying;
 mod verifying;
