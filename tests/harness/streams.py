@@ -31,6 +31,10 @@ def closed_pipe():
     """The writing end of a pipe that nobody reads any more."""
     reader, writer = os.pipe()
     os.close(reader)
+    # A process that another trial starts has the reading end until its program begins.
+    ended = select.poll()
+    ended.register(writer, 0)
+    ended.poll(10_000)
     return writer
 
 
