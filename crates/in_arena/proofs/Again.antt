@@ -3,7 +3,7 @@ use Rattle.in_arena.specs.Arenas.{ArenaView, BeginsCell, changed, state_at}
 use Rattle.in_arena.specs.Classes.{IsNumberOf}
 use Rattle.in_arena.specs.States.{State, Vacant, Leased, IsLive, IsBegun}
 use Rattle.in_arena.specs.declared.content.CellClass.{CellClass}
-use Rattle.in_arena.proofs.OneRegion.{set_twice}
+use Rattle.in_arena.proofs.FreeLists.{set_twice}
 use Rattle.in_arena.proofs.Arenas.{live_inside}
 
 -- the same cell again

@@ -10,7 +10,7 @@ use Rattle.in_arena.specs.Classes.{classes, class_no, IsNumberOf}
 use Rattle.in_arena.specs.States.{State, Leased, IsLeased, is_vacant}
 use Rattle.in_arena.specs.declared.content.CellClass.{CellClass}
 use Rattle.in_arena.proofs.Classes.{known, numbers_apart}
-use Rattle.in_arena.proofs.OneRegion.{take_set}
+use Rattle.in_arena.proofs.FreeLists.{take_set}
 
 -- all cells of a class are below those of the next one
 next_class : (c : CellClass) (cells : ℕ) → (class_no c + 1) * cells ≡ class_no c * cells + cells

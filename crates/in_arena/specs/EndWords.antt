@@ -1,29 +1,35 @@
--- An end in one word of 64 bits. For a place of a cell its low 16 bits are the place, and the bits above are the number of the cell. For a free end
--- these 16 bits are full, the bits above are its number, and the top bit is set: so the bits above are less than the number of cells for places of
--- cells alone.
-use Rattle.std.specs.Prelude.{◌≡◌, ◌≤◌, ◌<◌, ◌+◌, ◌-◌, ◌*◌, ◌/◌, ◌%◌, ℕ, nat_eq, if◌then◌else◌}
+-- An end in one word of 64 bits. The lowest two bits of the word of a near place, 0 to 2, are the place, and the bits above them are the number of
+-- the cell: so the word is the place's own number in the row. The lowest two bits of every other end are full, the number is above them, and from
+-- bit 40 on there is the place, or 256 for a free end.
+use Rattle.std.specs.Prelude.{◌≡◌, ◌≤◌, ◌<◌, ◌+◌, ◌*◌, ◌/◌, ◌%◌, ℕ, nat_eq, nat_lt, if◌then◌else◌}
 use Rattle.in_arena.specs.declared.content.End.{End}
 use Rattle.in_arena.specs.declared.content.End.TheVariants.{Cell, Free}
 
--- the number begins at this bit
+-- the place begins at this bit
 abbrev pub above : ℕ
-above = 65536
-
--- and from here on the top bit, as it is there
-abbrev pub top : ℕ
-top = 140737488355328
+above = 1099511627776
 
 -- how many numbers there are
 abbrev pub numbers : ℕ
 numbers = 4294967296
 
+-- what a free end has in the place of a place
+abbrev pub free_place : ℕ
+free_place = 256
+
+-- the number of the cell or of the free end
+abbrev pub number_in : ℕ → ℕ
+number_in bits = bits % above / 4
+
 abbrev pub end_in : ℕ → End
-end_in bits = if nat_eq (bits % above) 65535 then Free (bits / above - top) else Cell (record { 0 = bits / above }) (bits % above)
+end_in bits = if nat_eq (bits / above) 0 then Cell (record { 0 = number_in bits }) (bits % 4) else if nat_eq (bits / above) free_place then Free (number_in bits) else Cell (record { 0 = number_in bits }) (bits / above)
 
 abbrev pub bits_of : End → ℕ
-bits_of (Cell c place) = c.0 * above + place
-bits_of (Free number) = (top + number) * above + 65535
+bits_of (Cell c place) = if nat_lt place 3 then c.0 * 4 + place else place * above + (c.0 * 4 + 3)
+bits_of (Free number) = free_place * above + (number * 4 + 3)
 
 -- it is the word of an end, whose number has 32 bits and whose place is less than 256
-abbrev pub FitsEnd : ℕ → Type 0
-FitsEnd bits = (bits % above ≡ 65535 → (top ≤ bits / above) × (bits / above < top + numbers)) × ((bits % above ≡ 65535 → ⊥) → (bits % above < 256) × (bits / above < numbers))
+pub record FitsEnd (bits : ℕ) : Type 0 where
+  pub number : number_in bits < numbers
+  pub near : bits / above ≡ 0 → bits % 4 < 3
+  pub others : (bits / above ≡ 0 → ⊥) → (bits % 4 ≡ 3) × (3 ≤ bits / above) × (bits / above ≤ free_place)

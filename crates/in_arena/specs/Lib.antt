@@ -5,11 +5,11 @@ pub mod ByClass
 pub mod Changes
 pub mod Classes
 pub mod EndWords
-pub mod Filling
+pub mod FreeLists
 pub mod Inside
 pub mod Leases
 pub mod Lending
 pub mod Limiting
-pub mod Regions
-pub mod Sacks
+pub mod Rows
 pub mod States
+pub mod Words

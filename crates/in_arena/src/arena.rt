@@ -1,4 +1,4 @@
-// An arena: regions of cells, in which each cell has a number.
+// An arena: a row of words, in which each cell has its own, and a number.
 ghost use Rattle.std.specs.Prelude.{ℕ, ◌≡◌, ◌*◌, ◌<◌, ◌≤◌, ◌↔◌, IsTrue, true, false, MatchOption, Some, IfOk, length, replicate};
 ghost use Rattle.in_arena.specs.States.{State, Vacant, Leased, IsLive, IsLeased, IsBegun, HasEnds, word_of, end_at, places, with_end};
 ghost use Rattle.in_arena.specs.Arenas.{Leases, BeginsCell, IsOf, IsUsedOf, NoneLeased, state_at, changed, free_of};
@@ -12,16 +12,28 @@ ghost use Rattle.in_arena.specs.Limiting.{most_cells};
 
 use crate::bag::Bag;
 use crate::content::{CellClass, CellNo, End, SymbolWord};
+use crate::free_list::{FreeList, FreeLists};
 use crate::lease::Lease;
-use crate::regions::{Regions, place_of};
+use crate::row::{head_of, is_ready, take_back};
+use crate::spot::{HEAD, Spot, near_word, spot_of};
 use crate::word::EndWord;
+use in_memory::{Base, Cells, Deed, allocate, deallocate};
 use std::alloc::{AllocError, Global};
 use std::marker::Model;
+use std_alloc::room::may_hold;
+
+// How many words the row has for each number of cells of a class: four for each cell, and six and fourteen more for a large and a wide one.
+const WORDS: usize = 32;
 
 /// Cells in raw memory, the same number of each class, numbered class by class from 0. Contracts see what each cell is,
 /// by its number: free, leased, or live with a symbol word and its ends. It is dropped only while no cell is on lease.
 pub struct Arena {
-    regions: Regions,
+    base: Base<EndWord>,
+    words: Cells<EndWord>,
+    deed: Deed<EndWord, Global>,
+    alloc: Global,
+    cells: u32,
+    lists: FreeLists,
 }
 
 impl Model for Arena {
@@ -41,8 +53,15 @@ impl Drop for Arena {
     fn drop(self)
         requires { NoneLeased self }
     {
-        let Arena { regions } = self;
-        regions.close();
+        let Arena {
+            base,
+            words,
+            deed,
+            alloc,
+            cells,
+            lists: _,
+        } = self;
+        deallocate(&alloc, base, WORDS * cells as usize, words, deed);
     }
 }
 
@@ -52,36 +71,56 @@ impl Arena {
         requires { cells ≤ most_cells }
         ensures { IfOk result (λ a. (a.cells ≡ cells) × (a.states ≡ replicate (length classes * cells) Vacant)) }
     {
-        let regions = Regions::new(alloc, cells)?;
-        Ok(Arena { regions })
+        let len = WORDS * cells as usize;
+        if !may_hold::<EndWord>(len) {
+            return Err(AllocError);
+        }
+        let (base, words, deed) = allocate(&alloc, len)?;
+        let all = FreeList {
+            next: cells,
+            fresh: 0,
+            free: cells,
+        };
+        Ok(Arena {
+            base,
+            words,
+            deed,
+            alloc,
+            cells,
+            lists: FreeLists {
+                small: all,
+                large: all,
+                wide: all,
+            },
+        })
     }
 
     /// How many cells of each class there are.
     pub fn cells(&self) -> u32
         ensures { (result ≡ self.now.cells) × HasAllCells self.now }
     {
-        self.regions.cells
+        self.cells
     }
 
     /// How many cells there are of all classes: each number below is that of a cell.
     pub fn all_cells(&self) -> u32
         ensures { result ≡ length self.now.states }
     {
-        self.regions.cells * CellClass::ALL.len() as u32
+        self.cells * CellClass::ALL.len() as u32
     }
 
     /// How many cells of a class are free.
     pub fn free_count(&self, class: CellClass) -> u32
         ensures { result ≡ free_of self.now class }
     {
-        self.regions.free_count(class)
+        self.lists.of(class).free
     }
 
     /// A number from which on all cells of a class are free: they were never used. It isn't below that of the first cell of the class.
     pub fn used(&self, class: CellClass) -> u32
         ensures { IsUsedOf self.now class result }
     {
-        class.number() * self.regions.cells + self.regions.used(class)
+        class.number() * self.cells + self.lists.of(class).fresh
     }
 
     /// A number from which on all cells are free, of whatever class: they were never used.
@@ -92,7 +131,7 @@ impl Arena {
         let mut bound = 0;
         for class in CellClass::ALL {
             let end = self.used(class);
-            if class.number() * self.regions.cells < end {
+            if class.number() * self.cells < end {
                 bound = end;
             }
         }
@@ -104,10 +143,28 @@ impl Arena {
     pub fn lease(&mut self, class: CellClass) -> Option<Lease>
         ensures { Leases self.old class result self.new }
     {
-        let held = self.regions.lease(class)?;
+        if !is_ready(&mut self.words, self.base, self.cells, class, &mut self.lists) {
+            return None;
+        }
+        let list = self.lists.of(class);
+        let spot = Spot {
+            class,
+            index: list.next,
+            cells: self.cells,
+        };
+        let next = self.words.get(self.base, spot.head()).number();
+        self.lists.set(
+            class,
+            FreeList {
+                next,
+                fresh: list.fresh,
+                free: list.free - 1,
+            },
+        );
         Some(Lease {
-            number: class.number() * self.regions.cells + held.index(),
-            held,
+            spot,
+            base: self.base,
+            words: self.words.part_by(&spot),
         })
     }
 
@@ -118,8 +175,12 @@ impl Arena {
         requires written { IsLive lease.state }
         ensures { self.new ≡ changed self.old lease.number lease.state }
     {
-        let Lease { number: _, held } = lease;
-        self.regions.settle(held);
+        let Lease {
+            spot: _,
+            base: _,
+            words,
+        } = lease;
+        self.words.join(words);
     }
 
     /// The cell of the lease is free.
@@ -128,8 +189,8 @@ impl Arena {
         requires { IsOf lease self.old }
         ensures { self.new ≡ changed self.old lease.number Vacant }
     {
-        let Lease { number: _, held } = lease;
-        self.regions.give_back(held);
+        let Lease { spot, base, words } = lease;
+        take_back(&mut self.words, base, spot, words, &mut self.lists);
     }
 
     /// Whether a cell is live. It isn't on lease.
@@ -138,8 +199,11 @@ impl Arena {
         requires not_leased { IsLeased (state_at self.now cell.0) → ⊥ }
         ensures { IsTrue result ↔ IsLive (state_at self.now cell.0) }
     {
-        let (class, index) = place_of(self.regions.cells, cell);
-        self.regions.is_live(class, index)
+        let spot = spot_of(self.cells, cell);
+        if self.lists.of(spot.class).fresh <= spot.index {
+            return false;
+        }
+        head_of(&self.words, self.base, cell).place() != 0
     }
 
     /// How many places a live cell has, the principal one among them. Some class of cells is for that many.
@@ -148,8 +212,7 @@ impl Arena {
         ensures places { result ≡ places (state_at self.now cell.0) }
         ensures held { (c : Class) × Holds c result }
     {
-        let (class, index) = place_of(self.regions.cells, cell);
-        self.regions.places(class, index)
+        head_of(&self.words, self.base, cell).place()
     }
 
     /// The symbol word of a live cell.
@@ -158,8 +221,7 @@ impl Arena {
         requires { IsLive (state_at self.now cell.0) }
         ensures { word_of (state_at self.now cell.0) ≡ Some result }
     {
-        let (class, index) = place_of(self.regions.cells, cell);
-        self.regions.symbol(class, index)
+        head_of(&self.words, self.base, cell).number()
     }
 
     /// The other end of the wire at a place of a live cell. The principal port is place 0.
@@ -177,18 +239,11 @@ impl Arena {
         requires { place < places (state_at self.now cell.0) }
         ensures { end_at (state_at self.now cell.0) place ≡ Some result }
     {
-        let (class, index) = place_of(self.regions.cells, cell);
-        self.regions.word(class, index, place)
-    }
-
-    /// The other ends of the wires at all places of a live cell, in their order, from the principal port on.
-    #[inline(always)]
-    pub fn ends(&self, cell: CellNo) -> &[EndWord]
-        requires { IsLive (state_at self.now cell.0) }
-        ensures { HasEnds result.now (state_at self.now cell.0) }
-    {
-        let (class, index) = place_of(self.regions.cells, cell);
-        self.regions.ends(class, index)
+        if place < HEAD {
+            return *self.words.get(self.base, near_word(cell, place));
+        }
+        let spot = spot_of(self.cells, cell);
+        *self.words.get(self.base, spot.far_word(place))
     }
 
     /// Writes the other end of the wire at a place of a live cell.
@@ -206,8 +261,12 @@ impl Arena {
         requires { place < places (state_at self.old cell.0) }
         ensures { self.new ≡ changed self.old cell.0 (with_end (state_at self.old cell.0) place end) }
     {
-        let (class, index) = place_of(self.regions.cells, cell);
-        self.regions.set_word(class, index as usize, place, end);
+        if place < HEAD {
+            self.words.write(self.base, near_word(cell, place), end);
+            return;
+        }
+        let spot = spot_of(self.cells, cell);
+        self.words.write(self.base, spot.far_word(place), end);
     }
 
     /// Writes it where `at` leads to, if that is a place of a live cell. Returns whether it is: a free end is left to the caller.
@@ -217,12 +276,16 @@ impl Arena {
         ensures cell { result ≡ true → (c : Number) × (p : ℕ) × (at ≡ Cell c p) × (self.new ≡ changed self.old c.0 (with_end (state_at self.old c.0) p end)) }
         ensures free { result ≡ false → (self.new ≡ self.old) × ((c : Number) (p : ℕ) → at ≡ Cell c p → ⊥) }
     {
-        match at.place_among(self.regions.cells) {
-            Some((class, index, place)) => {
-                self.regions.set_word(class, index, place, end);
+        if let Some(word) = at.near() {
+            self.words.write(self.base, word, end);
+            return true;
+        }
+        match at.end() {
+            End::Cell(cell, place) => {
+                self.set_word(cell, place, end);
                 true
             }
-            None => false,
+            End::Free(_) => false,
         }
     }
 
@@ -233,8 +296,29 @@ impl Arena {
         requires { Holds class places }
         ensures { MatchOption result ((free_of self.old class ≡ 0) × (self.new ≡ self.old)) (λ c. BeginsCell class symbol places self.old c.0 self.new) }
     {
-        let number = self.regions.begin(class, symbol, u32::from(places))?;
-        Some(CellNo(number))
+        if !is_ready(&mut self.words, self.base, self.cells, class, &mut self.lists) {
+            return None;
+        }
+        let list = self.lists.of(class);
+        let spot = Spot {
+            class,
+            index: list.next,
+            cells: self.cells,
+        };
+        let cell = spot.cell();
+        let at = near_word(cell, HEAD);
+        let next = self.words.get(self.base, at).number();
+        self.words
+            .write(self.base, at, EndWord::port(CellNo(symbol), places));
+        self.lists.set(
+            class,
+            FreeList {
+                next,
+                fresh: list.fresh,
+                free: list.free - 1,
+            },
+        );
+        Some(cell)
     }
 
     /// A live cell that is one of this class is free, and then begun as `begin` does it. Returns whether it is one: else nothing changes.
@@ -251,9 +335,9 @@ impl Arena {
         ensures begun { result ≡ true → BeginsCell class symbol places (changed self.old cell.0 Vacant) cell.0 self.new }
         ensures other { result ≡ false → (self.new ≡ self.old) × (IsNumberOf self.old.cells class cell.0 → ⊥) }
     {
-        let (own, index) = place_of(self.regions.cells, cell);
+        let own = spot_of(self.cells, cell).class;
         if own.number() == class.number() {
-            self.regions.renew(own, index, symbol, u32::from(places));
+            self.renew(cell, symbol, places);
             return true;
         }
         false
@@ -267,8 +351,11 @@ impl Arena {
         requires many { IsFor self.old.cells cell.0 places }
         ensures { (x : State) × IsBegun symbol places x × (self.new ≡ changed self.old cell.0 x) }
     {
-        let (class, index) = place_of(self.regions.cells, cell);
-        self.regions.renew(class, index, symbol, u32::from(places));
+        self.words.write(
+            self.base,
+            near_word(cell, HEAD),
+            EndWord::port(CellNo(symbol), places),
+        );
     }
 
     /// The live cell is free from now on.
@@ -277,8 +364,21 @@ impl Arena {
         requires { IsLive (state_at self.old cell.0) }
         ensures { self.new ≡ changed self.old cell.0 Vacant }
     {
-        let (class, index) = place_of(self.regions.cells, cell);
-        self.regions.retire(class, index);
+        let spot = spot_of(self.cells, cell);
+        let list = self.lists.of(spot.class);
+        self.words.write(
+            self.base,
+            near_word(cell, HEAD),
+            EndWord::port(CellNo(list.next), 0),
+        );
+        self.lists.set(
+            spot.class,
+            FreeList {
+                next: spot.index,
+                fresh: list.fresh,
+                free: list.free + 1,
+            },
+        );
     }
 
     /// A bag of this arena that has no cell.
@@ -286,7 +386,9 @@ impl Arena {
         ensures { result ≡ empty_bag self.now }
     {
         Bag {
-            sacks: self.regions.none(),
+            base: self.base,
+            words: self.words.none(),
+            cells: self.cells,
         }
     }
 
@@ -296,10 +398,13 @@ impl Arena {
         requires { IsBagOf bag.old self.old }
         ensures { LeasesTo self.old class bag.old result self.new bag.new }
     {
-        let held = self.regions.lease(class)?;
-        let number = class.number() * self.regions.cells + held.index();
-        bag.sacks.put(held);
-        Some(CellNo(number))
+        let Lease {
+            spot,
+            base: _,
+            words,
+        } = self.lease(class)?;
+        bag.words.join(words);
+        Some(spot.cell())
     }
 
     /// The cell of the bag is live with its content.
@@ -309,8 +414,8 @@ impl Arena {
         requires written { IsLive (state_at bag.old cell.0) }
         ensures { (self.new ≡ changed self.old cell.0 (state_at bag.old cell.0)) × (bag.new ≡ changed bag.old cell.0 Leased) × IsBagOf bag.new self.new }
     {
-        let (class, index) = place_of(bag.sacks.cells, cell);
-        self.regions.settle(bag.sacks.take(class, index));
+        let spot = spot_of(bag.cells, cell);
+        self.words.join(bag.words.part_by(&spot));
     }
 
     /// The cell of the bag is free.
@@ -320,7 +425,8 @@ impl Arena {
         requires is_in { IsInBag bag.old cell.0 }
         ensures { (self.new ≡ changed self.old cell.0 Vacant) × (bag.new ≡ changed bag.old cell.0 Leased) × IsBagOf bag.new self.new }
     {
-        let (class, index) = place_of(bag.sacks.cells, cell);
-        self.regions.give_back(bag.sacks.take(class, index));
+        let spot = spot_of(bag.cells, cell);
+        let base = bag.base;
+        take_back(&mut self.words, base, spot, bag.words.part_by(&spot), &mut self.lists);
     }
 }

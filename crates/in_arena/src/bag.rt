@@ -5,8 +5,10 @@ ghost use Rattle.in_arena.specs.Arenas.{state_at, changed};
 ghost use Rattle.in_arena.specs.Bags.{IsInBag, AreOfOne, IsFor};
 
 use crate::content::{CellNo, End, SymbolWord};
-use crate::regions::{Sacks, place_of};
+use crate::row::{begin_cell, set_end, write_cell};
+use crate::spot::spot_of;
 use crate::word::EndWord;
+use in_memory::{Base, Cells};
 use std::marker::Model;
 
 /// Owns some cells of an arena, by their numbers, which no other part of the program reads or writes meanwhile; it takes no bytes for a
@@ -15,7 +17,9 @@ use std::marker::Model;
 /// with a cell in a bag can't be dropped.
 #[derive(Drop)]
 pub struct Bag {
-    pub(crate) sacks: Sacks,
+    pub(crate) base: Base<EndWord>,
+    pub(crate) words: Cells<EndWord>,
+    pub(crate) cells: u32,
 }
 
 impl Model for Bag {
@@ -38,10 +42,8 @@ impl Bag {
         requires many { IsFor self.old.cells cell.0 (length ends.now) }
         ensures { self.new ≡ changed self.old cell.0 (Live symbol ends.now) }
     {
-        let (class, index) = place_of(self.sacks.cells, cell);
-        let mut held = self.sacks.take(class, index);
-        held.write(symbol, ends);
-        self.sacks.put(held);
+        let spot = spot_of(self.cells, cell);
+        write_cell(&mut self.words, self.base, spot, symbol, ends);
     }
 
     /// Writes the symbol word of a cell, and how many ends it has, the principal port's among them: as many as its class is for. The ends are open
@@ -51,10 +53,8 @@ impl Bag {
         requires many { IsFor self.old.cells cell.0 ends }
         ensures { (x : State) × IsBegun symbol ends x × (self.new ≡ changed self.old cell.0 x) }
     {
-        let (class, index) = place_of(self.sacks.cells, cell);
-        let mut held = self.sacks.take(class, index);
-        held.begin(symbol, u32::from(ends));
-        self.sacks.put(held);
+        let spot = spot_of(self.cells, cell);
+        begin_cell(&mut self.words, self.base, spot, symbol, ends);
     }
 
     /// Writes the end at a place of a cell that is written.
@@ -63,10 +63,8 @@ impl Bag {
         requires { place < places (state_at self.old cell.0) }
         ensures { self.new ≡ changed self.old cell.0 (with_end (state_at self.old cell.0) place end) }
     {
-        let (class, index) = place_of(self.sacks.cells, cell);
-        let mut held = self.sacks.take(class, index);
-        held.set(place, EndWord::of(end));
-        self.sacks.put(held);
+        let spot = spot_of(self.cells, cell);
+        set_end(&mut self.words, self.base, spot, place, EndWord::of(end));
     }
 
     /// Moves a cell, with its content, to another bag of the same arena.
@@ -77,8 +75,7 @@ impl Bag {
         requires apart { state_at other.old cell.0 ≡ Leased }
         ensures { (other.new ≡ changed other.old cell.0 (state_at self.old cell.0)) × (self.new ≡ changed self.old cell.0 Leased) }
     {
-        let (class, index) = place_of(self.sacks.cells, cell);
-        let held = self.sacks.take(class, index);
-        other.sacks.put(held);
+        let spot = spot_of(self.cells, cell);
+        other.words.join(self.words.part_by(&spot));
     }
 }

@@ -1,9 +1,7 @@
 // The contents of a cell.
-ghost use Rattle.std.specs.Prelude.{◌≡◌, ◌≤◌, replicate};
+ghost use Rattle.std.specs.Prelude.{◌≡◌, ◌≤◌};
 ghost use Rattle.in_arena.specs.Classes.{Holds, class_no, width, least, holds};
 ghost use Rattle.in_arena.specs.declared.content.CellClass.TheVariants.{Wide};
-
-use crate::word::EndWord;
 
 /// The number of a cell in its arena.
 #[derive(Clone, Copy, Debug, PartialEq, Eq, Hash)]
@@ -84,28 +82,5 @@ impl CellClass {
         ensures { result ≡ holds self ends }
     {
         self.least() as usize <= ends && ends <= self.width() as usize
-    }
-}
-
-/// A symbol word and the ends at the first `count` of `WIDTH` places. If there is no end, the cell is free, and the word is the number of the next
-/// free cell.
-#[derive(Clone, Copy)]
-pub struct Content<const WIDTH: usize> {
-    pub word: u32,
-    pub count: u32,
-    pub ends: [EndWord; WIDTH],
-}
-
-impl<const WIDTH: usize> Content<WIDTH> {
-    /// The contents of a free cell, before the free cell of this number.
-    #[inline(always)]
-    pub fn free(next: u32) -> Content<WIDTH>
-        ensures { (result.word ≡ next) × (result.count ≡ 0) }
-    {
-        Content {
-            word: next,
-            count: 0,
-            ends: [EndWord::free(0); WIDTH],
-        }
     }
 }

@@ -5,8 +5,10 @@ ghost use Rattle.in_arena.specs.Arenas.{written};
 ghost use Rattle.in_arena.specs.Classes.{Holds};
 
 use crate::content::{CellClass, CellNo, End, SymbolWord};
-use crate::regions::HeldCell;
+use crate::row::{begin_cell, set_end, write_cell};
+use crate::spot::Spot;
 use crate::word::EndWord;
+use in_memory::{Base, Cells};
 use std::marker::Model;
 
 /// Owns one cell of an arena, which no other part of the program reads or writes meanwhile; it may be moved to another thread. To be
@@ -14,8 +16,9 @@ use std::marker::Model;
 /// memory, and its content.
 #[derive(Drop)]
 pub struct Lease {
-    pub(crate) number: u32,
-    pub(crate) held: HeldCell,
+    pub(crate) spot: Spot,
+    pub(crate) base: Base<EndWord>,
+    pub(crate) words: Cells<EndWord>,
 }
 
 impl Model for Lease {
@@ -35,14 +38,14 @@ impl Lease {
     pub fn cell(&self) -> CellNo
         ensures { result.0 ≡ self.now.number }
     {
-        CellNo(self.number)
+        self.spot.cell()
     }
 
     /// The class of its cell.
     pub fn class(&self) -> CellClass
         ensures { result ≡ self.now.class }
     {
-        self.held.class()
+        self.spot.class
     }
 
     /// Writes the symbol word and the ends at its places, the principal port first: as many as its class is for.
@@ -50,7 +53,7 @@ impl Lease {
         requires { Holds self.old.class (length ends.now) }
         ensures { self.new ≡ written self.old (Live symbol ends.now) }
     {
-        self.held.write(symbol, ends);
+        write_cell(&mut self.words, self.base, self.spot, symbol, ends);
     }
 
     /// Writes the symbol word, and how many ends there are, the principal port's among them: as many as its class is for. The ends are open until
@@ -59,7 +62,7 @@ impl Lease {
         requires { Holds self.old.class ends }
         ensures { (x : State) × IsBegun symbol ends x × (self.new ≡ written self.old x) }
     {
-        self.held.begin(symbol, u32::from(ends));
+        begin_cell(&mut self.words, self.base, self.spot, symbol, ends);
     }
 
     /// Writes the end at a place of a cell that is written.
@@ -67,6 +70,6 @@ impl Lease {
         requires { place < places self.old.state }
         ensures { self.new ≡ written self.old (with_end self.old.state place end) }
     {
-        self.held.set(place, EndWord::of(end));
+        set_end(&mut self.words, self.base, self.spot, place, EndWord::of(end));
     }
 }

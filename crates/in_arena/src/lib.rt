@@ -1,21 +1,25 @@
 //! The cells of a net in raw memory: an arena has cells of a few widths, each free, leased or live with a symbol and its ends.
 //!
-//! It uses `in_memory`, whose rows of cells have several owners. From below: `word`, an end in one word; `content`, the classes of
-//! cells and what a cell holds; `region`, cells of one width; `regions`, a region for each class, which is said in this file and nowhere
-//! else; `lease`, the owner of one cell; `bag`, the owner of several cells by their numbers, which takes no bytes for a cell; `arena`.
+//! It uses `in_memory`, whose rows of cells have several owners. All cells are in one row of words. Its first words are four for each cell, whatever
+//! its class: three places and a head, which names the symbol and how many ends there are. So the word of an end that is one of these places is
+//! the place's own number in the row, and an end is written by one test and one store. The further places of large and of wide cells come after.
 //!
-//! An arena is made without being written. Free are the cells that were given back, a list through the cells, the last one first, and
-//! after them all that were never used. A free cell has no ends, and its word is the number of the next one. A retired cell comes first,
-//! so that a lease and the write after it touch one line of the cache.
+//! From below: `content`, the classes of cells and ends; `word`, an end in one word; `free_list`, the free cells of each class; `spot`, where the
+//! words of a cell are; `row`, the words of a row, cell by cell; `lease`, the owner of one cell; `bag`, the owner of several cells by their numbers,
+//! which takes no bytes for a cell; `arena`.
+//!
+//! An arena is made without being written. Free are the cells that were given back, a list through their heads, the last one first, and
+//! after them all that were never used. A retired cell comes first, so that a lease and the write after it touch one line of the cache.
 #![tactic(auto)]
 
 mod arena;
 mod bag;
 mod content;
+mod free_list;
 pub mod laws;
 mod lease;
-mod region;
-mod regions;
+mod row;
+mod spot;
 mod word;
 
 pub use arena::Arena;

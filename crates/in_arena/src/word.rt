@@ -1,26 +1,26 @@
 // An end in one word.
-ghost use Rattle.std.specs.Prelude.{◌≡◌, ◌≢◌, ◌⊎◌, ◌*◌, ◌≤◌, ℕ, MatchOption, length};
-ghost use Rattle.in_arena.specs.ByClass.{IsPlace};
-ghost use Rattle.in_arena.specs.Classes.{classes};
-ghost use Rattle.in_arena.specs.Limiting.{most_cells};
+ghost use Rattle.std.specs.Prelude.{◌≡◌, ◌≢◌, ◌⊎◌, ◌*◌, ◌+◌, ◌<◌, ℕ, MatchOption};
 ghost use Rattle.in_arena.specs.declared.content.CellNo.{CellNo as Number};
 ghost use Rattle.in_arena.specs.declared.content.End.TheVariants.{Cell, Free};
 
-use crate::content::{CellClass, CellNo, End};
+use crate::content::{CellNo, End};
 use std::marker::Model;
 
-// From here on a word has a number.
-const ABOVE: u64 = 65536;
+// The place begins at this bit.
+const ABOVE: u64 = 1099511627776;
 
-// The top bit, as it is above.
-const TOP: u64 = 140737488355328;
+// What a free end has in the place of a place.
+const FREE_PLACE: u64 = 256;
 
-// The low bits of a free end. A place is less.
-const FREE: u64 = 65535;
+// How many numbers there are.
+const NUMBERS: u64 = 4294967296;
 
-/// An end in one word, so that it is read, tested and written as a whole. Contracts see the end. For a place of a cell the low 16 bits have the
-/// place, and the bits above them the number of the cell; for a free end the bits above have its own number and a bit that no cell's number has:
-/// so one test finds the places of the first cells. That form is this project's own choice.
+// The lowest bits of an end that is at no near place.
+const NOT_NEAR: u64 = 3;
+
+/// An end in one word, so that it is read, tested and written as a whole. Contracts see the end. The word of one of the first three places of a cell
+/// is the place's own number in the row of an arena, four times the number of the cell and the place; the word of any other end is a number that no
+/// word of a row has. That form is this project's own choice.
 #[derive(Clone, Copy)]
 pub struct EndWord {
     bits: u64,
@@ -56,8 +56,16 @@ impl EndWord {
     pub fn port(cell: CellNo, place: u8) -> EndWord
         ensures { result ≡ Cell cell place }
     {
-        EndWord {
-            bits: u64::from(cell.0) * ABOVE + u64::from(place),
+        let number = u64::from(cell.0) * 4;
+        let place = u64::from(place);
+        if place < 3 {
+            EndWord {
+                bits: number + place,
+            }
+        } else {
+            EndWord {
+                bits: place * ABOVE + (number + NOT_NEAR),
+            }
         }
     }
 
@@ -67,7 +75,29 @@ impl EndWord {
         ensures { result ≡ Free number }
     {
         EndWord {
-            bits: (TOP + u64::from(number)) * ABOVE + FREE,
+            bits: FREE_PLACE * ABOVE + (u64::from(number) * 4 + NOT_NEAR),
+        }
+    }
+
+    // The number of the cell of which it is a place, or of the free end.
+    #[inline(always)]
+    pub fn number(self) -> u32
+        ensures cell { (c : Number) (p : ℕ) → self ≡ Cell c p → result ≡ c.0 }
+        ensures free { (k : ℕ) → self ≡ Free k → result ≡ k }
+    {
+        (self.bits / 4 % NUMBERS) as u32
+    }
+
+    // The place, where it is one of a cell.
+    #[inline(always)]
+    pub fn place(self) -> u8
+        ensures { (c : Number) (p : ℕ) → self ≡ Cell c p → result ≡ p }
+    {
+        let far = self.bits / ABOVE;
+        if far == 0 {
+            (self.bits % 4) as u8
+        } else {
+            (far % 256) as u8
         }
     }
 
@@ -76,12 +106,14 @@ impl EndWord {
     pub fn end(self) -> End
         ensures { result ≡ self }
     {
-        let place = self.bits % ABOVE;
-        let number = self.bits / ABOVE;
-        if place == FREE {
-            End::Free((number - TOP) as u32)
+        let far = self.bits / ABOVE;
+        let number = (self.bits / 4 % NUMBERS) as u32;
+        if far == 0 {
+            End::Cell(CellNo(number), (self.bits % 4) as u8)
+        } else if far == FREE_PLACE {
+            End::Free(number)
         } else {
-            End::Cell(CellNo(number as u32), place as u8)
+            End::Cell(CellNo(number), (far % 256) as u8)
         }
     }
 
@@ -90,8 +122,8 @@ impl EndWord {
     pub fn principal(self) -> Option<CellNo>
         ensures { MatchOption result ((c : Number) → self ≢ Cell c 0) (λ c. self ≡ Cell c 0) }
     {
-        if self.bits % ABOVE == 0 {
-            Some(CellNo((self.bits / ABOVE) as u32))
+        if self.bits % 4 == 0 {
+            Some(CellNo((self.bits / 4 % NUMBERS) as u32))
         } else {
             None
         }
@@ -104,29 +136,25 @@ impl EndWord {
         ensures same { place ≡ 0 → result ≡ self }
         ensures moved { (c : Number) → self ≡ Cell c 0 → result ≡ Cell c place }
     {
-        EndWord {
-            bits: self.bits + u64::from(place),
+        let place = u64::from(place);
+        if place < 3 {
+            EndWord {
+                bits: self.bits + place,
+            }
+        } else {
+            EndWord {
+                bits: self.bits + (place * ABOVE + NOT_NEAR),
+            }
         }
     }
 
-    // The class of its cell, where that cell is in the region of the class, and the place, where there are `cells` cells of each class and it is a
-    // place of one of them.
+    // The number in the row of the place that it is, where that is one of the first three places of a cell.
     #[inline(always)]
-    pub fn place_among(self, cells: u32) -> Option<(CellClass, usize, u8)>
-        requires { cells ≤ most_cells }
-        ensures { MatchOption result ((c : Number) (p : ℕ) → self ≡ Cell c p → length classes * cells ≤ c.0) (λ x. (c : Number) × (self ≡ Cell c x.2) × IsPlace cells c.0 x.0 x.1) }
+    pub fn near(self) -> Option<usize>
+        ensures { MatchOption result ((c : Number) (p : ℕ) → self ≡ Cell c p → p < 3 → ⊥) (λ x. (c : Number) × (p : ℕ) × (self ≡ Cell c p) × (p < 3) × (x ≡ 4 * c.0 + p)) }
     {
-        let number = self.bits / ABOVE;
-        let place = self.bits % ABOVE;
-        let cells = u64::from(cells);
-        if number < cells {
-            Some((CellClass::Small, number as usize, place as u8))
-        } else if number < cells + cells {
-            let index = number - cells;
-            Some((CellClass::Large, index as usize, place as u8))
-        } else if number < cells + cells + cells {
-            let index = number - (cells + cells);
-            Some((CellClass::Wide, index as usize, place as u8))
+        if self.bits < ABOVE {
+            Some(self.bits as usize)
         } else {
             None
         }

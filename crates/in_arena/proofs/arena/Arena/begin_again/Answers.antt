@@ -1,34 +1,28 @@
-use Rattle.std.proofs.Common.{◌∙◌, ap, refl, sym, subst}
+use Rattle.std.proofs.Common.{◌∙◌, sym, subst}
 use Rattle.in_arena.specs.Arenas.{ArenaView}
-use Rattle.in_arena.specs.Classes.{Holds, IsNumberOf, class_no}
-use Rattle.in_arena.specs.States.{IsLive, IsBegun}
-use Rattle.in_arena.proofs.ByClass.{found, changed_from}
-use Rattle.in_arena.proofs.Classes.{numbers_apart, same_class}
-use Rattle.in_arena.proofs.Seen.{number_of_place}
+use Rattle.in_arena.specs.Classes.{IsNumberOf}
 use Rattle.in_arena.proofs.Again.{begun_again}
+use Rattle.in_arena.proofs.Arenas.{live_inside}
+use Rattle.in_arena.proofs.Classes.{same_class}
+use Rattle.in_arena.proofs.Inside.{inside_all}
+use Rattle.in_arena.proofs.Seen.{number_of_place}
 use Rattle.in_arena.proofs.arena.Arena.begin_again.Goals as goal
+
+pub spot_of-own-requires : goal.spot_of-own-requires
+spot_of-own-requires c = (c.self.invariant.few, inside_all c.self.inside c.self.invariant c.args.self.now c.self.view_is c.args.cell.0 (live_inside c.args.self.now c.args.cell.0 c.requires.live))
 
 pub renew-requires : goal.renew-requires
 renew-requires c =
-    let r = c.self.inside.regions in let h = c.self.invariant.regions in let q = c.place_of-own.result in
-    let same = same_class q.0 c.args.class (sym c.number.ensures ∙ c.if-number.true ∙ c.number-2.ensures) in
-    (h, subst IsLive (found r h _ _ c.self.view_is c.place_of-own.ensures) c.requires.live, subst (λ d. Holds d c.from.result) (sym same) (subst (Holds c.args.class) (sym c.from.ensures) c.requires.many))
+    let a = c.self.inside in let n = c.args.cell.0 in let s = c.spot_of-own.result in let v = c.args.self.now in
+    let same = same_class s.class c.args.class (sym c.number.ensures ∙ c.if-number.true ∙ c.number-2.ensures) in
+    record {
+      live = c.requires.live;
+      many = (c.args.class, subst (λ k. IsNumberOf v.cells k n) same (subst (λ (w : ArenaView). IsNumberOf w.cells s.class n) c.self.view_is (number_of_place a.cells n s.class s.index c.spot_of-own.ensures.1)), c.requires.many);
+    }
 
 pub returns-then-number-clause-begun : goal.returns-then-number-clause-begun
 returns-then-number-clause-begun c = λ yes.
-    let r = c.self.inside.regions in let h = c.self.invariant.regions in let q = c.place_of-own.result in
-    let same = same_class q.0 c.args.class (sym c.number.ensures ∙ c.if-number.true ∙ c.number-2.ensures) in
-    let at = subst (λ (v : ArenaView). IsNumberOf v.cells q.0 c.args.cell.0) c.self.view_is (number_of_place r.cells c.args.cell.0 q.0 q.1 c.place_of-own.ensures) in
-    let x = c.renew.ensures in
-    begun_again c.args.self.now _ q.0 c.args.class c.args.cell.0 c.args.symbol c.args.places x.0 same at c.requires.live (subst (λ n. IsBegun c.args.symbol n x.0) c.from.ensures x.1)
-    (changed_from r h c.renew.new.self _ _ c.self.view_is c.place_of-own.ensures x.2 refl)
-
-pub returns-clause-other : goal.returns-clause-other
-returns-clause-other c = λ no. (
-  refl,
-  λ of.
-      let r = c.self.inside.regions in let q = c.place_of-own.result in
-      let at = subst (λ (v : ArenaView). IsNumberOf v.cells q.0 c.args.cell.0) c.self.view_is (number_of_place r.cells c.args.cell.0 q.0 q.1 c.place_of-own.ensures) in
-      let same = numbers_apart c.args.self.now.cells c.args.cell.0 q.0 c.args.class at of in
-      c.if-number.false (c.number.ensures ∙ ap class_no same ∙ sym c.number-2.ensures),
-)
+    let a = c.self.inside in let n = c.args.cell.0 in let s = c.spot_of-own.result in let v = c.args.self.now in let x = c.renew.ensures in
+    let same = same_class s.class c.args.class (sym c.number.ensures ∙ c.if-number.true ∙ c.number-2.ensures) in
+    let at = subst (λ (w : ArenaView). IsNumberOf w.cells s.class n) c.self.view_is (number_of_place a.cells n s.class s.index c.spot_of-own.ensures.1) in
+    begun_again v _ s.class c.args.class n c.args.symbol c.args.places x.0 same at c.requires.live x.1 x.2

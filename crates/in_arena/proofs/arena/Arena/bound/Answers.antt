@@ -2,7 +2,7 @@ use Rattle.std.proofs.Common.{◌≡◌, ◌≤◌, ◌<◌, ◌*◌, ℕ, ap, s
 use Rattle.in_arena.specs.Arenas.{state_at}
 use Rattle.in_arena.specs.Classes.{classes}
 use Rattle.in_arena.specs.States.{Vacant}
-use Rattle.in_arena.proofs.ByClass.{arena_long}
+use Rattle.in_arena.proofs.Inside.{arena_all}
 use Rattle.in_arena.proofs.arena.Arena.bound.Goals as goal
 
 pub returns-clause-few : goal.returns-clause-few
@@ -13,7 +13,7 @@ returns-clause-few c =
     let done = c.loop-class-test.false in
     let all : c.loop-class.class-index ≡ length classes = omega (arith, items, at, done) in
     let few = subst (λ k. c.loop-class.bound ≤ k * c.args.self.now.cells) all i.few in
-    let long = arena_long c.self.inside.regions c.self.invariant.regions in
+    let long = arena_all c.self.inside c.self.invariant in
     let view = ap (λ v. length v.states) c.self.view_is in
     let cells = ap (λ v. v.cells) c.self.view_is in
     omega (arith, few, long, view, cells)
@@ -26,7 +26,7 @@ returns-clause-rest c = λ n low high. (
     let done = c.loop-class-test.false in
     let all : c.loop-class.class-index ≡ length classes = omega (arith, items, at, done) in
     let rest = subst (λ k. (n : ℕ) → c.loop-class.bound ≤ n → n < k * c.args.self.now.cells → state_at c.args.self.now n ≡ Vacant) all i.rest in
-    let long = arena_long c.self.inside.regions c.self.invariant.regions in
+    let long = arena_all c.self.inside c.self.invariant in
     let view = ap (λ v. length v.states) c.self.view_is in
     let cells = ap (λ v. v.cells) c.self.view_is in
     rest n low (omega (arith, high, long, view, cells))

@@ -1,7 +1,7 @@
-use Rattle.std.proofs.Common.{sym, subst}
-use Rattle.in_arena.specs.Arenas.{NoneLeased}
-use Rattle.in_arena.proofs.ByClass.{whole}
+use Rattle.in_arena.proofs.Inside.{all_words_here}
 use Rattle.in_arena.proofs.arena.Arena.drop.Goals as goal
 
-pub close-requires : goal.close-requires
-close-requires c = let h = c.self.invariant.regions in (h, whole c.self.inside.regions h (subst NoneLeased (sym c.self.view_is) c.requires))
+pub deallocate-requires : goal.deallocate-requires
+deallocate-requires c =
+    let a = c.self.inside in let h = c.self.invariant in
+    (h.block.0, h.whole.long, all_words_here a h c.args.self c.self.view_is c.requires, h.block.1, h.block.2, h.block.3)

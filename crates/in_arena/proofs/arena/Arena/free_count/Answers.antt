@@ -1,7 +1,8 @@
-use Rattle.std.proofs.Common.{ap, sym, ◌∙◌}
+use Rattle.std.proofs.Common.{ap, ◌∙◌}
 use Rattle.in_arena.specs.Arenas.{free_of}
-use Rattle.in_arena.proofs.ByClass.{frees_are}
+use Rattle.in_arena.specs.declared.free_list.FreeList.{FreeList}
+use Rattle.in_arena.proofs.Inside.{free_is_count}
 use Rattle.in_arena.proofs.arena.Arena.free_count.Goals as goal
 
 pub returns : goal.returns
-returns c = c.free_count.ensures ∙ sym (frees_are c.self.inside.regions c.self.invariant.regions c.args.class) ∙ ap (λ a. free_of a c.args.class) c.self.view_is
+returns c = ap (λ (l : FreeList). l.free) c.of.ensures ∙ free_is_count c.self.inside c.self.invariant c.args.class ∙ ap (λ a. free_of a c.args.class) c.self.view_is

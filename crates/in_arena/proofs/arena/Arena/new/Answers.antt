@@ -1,9 +1,18 @@
-use Rattle.std.proofs.Common.{◌∙◌, ◌*◌, ap, sym, length, replicate}
-use Rattle.in_arena.specs.ByClass.{block_of, row_of}
-use Rattle.in_arena.specs.Classes.{classes}
-use Rattle.in_arena.specs.States.{Vacant}
-use Rattle.in_arena.proofs.Seen.{alike}
+use Rattle.std.proofs.Common.{refl}
+use Rattle.in_arena.specs.FreeLists.{list_in}
+use Rattle.in_arena.proofs.FreeLists.{list_with}
+use Rattle.in_arena.proofs.Inside.{all_alike, new_free, new_states, new_whole}
 use Rattle.in_arena.proofs.arena.Arena.new.Goals as goal
 
+pub invariant_of-result : goal.invariant_of-result
+invariant_of-result c =
+    let made = c.in_ok-base.ensures in let cells = c.args.cells in let ws = c.in_ok-base.words.slots in let l = list_with cells 0 cells in
+    record {
+      few = c.requires;
+      block = (made.0, made.2, made.3, made.4);
+      whole = new_whole cells ws made.1;
+      free = λ k. new_free cells ws k (list_in (record { small = l; large = l; wide = l }) k) made.1 (all_alike l k);
+    }
+
 pub returns : goal.returns
-returns c = let r = c.in_ok-regions.regions in let made = c.in_ok-regions.ensures in (made.1, alike (block_of r) r.cells (row_of r) Vacant (λ k. made.2 k ∙ ap (λ n. replicate n Vacant) (sym made.1)) ∙ ap (λ n. replicate (length classes * n) Vacant) made.1)
+returns c = (refl, new_states c.in_ok-base.words.at c.args.cells c.in_ok-base.words.slots c.in_ok-base.ensures.1)

@@ -1,19 +1,27 @@
-use Rattle.std.proofs.Common.{refl, sym, subst}
+use Rattle.std.proofs.Common.{◌≤◌, ◌∙◌, ap, sym, subst, get_or, set, None, Some, arith}
 use Rattle.in_arena.specs.Arenas.{ArenaView}
-use Rattle.in_arena.specs.Classes.{Holds, IsNumberOf}
-use Rattle.in_arena.specs.States.{IsLive, IsBegun}
-use Rattle.in_arena.proofs.ByClass.{found, changed_from}
+use Rattle.in_arena.specs.Classes.{IsNumberOf, width}
+use Rattle.in_arena.specs.declared.content.End.TheVariants.{Cell}
 use Rattle.in_arena.proofs.Classes.{numbers_apart}
+use Rattle.in_arena.proofs.Inside.{head_found, head_set, held_some, live_of, near_spot}
 use Rattle.in_arena.proofs.Seen.{number_of_place}
 use Rattle.in_arena.proofs.arena.Arena.renew.Goals as goal
 
-pub renew-requires : goal.renew-requires
-renew-requires c =
-    let r = c.self.inside.regions in let h = c.self.invariant.regions in let q = c.place_of-class.result in let for = c.requires.many in let n = c.args.cell.0 in
-    let at = subst (λ (v : ArenaView). IsNumberOf v.cells q.0 n) c.self.view_is (number_of_place r.cells n q.0 q.1 c.place_of-class.ensures) in
-    (h, subst IsLive (found r h _ _ c.self.view_is c.place_of-class.ensures) c.requires.live, subst (λ d. Holds d c.from.result) (numbers_apart c.args.self.now.cells n for.0 q.0 for.1 at) (subst (Holds for.0) (sym c.from.ensures) for.2))
+pub write-requires : goal.write-requires
+write-requires c =
+    let a = c.self.inside in let h = c.self.invariant in let n = c.args.cell.0 in let l = live_of a h c.args.self.now c.self.view_is n c.requires.live in
+    let e = head_found a.words a.cells n h.whole l in (sym h.block.0, (Some e.0, ap (λ k. get_or a.words.slots k None) c.near_word.ensures ∙ e.1))
+
+pub invariant_of-self : goal.invariant_of-self
+invariant_of-self c =
+    let a = c.self.inside in let h = c.self.invariant in let n = c.args.cell.0 in let v = c.args.self.now in let l = live_of a h v c.self.view_is n c.requires.live in
+    let for = c.requires.many in let same = numbers_apart v.cells n for.0 l.class for.1 (subst (λ (w : ArenaView). IsNumberOf w.cells l.class n) c.self.view_is (number_of_place a.cells n l.class l.index l.place)) in
+    (head_set a h v c.self.view_is n l c.write.new.self c.write.ensures.0 (Cell (record { 0 = c.args.symbol }) c.args.places) c.near_word.result tt (held_some for.0 c.args.places for.2) (subst (λ k. c.args.places ≤ width k) same for.2.1)
+    (c.near_word.ensures ∙ near_spot a.cells n l.class l.index 3 l.place (omega arith)) (c.write.ensures.1 ∙ ap (λ e. set a.words.slots c.near_word.result (Some (Some e))) c.port.ensures)).0
 
 pub returns : goal.returns
 returns c =
-    let r = c.self.inside.regions in let h = c.self.invariant.regions in let x = c.renew.ensures in
-    (x.0, subst (λ n. IsBegun c.args.symbol n x.0) c.from.ensures x.1, changed_from r h c.renew.new.self _ _ c.self.view_is c.place_of-class.ensures x.2 refl)
+    let a = c.self.inside in let h = c.self.invariant in let n = c.args.cell.0 in let v = c.args.self.now in let l = live_of a h v c.self.view_is n c.requires.live in
+    let for = c.requires.many in let same = numbers_apart v.cells n for.0 l.class for.1 (subst (λ (w : ArenaView). IsNumberOf w.cells l.class n) c.self.view_is (number_of_place a.cells n l.class l.index l.place)) in
+    (head_set a h v c.self.view_is n l c.write.new.self c.write.ensures.0 (Cell (record { 0 = c.args.symbol }) c.args.places) c.near_word.result tt (held_some for.0 c.args.places for.2) (subst (λ k. c.args.places ≤ width k) same for.2.1)
+    (c.near_word.ensures ∙ near_spot a.cells n l.class l.index 3 l.place (omega arith)) (c.write.ensures.1 ∙ ap (λ e. set a.words.slots c.near_word.result (Some (Some e))) c.port.ensures)).1

@@ -1,19 +1,16 @@
-use Rattle.std.proofs.Common.{◌∙◌, ap, sym, subst}
-use Rattle.in_arena.specs.ByClass.{cell_view, index_of}
+use Rattle.std.proofs.Common.{sym, subst}
 use Rattle.in_arena.specs.States.{IsLive}
-use Rattle.in_arena.proofs.Arenas.{changed_same, is_of_same}
-use Rattle.in_arena.proofs.ByClass.{cell_of, change_is, numbered}
+use Rattle.in_arena.proofs.Inside.{lease_many, lease_number, lease_state, owns_one, settled_in}
 use Rattle.in_arena.proofs.arena.Arena.settle.Goals as goal
 
-pub settle-requires : goal.settle-requires
-settle-requires c =
-    let r = c.self.inside.regions in let h = c.self.invariant.regions in let l = c.lease.inside in let same = sym c.lease.view_is in
-    let of = is_of_same same (sym c.self.view_is) c.requires.of_this_arena in
-    (h, cell_of r h l.held c.lease.invariant.held of, subst IsLive (ap (λ v. v.state) same) c.requires.written)
+pub invariant_of-self : goal.invariant_of-self
+invariant_of-self c =
+    let a = c.self.inside in let h = c.self.invariant in let v = c.args.self.now in let l = c.lease.inside in let k = c.lease.invariant in let m = c.args.lease in let of = c.requires.of_this_arena in
+    let e = c.self.view_is in let f = c.lease.view_is in let is = lease_state a h v e l k m f of in
+    (settled_in a h v e l.spot l.words (owns_one a h v e l k m f of) c.join.new.self m.number m.state (lease_many a h v e l k m f of) (lease_number a h v e l k m f of) (subst IsLive is c.requires.written) c.join.ensures.0 c.join.ensures.1 (sym is)).0
 
 pub returns : goal.returns
 returns c =
-    let r = c.self.inside.regions in let h = c.self.invariant.regions in let l = c.lease.inside in let same = sym c.lease.view_is in
-    let of = is_of_same same (sym c.self.view_is) c.requires.of_this_arena in let v = cell_view l.held in
-    change_is r h c.settle.new.self v.number v.class (index_of l.held) (cell_view l.held).state (numbered r h l.held c.lease.invariant.held of.cells) c.settle.ensures
-    ∙ changed_same c.self.view_is (sym (ap (λ v. v.number) same)) (sym (ap (λ v. v.state) same))
+    let a = c.self.inside in let h = c.self.invariant in let v = c.args.self.now in let l = c.lease.inside in let k = c.lease.invariant in let m = c.args.lease in let of = c.requires.of_this_arena in
+    let e = c.self.view_is in let f = c.lease.view_is in let is = lease_state a h v e l k m f of in
+    (settled_in a h v e l.spot l.words (owns_one a h v e l k m f of) c.join.new.self m.number m.state (lease_many a h v e l k m f of) (lease_number a h v e l k m f of) (subst IsLive is c.requires.written) c.join.ensures.0 c.join.ensures.1 (sym is)).1

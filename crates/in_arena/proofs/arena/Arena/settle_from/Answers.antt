@@ -1,27 +1,50 @@
-use Rattle.std.proofs.Common.{sym, subst}
+use Rattle.std.proofs.Common.{◌≡◌, ◌*◌, ◌+◌, length, sym, subst, ap, ◌∙◌, None}
+use Rattle.in_memory.proofs.Public.{length-those_of}
 use Rattle.in_arena.specs.Arenas.{state_at}
-use Rattle.in_arena.specs.ByClass.{cell_view}
+use Rattle.in_arena.specs.ByClass.{IsPlace}
+use Rattle.in_arena.specs.Classes.{class_no}
 use Rattle.in_arena.specs.States.{IsLive}
-use Rattle.in_arena.proofs.Bags.{in_here, may_take, of_region, taken_back, live_in, hand_state}
-use Rattle.in_arena.proofs.ByClass.{number_in}
+use Rattle.in_arena.specs.Words.{cell_in, is_spot}
+use Rattle.in_arena.proofs.Arenas.{live_here}
+use Rattle.in_arena.proofs.Bags.{bag_less, live_in}
+use Rattle.in_arena.proofs.Inside.{settled_in}
+use Rattle.in_arena.proofs.Kept.{bag_of_is, cell_state, in_bag_all, memory_one, none_where_leased, owned, taken_from}
 use Rattle.in_arena.proofs.arena.Arena.settle_from.Goals as goal
 
-pub place_of-class-requires : goal.place_of-class-requires
-place_of-class-requires c = (c.bag.invariant.few, number_in c.bag.inside.sacks c.bag.invariant.sacks c.bag.view_is (in_here (state_at c.args.bag.now c.args.cell.0) (live_in (state_at c.args.bag.now c.args.cell.0) c.requires.written)))
+pub spot_of-spot-requires : goal.spot_of-spot-requires
+spot_of-spot-requires c = (c.bag.invariant.few, in_bag_all c.bag.inside c.bag.invariant c.args.bag.now c.bag.view_is c.args.cell.0 (live_here (state_at c.args.bag.now c.args.cell.0) c.requires.written))
 
-pub take-requires : goal.take-requires
-take-requires c =
-    let s = c.bag.inside.sacks in let k = c.bag.invariant.sacks in let q = c.place_of-class.result in
-    (k, may_take s k _ c.args.cell.0 q.0 q.1 c.bag.view_is c.place_of-class.ensures (live_in (state_at c.args.bag.now c.args.cell.0) c.requires.written))
+pub join-requires : goal.join-requires
+join-requires c =
+    let b = c.bag.inside in let a = c.self.inside in let one = c.part_by.ensures.one in let s = c.spot_of-spot.result in let of = c.requires.of_this_arena in
+    let m = memory_one b.words.at a.words.at b.cells a.cells b.words.slots a.words.slots c.args.bag.now c.args.self.now c.bag.view_is c.self.view_is (sym of.memory, sym of.cells) in
+    (one.0 ∙ m.0, ap length one.1 ∙ length-those_of (is_spot s.class s.cells s.index) b.words.slots ∙ c.bag.invariant.whole.long ∙ ap (λ n. 32 * n) m.1 ∙ sym c.self.invariant.whole.long)
 
-pub settle-requires : goal.settle-requires
-settle-requires c =
-    let r = c.self.inside.regions in let h = c.self.invariant.regions in let s = c.bag.inside.sacks in let k = c.bag.invariant.sacks in let q = c.place_of-class.result in
-    let of = of_region r h s k _ _ c.self.view_is c.bag.view_is c.requires.of_this_arena c.args.cell.0 q.0 q.1 c.place_of-class.ensures (live_in (state_at c.args.bag.now c.args.cell.0) c.requires.written) c.take.result c.take.new.self c.take.ensures in
-    (h, of, subst IsLive (sym (hand_state s k _ c.args.cell.0 q.0 q.1 c.bag.view_is c.place_of-class.ensures c.take.result c.take.new.self c.take.ensures)) c.requires.written)
+pub invariant_of-self : goal.invariant_of-self
+invariant_of-self c =
+    let b = c.bag.inside in let a = c.self.inside in let v = c.args.self.now in let w = c.args.bag.now in let s = c.spot_of-spot.result in let n = c.args.cell.0 in let p = c.spot_of-spot.ensures.1 in let of = c.requires.of_this_arena in
+    let in_it = live_in (state_at w n) c.requires.written in
+    let m = memory_one b.words.at a.words.at b.cells a.cells b.words.slots a.words.slots w v c.bag.view_is c.self.view_is (sym of.memory, sym of.cells) in
+    let q = subst (λ k. IsPlace k n s.class s.index) m.1 p in let many = c.spot_of-spot.ensures.0 ∙ m.1 in
+    let out = subst (λ k. cell_in k a.words.slots s.class s.index ≡ None) (sym many) (none_where_leased a.words.at a.cells a.words.slots v n s.class s.index c.self.view_is q (of.leased n in_it)) in
+    let is = cell_state b c.bag.invariant w c.bag.view_is n s c.spot_of-spot.ensures.0 p in_it in
+    (settled_in a c.self.invariant v c.self.view_is s c.part_by.result (owned b c.bag.invariant w c.bag.view_is n s c.spot_of-spot.ensures.0 p in_it c.part_by.result a.words c.part_by.ensures.one m.0 out) c.join.new.self n (state_at w n) many
+    (p.1 ∙ ap (λ k. class_no s.class * k + s.index) (sym c.spot_of-spot.ensures.0)) (subst IsLive (sym is) c.requires.written) c.join.ensures.0 c.join.ensures.1 is).0
+
+pub invariant_of-bag : goal.invariant_of-bag
+invariant_of-bag c =
+    let w = c.args.bag.now in let n = c.args.cell.0 in let s = c.spot_of-spot.result in
+    (taken_from c.bag.inside c.bag.invariant w c.bag.view_is n s c.spot_of-spot.ensures.0 c.spot_of-spot.ensures.1 (live_in (state_at w n) c.requires.written) c.part_by.new.self c.part_by.ensures.rest).0
 
 pub returns : goal.returns
 returns c =
-    let r = c.self.inside.regions in let h = c.self.invariant.regions in let s = c.bag.inside.sacks in let k = c.bag.invariant.sacks in let q = c.place_of-class.result in
-    taken_back r h s k _ _ c.self.view_is c.bag.view_is c.requires.of_this_arena c.args.cell.0 q.0 q.1 c.place_of-class.ensures (live_in (state_at c.args.bag.now c.args.cell.0) c.requires.written) c.take.result c.take.new.self c.take.ensures
-    c.settle.new.self (cell_view c.take.result).state _ c.settle.ensures (hand_state s k _ c.args.cell.0 q.0 q.1 c.bag.view_is c.place_of-class.ensures c.take.result c.take.new.self c.take.ensures)
+    let b = c.bag.inside in let a = c.self.inside in let v = c.args.self.now in let w = c.args.bag.now in let s = c.spot_of-spot.result in let n = c.args.cell.0 in let p = c.spot_of-spot.ensures.1 in let of = c.requires.of_this_arena in
+    let in_it = live_in (state_at w n) c.requires.written in
+    let m = memory_one b.words.at a.words.at b.cells a.cells b.words.slots a.words.slots w v c.bag.view_is c.self.view_is (sym of.memory, sym of.cells) in
+    let q = subst (λ k. IsPlace k n s.class s.index) m.1 p in let many = c.spot_of-spot.ensures.0 ∙ m.1 in
+    let out = subst (λ k. cell_in k a.words.slots s.class s.index ≡ None) (sym many) (none_where_leased a.words.at a.cells a.words.slots v n s.class s.index c.self.view_is q (of.leased n in_it)) in
+    let is = cell_state b c.bag.invariant w c.bag.view_is n s c.spot_of-spot.ensures.0 p in_it in
+    let here = (settled_in a c.self.invariant v c.self.view_is s c.part_by.result (owned b c.bag.invariant w c.bag.view_is n s c.spot_of-spot.ensures.0 p in_it c.part_by.result a.words c.part_by.ensures.one m.0 out) c.join.new.self n (state_at w n) many
+        (p.1 ∙ ap (λ k. class_no s.class * k + s.index) (sym c.spot_of-spot.ensures.0)) (subst IsLive (sym is) c.requires.written) c.join.ensures.0 c.join.ensures.1 is).1 in
+    let rest = (taken_from b c.bag.invariant w c.bag.view_is n s c.spot_of-spot.ensures.0 p in_it c.part_by.new.self c.part_by.ensures.rest).1 in
+    (here, rest, bag_of_is (sym rest) (sym here) (bag_less w v n (state_at w n) of))

@@ -1,27 +1,49 @@
-use Rattle.std.proofs.Common.{◌<◌, ◌∙◌, ap, sym, subst}
-use Rattle.in_arena.specs.Arenas.{state_at, written}
-use Rattle.in_arena.specs.ByClass.{cell_view}
+use Rattle.std.proofs.Common.{◌≡◌, ◌≤◌, ◌<◌, ℕ, length, set, sym, subst, ap, refl, arith, ◌∙◌, Some}
+use Rattle.in_arena.specs.Arenas.{state_at}
+use Rattle.in_arena.specs.Classes.{width}
+use Rattle.in_arena.specs.FreeLists.{state_in, state_of, with_ends}
 use Rattle.in_arena.specs.States.{places, with_end}
-use Rattle.in_arena.proofs.Bags.{may_take, hand_state, back_view, placed_in}
-use Rattle.in_arena.proofs.ByClass.{out_of}
+use Rattle.in_arena.specs.Words.{Content, cell_in}
+use Rattle.in_arena.specs.declared.content.End.{End}
+use Rattle.std.specs.Prelude.{List, zero, suc}
+use Rattle.std.proofs.lemmas.List.{length-take-le}
+use Rattle.in_arena.proofs.Arenas.{placed_here}
+use Rattle.in_arena.proofs.Bags.{placed_in}
+use Rattle.in_arena.proofs.FreeLists.{end_written}
+use Rattle.in_arena.proofs.Kept.{bag_cell, bag_long, bag_rewritten, bag_state, in_bag_all}
 use Rattle.in_arena.proofs.bag.Bag.set.Goals as goal
 
-pub take-held-requires : goal.take-held-requires
-take-held-requires c =
-    let s = c.self.inside.sacks in let k = c.self.invariant.sacks in let q = c.place_of-class.result in
-    (k, may_take s k _ c.args.cell.0 q.0 q.1 c.self.view_is c.place_of-class.ensures (placed_in (state_at c.args.self.now c.args.cell.0) c.args.place c.requires))
+pub spot_of-spot-requires : goal.spot_of-spot-requires
+spot_of-spot-requires c =
+    let w = c.args.self.now in let n = c.args.cell.0 in
+    (c.self.invariant.few, in_bag_all c.self.inside c.self.invariant w c.self.view_is n (placed_here (state_at w n) c.args.place c.requires))
 
-pub set-requires : goal.set-requires
-set-requires c =
-    let s = c.self.inside.sacks in let k = c.self.invariant.sacks in let q = c.place_of-class.result in let hand = c.take-held.ensures in let l = c.take-held.result in (
-      (out_of c.take-held.new.self hand.4.whole l hand.3).0,
-      subst (λ x. c.args.place < places x) (sym (hand_state s k _ c.args.cell.0 q.0 q.1 c.self.view_is c.place_of-class.ensures l c.take-held.new.self hand)) c.requires,
-    )
+pub set_end-requires-clause-written : goal.set_end-requires-clause-written
+set_end-requires-clause-written c =
+    let b = c.self.inside in let s = c.spot_of-spot.result in let w = c.args.self.now in let n = c.args.cell.0 in
+    let x = bag_cell b c.self.invariant w c.self.view_is n s.class s.index c.spot_of-spot.ensures.1 (placed_in (state_at w n) c.args.place c.requires) in
+    (x.0, subst (λ m. cell_in m b.words.slots s.class s.index ≡ Some (Some x.0)) (sym c.spot_of-spot.ensures.0) x.1)
+
+-- a place of a cell is one that its class has
+within : (n w : ℕ) (es : List End) (p most : ℕ) → p < places (with_ends n w es) → n ≤ most → most ≡ length es → p < most
+within zero w es p most lt few long = absurd (omega arith)
+within (suc n) w es p most lt few long = omega (arith, lt, few, long, length-take-le (suc n) es (omega (arith, few, long)))
+
+pub set_end-requires-clause-place : goal.set_end-requires-clause-place
+set_end-requires-clause-place c =
+    let b = c.self.inside in let k = c.self.invariant in let w = c.args.self.now in let f = c.self.view_is in let n = c.args.cell.0 in let s = c.spot_of-spot.result in let p = c.spot_of-spot.ensures.1 in
+    let x = bag_cell b k w f n s.class s.index p (placed_in (state_at w n) c.args.place c.requires) in
+    within x.0.count x.0.word x.0.ends c.args.place (width s.class) (subst (λ z. c.args.place < places z) (bag_state b k w f n s.class s.index p ∙ ap state_of x.1) c.requires) x.2 (sym (bag_long b k w f s.class s.index p.0 x.0 x.1))
+
+pub invariant_of-self : goal.invariant_of-self
+invariant_of-self c =
+    let b = c.self.inside in let k = c.self.invariant in let w = c.args.self.now in let f = c.self.view_is in let n = c.args.cell.0 in let s = c.spot_of-spot.result in let p = c.spot_of-spot.ensures.1 in
+    let x = bag_cell b k w f n s.class s.index p (placed_in (state_at w n) c.args.place c.requires) in let y : Content = record { word = x.0.word; count = x.0.count; ends = set x.0.ends c.args.place c.of.result } in
+    (bag_rewritten b k w f c.set_end.new.words n s y (state_in y) c.spot_of-spot.ensures.0 p (c.set_end.ensures x.0 (subst (λ m. cell_in m b.words.slots s.class s.index ≡ Some (Some x.0)) (sym c.spot_of-spot.ensures.0) x.1)) x.2 refl).0
 
 pub returns : goal.returns
 returns c =
-    let s = c.self.inside.sacks in let k = c.self.invariant.sacks in let q = c.place_of-class.result in let hand = c.take-held.ensures in let l = c.take-held.result in
-    let was = hand_state s k _ c.args.cell.0 q.0 q.1 c.self.view_is c.place_of-class.ensures l c.take-held.new.self hand in
-    back_view s k _ c.args.cell.0 q.0 q.1 c.self.view_is c.place_of-class.ensures l c.take-held.new.self hand
-    c.set.new.self c.put.new.self (with_end (state_at c.args.self.now c.args.cell.0) c.args.place c.args.end)
-    (c.set.ensures.1 ∙ ap (λ e. written (cell_view l) (with_end (cell_view l).state c.args.place e)) c.of.ensures ∙ ap (λ x. written (cell_view l) (with_end x c.args.place c.args.end)) was) c.put.ensures
+    let b = c.self.inside in let k = c.self.invariant in let w = c.args.self.now in let f = c.self.view_is in let n = c.args.cell.0 in let s = c.spot_of-spot.result in let p = c.spot_of-spot.ensures.1 in
+    let x = bag_cell b k w f n s.class s.index p (placed_in (state_at w n) c.args.place c.requires) in let y : Content = record { word = x.0.word; count = x.0.count; ends = set x.0.ends c.args.place c.of.result } in
+    (bag_rewritten b k w f c.set_end.new.words n s y (with_end (state_at w n) c.args.place c.args.end) c.spot_of-spot.ensures.0 p (c.set_end.ensures x.0 (subst (λ m. cell_in m b.words.slots s.class s.index ≡ Some (Some x.0)) (sym c.spot_of-spot.ensures.0) x.1)) x.2
+    (end_written x.0.word x.0.count x.0.ends c.args.place c.of.result ∙ ap (λ e. with_end (state_in x.0) c.args.place e) c.of.ensures ∙ ap (λ z. with_end z c.args.place c.args.end) (sym (bag_state b k w f n s.class s.index p ∙ ap state_of x.1)))).1

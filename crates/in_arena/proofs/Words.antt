@@ -1,0 +1,205 @@
+-- Where the words of cells are: no two cells share one, and each word is some cell's.
+use Rattle.std.proofs.Common.{◌≡◌, ◌≢◌, ℕ, zero, suc, ◌+◌, ◌-◌, ◌*◌, ◌<◌, ◌≤◌, List, map, length, get_or, None, refl, sym, ap, ◌∙◌, subst, ⊎_elim, arith}
+use Rattle.std.specs.Prelude.{◌/◌, ◌%◌}
+use Rattle.std.specs.List.{range_with_len}
+use Rattle.std.proofs.lemmas.Bool.{cases_lt}
+use Rattle.std.proofs.lemmas.List.{ext_get_or}
+use Rattle.std.proofs.lemmas.List.FromFn.{length-map-range_with_len, get_or-map-range_with_len}
+use Rattle.in_arena.specs.Classes.{class_no, width}
+use Rattle.in_arena.specs.Words.{Word, words_each, far_of, spot, slots, head, slot_of, IsHead, end_of, cell_of, word_at, ends_in, cell_in, row_in, IsWhole, Gone, New, Filled, ChangesCell}
+use Rattle.in_arena.specs.declared.content.CellClass.{CellClass}
+use Rattle.in_arena.specs.declared.content.CellClass.TheVariants.{Small, Large, Wide}
+use Rattle.in_arena.specs.declared.content.End.{End}
+
+-- ---- numbers of words
+
+pub spot_near : (c : CellClass) (cells i q : ℕ) → q < 4 → spot c cells i q ≡ 4 * (class_no c * cells + i) + q
+spot_near c cells i zero lt = omega arith
+spot_near c cells i (suc zero) lt = refl
+spot_near c cells i (suc (suc zero)) lt = refl
+spot_near c cells i (suc (suc (suc zero))) lt = refl
+spot_near c cells i (suc (suc (suc (suc q)))) lt = absurd (omega arith)
+
+pub spot_far : (c : CellClass) (cells i q : ℕ) → 4 ≤ q → spot c cells i q ≡ far_of c cells i + (q - 4)
+spot_far c cells i zero le = absurd (omega arith)
+spot_far c cells i (suc zero) le = absurd (omega arith)
+spot_far c cells i (suc (suc zero)) le = absurd (omega arith)
+spot_far c cells i (suc (suc (suc zero))) le = absurd (omega arith)
+spot_far c cells i (suc (suc (suc (suc q)))) le = let e : suc (suc (suc (suc q))) - 4 ≡ q = omega arith in ap (λ k. far_of c cells i + k) (sym e)
+
+pub slot_near : (p : ℕ) → p < 3 → slot_of p ≡ p
+slot_near zero lt = refl
+slot_near (suc zero) lt = refl
+slot_near (suc (suc zero)) lt = refl
+slot_near (suc (suc (suc p))) lt = absurd (omega arith)
+
+pub slot_far : (p : ℕ) → 3 ≤ p → slot_of p ≡ p + 1
+slot_far zero le = absurd (omega arith)
+slot_far (suc zero) le = absurd (omega arith)
+slot_far (suc (suc zero)) le = absurd (omega arith)
+slot_far (suc (suc (suc p))) le = omega arith
+
+-- a place is no head, and two places are two words
+pub slot_no_head : (p : ℕ) → slot_of p ≢ head
+slot_no_head p e = ⊎_elim (λ lt. absurd (omega (arith, slot_near p lt, e, lt))) (λ le. absurd (omega (arith, slot_far p le, e, le))) (cases_lt p 3)
+
+pub slot_one : (p r : ℕ) → slot_of p ≡ slot_of r → p ≡ r
+slot_one p r e =
+    ⊎_elim
+    (λ a. ⊎_elim (λ b. omega (arith, e, slot_near p a, slot_near r b)) (λ b. absurd (omega (arith, e, a, b, slot_near p a, slot_far r b))) (cases_lt r 3))
+    (λ a. ⊎_elim (λ b. absurd (omega (arith, e, a, b, slot_far p a, slot_near r b))) (λ b. omega (arith, e, slot_far p a, slot_far r b)) (cases_lt r 3))
+    (cases_lt p 3)
+
+pub slot_inside : (c : CellClass) (p : ℕ) → p < width c → slot_of p < slots c
+slot_inside c p lt = ⊎_elim (λ a. omega (arith, slot_near p a, lt)) (λ a. omega (arith, slot_far p a, lt)) (cases_lt p 3)
+
+pub head_inside : (c : CellClass) → head < slots c
+head_inside Small = omega arith
+head_inside Large = omega arith
+head_inside Wide = omega arith
+
+-- ---- each word is of one cell
+
+pub near_below : (c : CellClass) (cells i : ℕ) → i < cells → class_no c * cells + i < 3 * cells
+near_below Small cells i lt = omega (arith, lt)
+near_below Large cells i lt = omega (arith, lt)
+near_below Wide cells i lt = omega (arith, lt)
+
+-- further words of a cell, by their bounds
+far_bounds : (c : CellClass) (cells i k : ℕ) → i < cells → k + 4 < slots c → (12 * cells ≤ far_of c cells i + k) × (far_of c cells i + k < 32 * cells)
+far_bounds Small cells i k lt in_it = absurd (omega (arith, in_it))
+far_bounds Large cells i k lt in_it = (omega arith, omega (arith, lt, in_it))
+far_bounds Wide cells i k lt in_it = (omega arith, omega (arith, lt, in_it))
+
+pub spot_inside : (c : CellClass) (cells i q : ℕ) → i < cells → q < slots c → spot c cells i q < words_each * cells
+spot_inside c cells i q lt in_it =
+    ⊎_elim
+    (λ near. omega (arith, spot_near c cells i q near, near_below c cells i lt, near))
+    (λ far. let b = far_bounds c cells i (q - 4) lt (omega (arith, far, in_it)) in let high = b.1 in omega (arith, spot_far c cells i q far, high))
+    (cases_lt q 4)
+
+-- the classes, and the numbers within them, of one number
+pub one_number : (c d : CellClass) (cells i j : ℕ) → i < cells → j < cells → class_no c * cells + i ≡ class_no d * cells + j → (c ≡ d) × (i ≡ j)
+one_number Small Small cells i j li lj e = (refl, omega (arith, e))
+one_number Small Large cells i j li lj e = absurd (omega (arith, li, lj, e))
+one_number Small Wide cells i j li lj e = absurd (omega (arith, li, lj, e))
+one_number Large Small cells i j li lj e = absurd (omega (arith, li, lj, e))
+one_number Large Large cells i j li lj e = (refl, omega (arith, e))
+one_number Large Wide cells i j li lj e = absurd (omega (arith, li, lj, e))
+one_number Wide Small cells i j li lj e = absurd (omega (arith, li, lj, e))
+one_number Wide Large cells i j li lj e = absurd (omega (arith, li, lj, e))
+one_number Wide Wide cells i j li lj e = (refl, omega (arith, e))
+
+one_far : (c d : CellClass) (cells i j k l : ℕ) → i < cells → j < cells → k + 4 < slots c → l + 4 < slots d → far_of c cells i + k ≡ far_of d cells j + l → (c ≡ d) × (i ≡ j) × (k ≡ l)
+one_far Small d cells i j k l li lj in_c in_d e = absurd (omega (arith, in_c))
+one_far Large Small cells i j k l li lj in_c in_d e = absurd (omega (arith, in_d))
+one_far Large Large cells i j k l li lj in_c in_d e = (refl, omega (arith, in_c, in_d, e), omega (arith, in_c, in_d, e))
+one_far Large Wide cells i j k l li lj in_c in_d e = absurd (omega (arith, li, in_c, e))
+one_far Wide Small cells i j k l li lj in_c in_d e = absurd (omega (arith, in_d))
+one_far Wide Large cells i j k l li lj in_c in_d e = absurd (omega (arith, lj, in_d, e))
+one_far Wide Wide cells i j k l li lj in_c in_d e = (refl, omega (arith, in_c, in_d, e), omega (arith, in_c, in_d, e))
+
+pub apart : (c d : CellClass) (cells i j q r : ℕ) → i < cells → j < cells → q < slots c → r < slots d → spot c cells i q ≡ spot d cells j r → (c ≡ d) × (i ≡ j) × (q ≡ r)
+apart c d cells i j q r li lj in_c in_d e =
+    ⊎_elim
+    (λ near_q.
+        ⊎_elim
+        (λ near_r.
+            let a = spot_near c cells i q near_q in let b = spot_near d cells j r near_r in
+            let one = one_number c d cells i j li lj (omega (arith, a, b, e, near_q, near_r)) in (one.0, one.1, omega (arith, a, b, e, near_q, near_r)))
+        (λ far_r.
+            let a = spot_near c cells i q near_q in let b = spot_far d cells j r far_r in let low = (far_bounds d cells j (r - 4) lj (omega (arith, far_r, in_d))).0 in
+            absurd (omega (arith, a, b, e, near_q, near_below c cells i li, low)))
+        (cases_lt r 4))
+    (λ far_q.
+        ⊎_elim
+        (λ near_r.
+            let a = spot_far c cells i q far_q in let b = spot_near d cells j r near_r in let low = (far_bounds c cells i (q - 4) li (omega (arith, far_q, in_c))).0 in
+            absurd (omega (arith, a, b, e, near_r, near_below d cells j lj, low)))
+        (λ far_r.
+            let a = spot_far c cells i q far_q in let b = spot_far d cells j r far_r in
+            let one = one_far c d cells i j (q - 4) (r - 4) li lj (omega (arith, far_q, in_c)) (omega (arith, far_r, in_d)) (omega (arith, a, b, e)) in
+            let same = one.2 in (one.0, one.1, omega (arith, same, far_q, far_r)))
+        (cases_lt r 4))
+    (cases_lt q 4)
+
+-- ---- each word is some cell's
+
+record IsOfSome (cells x : ℕ) : Type 0 where
+  class : CellClass
+  index : ℕ
+  slot : ℕ
+  inside : index < cells
+  in_it : slot < slots class
+  is : x ≡ spot class cells index slot
+
+near_some : (cells x : ℕ) (c : CellClass) (i : ℕ) → i < cells → x / 4 ≡ class_no c * cells + i → IsOfSome cells x
+near_some cells x c i lt at =
+    let few : x % 4 < 4 = omega arith in
+    record { class = c; index = i; slot = x % 4; inside = lt; in_it = omega (arith, few, head_inside c); is = omega (arith, at, spot_near c cells i (x % 4) few) }
+
+pub all_some : (cells x : ℕ) → x < words_each * cells → (c : CellClass) × (i : ℕ) × (q : ℕ) × (i < cells) × (q < slots c) × (x ≡ spot c cells i q)
+all_some cells x lt = let s = some in (s.class, s.index, s.slot, s.inside, s.in_it, s.is)
+  where
+    some : IsOfSome cells x
+    some =
+        ⊎_elim
+        (λ a. near_some cells x Small (x / 4) (omega (arith, a)) (omega arith))
+        (λ a.
+            ⊎_elim
+            (λ b. near_some cells x Large (x / 4 - cells) (omega (arith, a, b)) (omega (arith, a)))
+            (λ b.
+                ⊎_elim
+                (λ e. near_some cells x Wide (x / 4 - 2 * cells) (omega (arith, b, e)) (omega (arith, b)))
+                (λ e.
+                    ⊎_elim
+                    (λ f.
+                        let y = x - 12 * cells in let few : y % 6 < 6 = omega arith in
+                        record { class = Large; index = y / 6; slot = y % 6 + 4; inside = omega (arith, e, f); in_it = omega (arith, few); is = omega (arith, e, spot_far Large cells (y / 6) (y % 6 + 4) (omega arith)) })
+                    (λ f.
+                        let y = x - 18 * cells in let few : y % 14 < 14 = omega arith in
+                        record { class = Wide; index = y / 14; slot = y % 14 + 4; inside = omega (arith, f, lt); in_it = omega (arith, few); is = omega (arith, f, spot_far Wide cells (y / 14) (y % 14 + 4) (omega arith)) })
+                    (cases_lt x (18 * cells)))
+                (cases_lt x (12 * cells)))
+            (cases_lt x (8 * cells)))
+        (cases_lt x (4 * cells))
+
+-- ---- what the words of a cell say
+
+map_range_same : {X : Type 0} (d : X) (f g : ℕ → X) (n : ℕ) → ((p : ℕ) → p < n → f p ≡ g p) → map f (range_with_len 0 n) ≡ map g (range_with_len 0 n)
+map_range_same d f g n same =
+    ext_get_or d (map f (range_with_len 0 n)) (map g (range_with_len 0 n)) (length-map-range_with_len f 0 n ∙ sym (length-map-range_with_len g 0 n))
+    (λ i lt.
+        let inside : i < n = omega (arith, lt, length-map-range_with_len f 0 n) in
+        get_or-map-range_with_len f 0 n i i d inside (omega arith) ∙ same i inside ∙ sym (get_or-map-range_with_len g 0 n i i d inside (omega arith)))
+
+pub ends_long : (cells : ℕ) (ws : List Word) (c : CellClass) (i : ℕ) → length (ends_in cells ws c i) ≡ width c
+ends_long cells ws c i = length-map-range_with_len (λ p. end_of (word_at cells ws c i (slot_of p))) 0 (width c)
+
+pub end_at_is : (cells : ℕ) (ws : List Word) (c : CellClass) (i p : ℕ) (d : End) → p < width c → get_or (ends_in cells ws c i) p d ≡ end_of (word_at cells ws c i (slot_of p))
+end_at_is cells ws c i p d lt = get_or-map-range_with_len (λ p. end_of (word_at cells ws c i (slot_of p))) 0 (width c) p p d lt (omega arith)
+
+pub row_long : (cells : ℕ) (ws : List Word) (c : CellClass) → length (row_in cells ws c) ≡ cells
+row_long cells ws c = length-map-range_with_len (cell_in cells ws c) 0 cells
+
+pub row_at : (cells : ℕ) (ws : List Word) (c : CellClass) (i : ℕ) → i < cells → get_or (row_in cells ws c) i None ≡ cell_in cells ws c i
+row_at cells ws c i lt = get_or-map-range_with_len (cell_in cells ws c) 0 cells i i None lt (omega arith)
+
+-- the words of the cell are those of before
+abbrev pub IsKept : ℕ → List Word → List Word → CellClass → ℕ → Type 0
+IsKept cells old new c i = (q : ℕ) → q < slots c → word_at cells new c i q ≡ word_at cells old c i q
+
+pub kept_cell : (cells : ℕ) (old new : List Word) (c : CellClass) (i : ℕ) → IsKept cells old new c i → cell_in cells new c i ≡ cell_in cells old c i
+kept_cell cells old new c i same =
+    ap (λ h. cell_of h (ends_in cells new c i)) (same head (head_inside c))
+    ∙ ap (cell_of (word_at cells old c i head)) (map_range_same (end_of None) (λ p. end_of (word_at cells new c i (slot_of p))) (λ p. end_of (word_at cells old c i (slot_of p))) (width c) (λ p lt. ap end_of (same (slot_of p) (slot_inside c p lt))))
+
+pub kept_whole : (cells : ℕ) (old new : List Word) (c : CellClass) (i : ℕ) → IsKept cells old new c i → IsWhole cells old c i → IsWhole cells new c i
+kept_whole cells old new c i same (Gone none) = Gone (λ q lt. same q lt ∙ none q lt)
+kept_whole cells old new c i same (New new_) = New (λ q lt. same q lt ∙ new_ q lt)
+kept_whole cells old new c i same (Filled all first) = Filled (λ q lt. let w = all q lt in (w.0, same q lt ∙ w.1)) (subst (λ w. IsHead (end_of w)) (sym (same head (head_inside c))) first)
+
+-- another cell than the one that changes
+pub other_kept : (cells : ℕ) (old new : List Word) (c d : CellClass) (i j : ℕ) → i < cells → j < cells → ChangesCell cells old new c i → ((c ≡ d) × (i ≡ j) → ⊥) → IsKept cells old new d j
+other_kept cells old new c d i j li lj change differ r in_d =
+    change.others (spot d cells j r) (λ q in_c e. let one = apart c d cells i j q r li lj in_c in_d (sym e) in differ (one.0, one.1))

@@ -1,0 +1,64 @@
+-- Changes of the words of one cell, and of the lists of free cells with them.
+use Rattle.std.specs.Prelude.{◌≡◌, ◌≢◌, ◌≤◌, ◌<◌, ◌*◌, ℕ, Bool, true, false, List, length, take, count_by, replicate, slice_set, Some, None}
+use Rattle.in_memory.specs.declared.cells.Cells.{Cells}
+use Rattle.in_arena.specs.Classes.{width}
+use Rattle.in_arena.specs.FreeLists.{IsFreeOf, list_in, states}
+use Rattle.in_arena.specs.States.{State, Vacant, is_vacant}
+use Rattle.in_arena.specs.Words.{AreWhole, ChangesCell, Content, Word, cell_in, row_in, words_each}
+use Rattle.in_arena.specs.declared.content.CellClass.{CellClass}
+use Rattle.in_arena.specs.declared.content.End.{End}
+use Rattle.in_arena.specs.declared.free_list.FreeLists.{FreeLists}
+use Rattle.in_arena.specs.declared.spot.Spot.{Spot}
+
+-- the lists have the free cells of each class
+abbrev pub AreFreeOf : ℕ → List Word → FreeLists → Type 0
+AreFreeOf cells ws lists = (c : CellClass) → IsFreeOf (width c) (row_in cells ws c) (list_in lists c)
+
+-- one cell is that, and all others are as they were
+pub record RowsBecome (cells : ℕ) (old new : List Word) (c : CellClass) (i : ℕ) (x : State) : Type 0 where
+  pub row : states (row_in cells new c) ≡ slice_set (states (row_in cells old c)) i x
+  pub others : (d : CellClass) → d ≢ c → states (row_in cells new d) ≡ states (row_in cells old d)
+
+-- each cell is as it was
+abbrev pub RowsStay : ℕ → List Word → List Word → Type 0
+RowsStay cells old new = (c : CellClass) → states (row_in cells new c) ≡ states (row_in cells old c)
+
+-- the list of the class has a cell; or none of the class is free
+abbrev pub IsReady : ℕ → CellClass → Cells End → FreeLists → Bool → Cells End → FreeLists → Type 0
+IsReady cells c words lists true words' lists' = (words'.at ≡ words.at) × AreWhole cells words'.slots × AreFreeOf cells words'.slots lists' × RowsStay cells words.slots words'.slots × ((list_in lists' c).next ≢ cells)
+IsReady cells c words lists false words' lists' = (words' ≡ words) × (lists' ≡ lists) × (count_by is_vacant (states (row_in cells words.slots c)) ≡ 0)
+
+-- the cell is written with this content from now on
+pub record Rewrites (words : Cells End) (at : Spot) (x : Content) (words' : Cells End) : Type 0 where
+  pub same : words'.at ≡ words.at
+  pub whole : AreWhole at.cells words'.slots
+  pub changes : ChangesCell at.cells words.slots words'.slots at.class at.index
+  pub cell : cell_in at.cells words'.slots at.class at.index ≡ Some (Some x)
+
+-- the words of this cell, which is written, and no others; in the row it is another owner's
+pub record OwnsOne (words : Cells End) (at : Spot) (one : Cells End) : Type 0 where
+  pub same : one.at ≡ words.at
+  pub index : at.index < at.cells
+  pub whole : AreWhole at.cells one.slots
+  pub alone : ChangesCell at.cells (replicate (words_each * at.cells) None) one.slots at.class at.index
+  pub content : Content
+  pub cell : cell_in at.cells one.slots at.class at.index ≡ Some (Some content)
+  pub room : content.count ≤ width at.class
+  pub out : cell_in at.cells words.slots at.class at.index ≡ None
+
+-- the cell is free, the first of its list
+pub record IsTakenBack (words : Cells End) (lists : FreeLists) (at : Spot) (words' : Cells End) (lists' : FreeLists) : Type 0 where
+  pub same : words'.at ≡ words.at
+  pub whole : AreWhole at.cells words'.slots
+  pub free : AreFreeOf at.cells words'.slots lists'
+  pub rows : RowsBecome at.cells words.slots words'.slots at.class at.index Vacant
+
+-- a cell is here and written
+abbrev pub IsWrittenAt : List Word → Spot → Type 0
+IsWrittenAt ws at = (x : Content) × (cell_in at.cells ws at.class at.index ≡ Some (Some x))
+
+-- it has this symbol word and these ends
+pub record HasContent (symbol : ℕ) (es : List End) (x : Content) : Type 0 where
+  pub word : x.word ≡ symbol
+  pub count : x.count ≡ length es
+  pub ends : take (length es) x.ends ≡ es

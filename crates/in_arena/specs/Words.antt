@@ -1,0 +1,125 @@
+-- The row of words of an arena: which words a cell has in it, and what they say.
+use Rattle.std.specs.Prelude.{◌≡◌, ◌≢◌, ◌<◌, ◌+◌, ◌*◌, ℕ, zero, suc, Bool, false, ◌||◌, eqb, List, length, map, get_or, Option, Some, None}
+use Rattle.std.specs.List.{range_with_len}
+use Rattle.in_arena.specs.Classes.{class_no, width}
+use Rattle.in_arena.specs.declared.content.CellClass.{CellClass}
+use Rattle.in_arena.specs.declared.content.CellClass.TheVariants.{Small, Large, Wide}
+use Rattle.in_arena.specs.declared.content.End.{End}
+use Rattle.in_arena.specs.declared.content.End.TheVariants.{Cell, Free}
+
+-- a word of the row, as one of its owners has it: another owner's, here and never written, or here with what is written
+abbrev pub Word : Type 0
+Word = Option (Option End)
+
+-- what is written in a cell: its symbol word, how many ends it has, and what stands at each of its places
+pub record Content : Type 0 where
+  pub word : ℕ
+  pub count : ℕ
+  pub ends : List End
+
+-- a cell, as an owner of words has it
+abbrev pub CellWords : Type 0
+CellWords = Option (Option Content)
+
+-- ---- where the words are
+
+-- how many words the row has for each number of cells of a class
+abbrev pub words_each : ℕ
+words_each = 32
+
+-- the first word of a cell, where there are `cells` cells of each class: the first four words of all cells come one after another
+abbrev pub near_of : CellClass → ℕ → ℕ → ℕ
+near_of c cells i = 4 * (class_no c * cells + i)
+
+-- .. and the first of its words for further places, which come class by class after these
+abbrev pub far_of : CellClass → ℕ → ℕ → ℕ
+far_of Small cells i = 0
+far_of Large cells i = 12 * cells + 6 * i
+far_of Wide cells i = 18 * cells + 14 * i
+
+-- the words of a cell in their order: places 0 to 2, the head, the further places
+abbrev pub spot : CellClass → ℕ → ℕ → ℕ → ℕ
+spot c cells i zero = near_of c cells i
+spot c cells i (suc zero) = near_of c cells i + 1
+spot c cells i (suc (suc zero)) = near_of c cells i + 2
+spot c cells i (suc (suc (suc zero))) = near_of c cells i + 3
+spot c cells i (suc (suc (suc (suc q)))) = far_of c cells i + q
+
+-- how many words it has
+abbrev pub slots : CellClass → ℕ
+slots c = width c + 1
+
+-- which of them is the head, and which a place
+abbrev pub head : ℕ
+head = 3
+
+abbrev pub slot_of : ℕ → ℕ
+slot_of zero = 0
+slot_of (suc zero) = 1
+slot_of (suc (suc zero)) = 2
+slot_of (suc (suc (suc p))) = suc (suc (suc (suc p)))
+
+-- the number is what the function gives for some number below n
+abbrev pub is_one_below : (ℕ → ℕ) → ℕ → ℕ → Bool
+is_one_below f zero x = false
+is_one_below f (suc n) x = eqb x (f n) || is_one_below f n x
+
+-- the word of that number is one of this cell's
+abbrev pub is_spot : CellClass → ℕ → ℕ → ℕ → Bool
+is_spot c cells i = is_one_below (spot c cells i) (slots c)
+
+-- ---- what they say
+
+-- a head names the symbol word and how many ends there are, as an end names a cell and a place; of a free cell it names the next free one
+abbrev pub word_in : End → ℕ
+word_in (Cell s n) = s.0
+word_in (Free k) = 0
+
+abbrev pub count_in : End → ℕ
+count_in (Cell s n) = n
+count_in (Free k) = 0
+
+abbrev pub IsHead : End → Type 0
+IsHead (Cell s n) = Unit {0}
+IsHead (Free k) = ⊥
+
+-- the end in a word, where one is written
+abbrev pub end_of : Word → End
+end_of None = Free 0
+end_of (Some None) = Free 0
+end_of (Some (Some e)) = e
+
+abbrev pub cell_of : Word → List End → CellWords
+cell_of None es = None
+cell_of (Some None) es = Some None
+cell_of (Some (Some h)) es = Some (Some (record { word = word_in h; count = count_in h; ends = es }))
+
+module _ (cells : ℕ) (ws : List Word) (c : CellClass) where
+  abbrev pub word_at : ℕ → ℕ → Word
+  word_at i q = get_or ws (spot c cells i q) None
+
+  abbrev pub ends_in : ℕ → List End
+  ends_in i = map (λ p. end_of (word_at i (slot_of p))) (range_with_len 0 (width c))
+
+  abbrev pub cell_in : ℕ → CellWords
+  cell_in i = cell_of (word_at i head) (ends_in i)
+
+  -- the cells of the class
+  abbrev pub row_in : List CellWords
+  row_in = map cell_in (range_with_len 0 cells)
+
+  -- all words of the cell are another owner's, or all are here and never written, or all are written, a head among them
+  pub data IsWhole (i : ℕ) : Type 0 where
+    Gone : ((q : ℕ) → q < slots c → word_at i q ≡ None) → IsWhole i
+    New : ((q : ℕ) → q < slots c → word_at i q ≡ Some None) → IsWhole i
+    Filled : ((q : ℕ) → q < slots c → (e : End) × (word_at i q ≡ Some (Some e))) → IsHead (end_of (word_at i head)) → IsWhole i
+
+-- each cell is whole
+pub record AreWhole (cells : ℕ) (ws : List Word) : Type 0 where
+  pub long : length ws ≡ words_each * cells
+  pub each : (c : CellClass) (i : ℕ) → i < cells → IsWhole cells ws c i
+
+-- the rows differ in words of this cell at most
+pub record ChangesCell (cells : ℕ) (old new : List Word) (c : CellClass) (i : ℕ) : Type 0 where
+  pub long : length new ≡ length old
+  pub others : (x : ℕ) → ((q : ℕ) → q < slots c → x ≢ spot c cells i q) → get_or new x None ≡ get_or old x None

@@ -1,0 +1,50 @@
+// Which cells of each class are free.
+ghost use Rattle.std.specs.Prelude.{◌≡◌, ◌≢◌};
+ghost use Rattle.in_arena.specs.FreeLists.{list_in};
+ghost use Rattle.in_arena.specs.declared.content.CellClass.{CellClass as Class};
+
+use crate::content::CellClass;
+
+/// The free cells of a class: those of a list through the used ones, the last that was given back first, and all from `fresh` on, which were never
+/// used: nothing was written in them yet. The cells are numbered within their class; the list ends at the number that none has.
+#[derive(Clone, Copy)]
+pub struct FreeList {
+    pub next: u32,
+    pub fresh: u32,
+    pub free: u32,
+}
+
+/// The free cells of all classes.
+#[derive(Clone, Copy)]
+pub struct FreeLists {
+    pub small: FreeList,
+    pub large: FreeList,
+    pub wide: FreeList,
+}
+
+impl FreeLists {
+    /// Those of a class.
+    #[inline(always)]
+    pub fn of(&self, class: CellClass) -> FreeList
+        ensures { result ≡ list_in self.now class }
+    {
+        match class {
+            CellClass::Small => self.small,
+            CellClass::Large => self.large,
+            CellClass::Wide => self.wide,
+        }
+    }
+
+    /// Those of a class become these.
+    #[inline(always)]
+    pub fn set(&mut self, class: CellClass, list: FreeList)
+        ensures class { list_in self.new class ≡ list }
+        ensures others { (c : Class) → c ≢ class → list_in self.new c ≡ list_in self.old c }
+    {
+        match class {
+            CellClass::Small => self.small = list,
+            CellClass::Large => self.large = list,
+            CellClass::Wide => self.wide = list,
+        }
+    }
+}

@@ -1,0 +1,159 @@
+// The words of a row, cell by cell.
+ghost use Rattle.std.specs.Prelude.{◌≡◌, ◌≤◌, ◌<◌, ◌+◌, ◌*◌, length, Some, get_or, None, slice_set};
+ghost use Rattle.in_memory.specs.Places.{IsFilled};
+ghost use Rattle.in_arena.specs.Classes.{width};
+ghost use Rattle.in_arena.specs.FreeLists.{IsFreeOf, list_in};
+ghost use Rattle.in_arena.specs.Limiting.{most_cells};
+ghost use Rattle.in_arena.specs.Rows.{AreFreeOf, HasContent, IsReady, IsTakenBack, IsWrittenAt, OwnsOne, Rewrites};
+ghost use Rattle.in_arena.specs.Words.{AreWhole, Content, cell_in};
+
+use crate::content::{CellClass, CellNo, End, SymbolWord};
+use crate::free_list::{FreeList, FreeLists};
+use crate::spot::{HEAD, Spot, near_word};
+use crate::word::EndWord;
+use in_memory::{Base, Cells};
+
+/// The head of a cell.
+#[inline(always)]
+pub fn head_of(words: &Cells<EndWord>, base: Base<EndWord>, cell: CellNo) -> EndWord
+    requires { (base.ptr ≡ words.now.at) × IsFilled words.now.slots (4 * cell.0 + 3) }
+    ensures { get_or words.now.slots (4 * cell.0 + 3) None ≡ Some (Some result) }
+{
+    *words.get(base, near_word(cell, HEAD))
+}
+
+/// Whether a cell of the class is free. If so, one is the first of the list from then on.
+#[inline(always)]
+pub fn is_ready(
+    words: &mut Cells<EndWord>,
+    base: Base<EndWord>,
+    cells: u32,
+    class: CellClass,
+    lists: &mut FreeLists,
+) -> bool
+    requires words { (base.ptr ≡ words.old.at) × (cells ≤ most_cells) × AreWhole cells words.old.slots }
+    requires lists { AreFreeOf cells words.old.slots lists.old }
+    ensures { IsReady cells class words.old lists.old result words.new lists.new }
+{
+    if lists.of(class).next != cells {
+        return true;
+    }
+    list_new(words, base, cells, class, lists)
+}
+
+/// Puts the first cell of the class that was never used on the list, which is empty; no where all were used.
+#[inline(always)]
+fn list_new(
+    words: &mut Cells<EndWord>,
+    base: Base<EndWord>,
+    cells: u32,
+    class: CellClass,
+    lists: &mut FreeLists,
+) -> bool
+    requires words { (base.ptr ≡ words.old.at) × (cells ≤ most_cells) × AreWhole cells words.old.slots }
+    requires lists { AreFreeOf cells words.old.slots lists.old }
+    requires empty { (list_in lists.old class).next ≡ cells }
+    ensures { IsReady cells class words.old lists.old result words.new lists.new }
+{
+    let list = lists.of(class);
+    if list.fresh == cells {
+        return false;
+    }
+    let spot = Spot {
+        class,
+        index: list.fresh,
+        cells,
+    };
+    for place in 0..class.width() {
+        words.write(base, spot.word(place), EndWord::free(0));
+    }
+    words.write(base, spot.head(), EndWord::port(CellNo(cells), 0));
+    lists.set(
+        class,
+        FreeList {
+            next: list.fresh,
+            fresh: list.fresh + 1,
+            free: list.free,
+        },
+    );
+    true
+}
+
+/// Another owner's cell is here from now on, and free.
+#[inline(always)]
+pub fn take_back(
+    words: &mut Cells<EndWord>,
+    base: Base<EndWord>,
+    spot: Spot,
+    one: Cells<EndWord>,
+    lists: &mut FreeLists,
+)
+    requires words { (base.ptr ≡ words.old.at) × (spot.cells ≤ most_cells) × AreWhole spot.cells words.old.slots }
+    requires lists { AreFreeOf spot.cells words.old.slots lists.old }
+    requires one { OwnsOne words.old spot one }
+    ensures { IsTakenBack words.old lists.old spot words.new lists.new }
+{
+    let list = lists.of(spot.class);
+    words.join(one);
+    words.write(base, spot.head(), EndWord::port(CellNo(list.next), 0));
+    lists.set(
+        spot.class,
+        FreeList {
+            next: spot.index,
+            fresh: list.fresh,
+            free: list.free + 1,
+        },
+    );
+}
+
+/// Writes the symbol word of a cell that is written, and how many ends it has. What stands at its places stays.
+#[inline(always)]
+pub fn begin_cell(
+    words: &mut Cells<EndWord>,
+    base: Base<EndWord>,
+    spot: Spot,
+    symbol: SymbolWord,
+    count: u8,
+)
+    requires words { (base.ptr ≡ words.old.at) × (spot.cells ≤ most_cells) × (spot.index < spot.cells) × AreWhole spot.cells words.old.slots }
+    requires written { IsWrittenAt words.old.slots spot }
+    ensures { (x : Content) → cell_in spot.cells words.old.slots spot.class spot.index ≡ Some (Some x) → Rewrites words.old spot (record { word = symbol; count = count; ends = x.ends }) words.new }
+{
+    words.write(base, spot.head(), EndWord::port(CellNo(symbol), count));
+}
+
+/// Writes the end at a place of a cell that is written.
+#[inline(always)]
+pub fn set_end(
+    words: &mut Cells<EndWord>,
+    base: Base<EndWord>,
+    spot: Spot,
+    place: u8,
+    end: EndWord,
+)
+    requires words { (base.ptr ≡ words.old.at) × (spot.cells ≤ most_cells) × (spot.index < spot.cells) × AreWhole spot.cells words.old.slots }
+    requires written { IsWrittenAt words.old.slots spot }
+    requires place { place < width spot.class }
+    ensures { (x : Content) → cell_in spot.cells words.old.slots spot.class spot.index ≡ Some (Some x) → Rewrites words.old spot (record { word = x.word; count = x.count; ends = slice_set x.ends place end }) words.new }
+{
+    words.write(base, spot.word(place), end);
+}
+
+/// Writes the symbol word of a cell that is written, and the ends to its first places.
+pub fn write_cell(
+    words: &mut Cells<EndWord>,
+    base: Base<EndWord>,
+    spot: Spot,
+    symbol: SymbolWord,
+    ends: &[End],
+)
+    requires words { (base.ptr ≡ words.old.at) × (spot.cells ≤ most_cells) × (spot.index < spot.cells) × AreWhole spot.cells words.old.slots }
+    requires written { IsWrittenAt words.old.slots spot }
+    requires few { length ends.now ≤ width spot.class }
+    ensures { (x : Content) × HasContent symbol ends.now x × Rewrites words.old spot x words.new }
+{
+    for (place, end) in ends.iter().enumerate() {
+        set_end(words, base, spot, place as u8, EndWord::of(*end));
+    }
+    begin_cell(words, base, spot, symbol, ends.len() as u8);
+}
