@@ -60,9 +60,9 @@ filled_all cells old now c i h long inside is_head f =
     let at = here_now cells now c i head h long inside in_it in (
       Filled
           (λ q in_q. ⊎_elim
-              (λ (same : q ≡ head). (h, ap (λ k. word_at cells ws c i k) same ∙ at))
-              (λ p. let w = f.written p.0 p.1 p.1 in (w.0, ap (λ k. word_at cells ws c i k) p.2 ∙ elsewhere cells now c i head h long inside in_it (slot_of p.0) (slot_inside c p.0 p.1) (slot_no_head p.0) ∙ w.1))
-              (slot_cases c q in_q))
+          (λ (same : q ≡ head). (h, ap (λ k. word_at cells ws c i k) same ∙ at))
+          (λ p. let w = f.written p.0 p.1 p.1 in (w.0, ap (λ k. word_at cells ws c i k) p.2 ∙ elsewhere cells now c i head h long inside in_it (slot_of p.0) (slot_inside c p.0 p.1) (slot_no_head p.0) ∙ w.1))
+          (slot_cases c q in_q))
           (subst (λ w. IsHead (end_of w)) (sym at) is_head),
       changes_twice cells old now ws c i f.change (one_changes cells now c i head h long inside in_it),
     )

@@ -349,7 +349,6 @@ pub filled_count : (n : ℕ) → 0 < n → one_if_zero n ≡ 0
 filled_count zero some = absurd (omega arith)
 filled_count (suc n) some = refl
 
-
 pub begun : (c : Content) → 0 < c.count → c.count ≤ length c.ends → IsBegun c.word c.count (state_in c)
 begun c some few = (take c.count c.ends, length-take-le c.count c.ends few, live_written c.word c.count c.ends some)
 

@@ -339,8 +339,8 @@ new_row_is : (cells : ℕ) (ws : List Word) (c : CellClass) → ws ≡ replicate
 new_row_is cells ws c e =
     ext_get_or None (row_in cells ws c) (replicate cells (Some None)) (row_long cells ws c ∙ sym (length-replicate cells (Some None)))
     (λ i lt.
-        let inside : i < cells = omega (arith, lt, row_long cells ws c) in
-        row_at cells ws c i inside ∙ ap (λ w. cell_of w (ends_in cells ws c i)) (new_word cells ws c i e inside head (head_inside c)) ∙ sym (get_or-replicate cells i (Some None) None inside))
+    let inside : i < cells = omega (arith, lt, row_long cells ws c) in
+    row_at cells ws c i inside ∙ ap (λ w. cell_of w (ends_in cells ws c i)) (new_word cells ws c i e inside head (head_inside c)) ∙ sym (get_or-replicate cells i (Some None) None inside))
 
 pub new_whole : (cells : ℕ) (ws : List Word) → ws ≡ replicate (words_each * cells) (Some None) → AreWhole cells ws
 new_whole cells ws e = record { long = ap length e ∙ length-replicate (words_each * cells) (Some None); each = λ c i lt. New (new_word cells ws c i e lt) }

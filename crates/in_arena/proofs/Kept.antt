@@ -138,8 +138,8 @@ none_row : (cells : ℕ) (c : CellClass) → row_in cells (replicate (words_each
 none_row cells c =
     ext_get_or None (row_in cells (replicate (words_each * cells) None) c) (replicate cells None) (row_long cells (replicate (words_each * cells) None) c ∙ sym (length-replicate cells None))
     (λ i lt.
-        let inside : i < cells = omega (arith, lt, row_long cells (replicate (words_each * cells) None) c) in
-        row_at cells (replicate (words_each * cells) None) c i inside ∙ none_cell cells c i c i ∙ sym (get_or-replicate cells i None None inside))
+    let inside : i < cells = omega (arith, lt, row_long cells (replicate (words_each * cells) None) c) in
+    row_at cells (replicate (words_each * cells) None) c i inside ∙ none_cell cells c i c i ∙ sym (get_or-replicate cells i None None inside))
 
 none_states : (n : ℕ) → map state_of (replicate n None) ≡ replicate n Leased
 none_states zero = refl

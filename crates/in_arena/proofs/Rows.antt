@@ -42,21 +42,21 @@ module _ (cells : ℕ) (old new : List Word) (c : CellClass) (i : ℕ) (inside :
   row_set s at =
       ext_get_or None (row_in cells new c) (set (row_in cells old c) i s) (row_long cells new c ∙ sym (length-set (row_in cells old c) i s ∙ row_long cells old c))
       (λ j lt.
-          let lj : j < cells = omega (arith, lt, row_long cells new c) in
-          row_at cells new c j lj ∙ ⊎_elim
-          (λ (e : j ≡ i).
-              ap (cell_in cells new c) e ∙ at ∙ sym (get_or-set_same (row_in cells old c) i s None (omega (arith, inside, row_long cells old c))) ∙ ap (λ k. get_or (set (row_in cells old c) i s) k None) (sym e))
-          (λ (other : j ≢ i).
-              kept_cell cells old new c j (other_kept cells old new c c i j inside lj change (λ one. other (sym one.1)))
-              ∙ sym (row_at cells old c j lj) ∙ sym (get_or-set_other (row_in cells old c) i j s None other))
-          (cases_eq j i))
+      let lj : j < cells = omega (arith, lt, row_long cells new c) in
+      row_at cells new c j lj ∙ ⊎_elim
+      (λ (e : j ≡ i).
+      ap (cell_in cells new c) e ∙ at ∙ sym (get_or-set_same (row_in cells old c) i s None (omega (arith, inside, row_long cells old c))) ∙ ap (λ k. get_or (set (row_in cells old c) i s) k None) (sym e))
+      (λ (other : j ≢ i).
+      kept_cell cells old new c j (other_kept cells old new c c i j inside lj change (λ one. other (sym one.1)))
+      ∙ sym (row_at cells old c j lj) ∙ sym (get_or-set_other (row_in cells old c) i j s None other))
+      (cases_eq j i))
 
   pub row_stays : (d : CellClass) → d ≢ c → row_in cells new d ≡ row_in cells old d
   row_stays d other =
       ext_get_or None (row_in cells new d) (row_in cells old d) (row_long cells new d ∙ sym (row_long cells old d))
       (λ j lt.
-          let lj : j < cells = omega (arith, lt, row_long cells new d) in
-          row_at cells new d j lj ∙ kept_cell cells old new d j (other_kept cells old new c d i j inside lj change (λ one. other (sym one.0))) ∙ sym (row_at cells old d j lj))
+      let lj : j < cells = omega (arith, lt, row_long cells new d) in
+      row_at cells new d j lj ∙ kept_cell cells old new d j (other_kept cells old new c d i j inside lj change (λ one. other (sym one.0))) ∙ sym (row_at cells old d j lj))
 
   pub rows_become : (s : CellWords) → cell_in cells new c i ≡ s → RowsBecome cells old new c i (state_of s)
   rows_become s at = record {
@@ -161,11 +161,11 @@ ends_set cells old new c i p e in_p here others =
     let es = ends_in cells old c i in let long = ends_long cells old c i in
     ext_get_or (end_of None) (ends_in cells new c i) (set es p e) (ends_long cells new c i ∙ sym (length-set es p e ∙ long))
     (λ r lt.
-        let inside : r < width c = omega (arith, lt, ends_long cells new c i) in
-        end_at_is cells new c i r (end_of None) inside ∙ ⊎_elim
-        (λ (same : r ≡ p). ap (λ k. end_of (word_at cells new c i (slot_of k))) same ∙ ap end_of here ∙ sym (get_or-set_same es p e (end_of None) (omega (arith, long, in_p))) ∙ ap (λ k. get_or (set es p e) k (end_of None)) (sym same))
-        (λ (other : r ≢ p). ap end_of (others r inside other) ∙ sym (end_at_is cells old c i r (end_of None) inside) ∙ sym (get_or-set_other es p r e (end_of None) other))
-        (cases_eq r p))
+    let inside : r < width c = omega (arith, lt, ends_long cells new c i) in
+    end_at_is cells new c i r (end_of None) inside ∙ ⊎_elim
+    (λ (same : r ≡ p). ap (λ k. end_of (word_at cells new c i (slot_of k))) same ∙ ap end_of here ∙ sym (get_or-set_same es p e (end_of None) (omega (arith, long, in_p))) ∙ ap (λ k. get_or (set es p e) k (end_of None)) (sym same))
+    (λ (other : r ≢ p). ap end_of (others r inside other) ∙ sym (end_at_is cells old c i r (end_of None) inside) ∙ sym (get_or-set_other es p r e (end_of None) other))
+    (cases_eq r p))
 
 with_ends_set : (w : Word) (es : List End) (x : Content) (p : ℕ) (e : End) → cell_of w es ≡ Some (Some x) → cell_of w (set es p e) ≡ Some (Some (record { word = x.word; count = x.count; ends = set x.ends p e }))
 with_ends_set None es x p e at = absurd (cell_gone None es x refl at)
@@ -203,13 +203,13 @@ module _ (cells : ℕ) (ws : List Word) (c : CellClass) (i q : ℕ) (e : End) (l
   pub whole_now : AllFilled cells ws c i → (q ≡ head → IsHead e) → IsWhole cells new c i
   whole_now f first = Filled
       (λ r in_r. ⊎_elim
-          (λ (same : r ≡ q). (e, ap (λ k. word_at cells new c i k) same ∙ here_now))
-          (λ (other : r ≢ q). let d = f.0 r in_r in (d.0, elsewhere r in_r other ∙ d.1))
-          (cases_eq r q))
+      (λ (same : r ≡ q). (e, ap (λ k. word_at cells new c i k) same ∙ here_now))
+      (λ (other : r ≢ q). let d = f.0 r in_r in (d.0, elsewhere r in_r other ∙ d.1))
+      (cases_eq r q))
       (⊎_elim
-          (λ (same : q ≡ head). subst (λ w. IsHead (end_of w)) (sym (ap (λ k. word_at cells new c i k) (sym same) ∙ here_now)) (first same))
-          (λ (other : q ≢ head). subst (λ w. IsHead (end_of w)) (sym (elsewhere head (head_inside c) (λ z. other (sym z)))) f.1)
-          (cases_eq q head))
+      (λ (same : q ≡ head). subst (λ w. IsHead (end_of w)) (sym (ap (λ k. word_at cells new c i k) (sym same) ∙ here_now)) (first same))
+      (λ (other : q ≢ head). subst (λ w. IsHead (end_of w)) (sym (elsewhere head (head_inside c) (λ z. other (sym z)))) f.1)
+      (cases_eq q head))
 
 -- a new head
 pub head_now : (cells : ℕ) (ws : List Word) (c : CellClass) (i : ℕ) (e : End) → length ws ≡ 32 * cells → i < cells → cell_in cells (with_word cells ws c i head e) c i ≡ Some (Some (record { word = word_in e; count = count_in e; ends = ends_in cells ws c i }))
@@ -217,7 +217,7 @@ head_now cells ws c i e long inside =
     let ws' = with_word cells ws c i head e in
     ap (λ w. cell_of w (ends_in cells ws' c i)) (here_now cells ws c i head e long inside (head_inside c))
     ∙ ap (λ es. Some (Some (let x : Content = record { word = word_in e; count = count_in e; ends = es } in x)))
-        (ends_same cells ws ws' c i (λ p lt. elsewhere cells ws c i head e long inside (head_inside c) (slot_of p) (slot_inside c p lt) (slot_no_head p)))
+    (ends_same cells ws ws' c i (λ p lt. elsewhere cells ws c i head e long inside (head_inside c) (slot_of p) (slot_inside c p lt) (slot_no_head p)))
 
 -- another end at a place
 pub end_now : (cells : ℕ) (ws : List Word) (c : CellClass) (i p : ℕ) (e : End) (x : Content) → length ws ≡ 32 * cells → i < cells → p < width c → cell_in cells ws c i ≡ Some (Some x)
@@ -226,5 +226,5 @@ end_now cells ws c i p e x long inside lt at =
     let ws' = with_word cells ws c i (slot_of p) e in let in_it = slot_inside c p lt in
     ap (λ w. cell_of w (ends_in cells ws' c i)) (elsewhere cells ws c i (slot_of p) e long inside in_it head (head_inside c) (λ z. slot_no_head p (sym z)))
     ∙ ap (cell_of (word_at cells ws c i head)) (ends_set cells ws ws' c i p e lt (here_now cells ws c i (slot_of p) e long inside in_it)
-        (λ r in_r other. elsewhere cells ws c i (slot_of p) e long inside in_it (slot_of r) (slot_inside c r in_r) (λ z. other (slot_one r p z))))
+    (λ r in_r other. elsewhere cells ws c i (slot_of p) e long inside in_it (slot_of r) (slot_inside c r in_r) (λ z. other (slot_one r p z))))
     ∙ with_ends_set (word_at cells ws c i head) (ends_in cells ws c i) x p e at

@@ -103,24 +103,24 @@ pub apart : (c d : CellClass) (cells i j q r : ℕ) → i < cells → j < cells 
 apart c d cells i j q r li lj in_c in_d e =
     ⊎_elim
     (λ near_q.
-        ⊎_elim
-        (λ near_r.
-            let a = spot_near c cells i q near_q in let b = spot_near d cells j r near_r in
-            let one = one_number c d cells i j li lj (omega (arith, a, b, e, near_q, near_r)) in (one.0, one.1, omega (arith, a, b, e, near_q, near_r)))
-        (λ far_r.
-            let a = spot_near c cells i q near_q in let b = spot_far d cells j r far_r in let low = (far_bounds d cells j (r - 4) lj (omega (arith, far_r, in_d))).0 in
-            absurd (omega (arith, a, b, e, near_q, near_below c cells i li, low)))
-        (cases_lt r 4))
+    ⊎_elim
+    (λ near_r.
+    let a = spot_near c cells i q near_q in let b = spot_near d cells j r near_r in
+    let one = one_number c d cells i j li lj (omega (arith, a, b, e, near_q, near_r)) in (one.0, one.1, omega (arith, a, b, e, near_q, near_r)))
+    (λ far_r.
+    let a = spot_near c cells i q near_q in let b = spot_far d cells j r far_r in let low = (far_bounds d cells j (r - 4) lj (omega (arith, far_r, in_d))).0 in
+    absurd (omega (arith, a, b, e, near_q, near_below c cells i li, low)))
+    (cases_lt r 4))
     (λ far_q.
-        ⊎_elim
-        (λ near_r.
-            let a = spot_far c cells i q far_q in let b = spot_near d cells j r near_r in let low = (far_bounds c cells i (q - 4) li (omega (arith, far_q, in_c))).0 in
-            absurd (omega (arith, a, b, e, near_r, near_below d cells j lj, low)))
-        (λ far_r.
-            let a = spot_far c cells i q far_q in let b = spot_far d cells j r far_r in
-            let one = one_far c d cells i j (q - 4) (r - 4) li lj (omega (arith, far_q, in_c)) (omega (arith, far_r, in_d)) (omega (arith, a, b, e)) in
-            let same = one.2 in (one.0, one.1, omega (arith, same, far_q, far_r)))
-        (cases_lt r 4))
+    ⊎_elim
+    (λ near_r.
+    let a = spot_far c cells i q far_q in let b = spot_near d cells j r near_r in let low = (far_bounds c cells i (q - 4) li (omega (arith, far_q, in_c))).0 in
+    absurd (omega (arith, a, b, e, near_r, near_below d cells j lj, low)))
+    (λ far_r.
+    let a = spot_far c cells i q far_q in let b = spot_far d cells j r far_r in
+    let one = one_far c d cells i j (q - 4) (r - 4) li lj (omega (arith, far_q, in_c)) (omega (arith, far_r, in_d)) (omega (arith, a, b, e)) in
+    let same = one.2 in (one.0, one.1, omega (arith, same, far_q, far_r)))
+    (cases_lt r 4))
     (cases_lt q 4)
 
 -- ---- each word is some cell's
@@ -146,22 +146,22 @@ all_some cells x lt = let s = some in (s.class, s.index, s.slot, s.inside, s.in_
         ⊎_elim
         (λ a. near_some cells x Small (x / 4) (omega (arith, a)) (omega arith))
         (λ a.
-            ⊎_elim
-            (λ b. near_some cells x Large (x / 4 - cells) (omega (arith, a, b)) (omega (arith, a)))
-            (λ b.
-                ⊎_elim
-                (λ e. near_some cells x Wide (x / 4 - 2 * cells) (omega (arith, b, e)) (omega (arith, b)))
-                (λ e.
-                    ⊎_elim
-                    (λ f.
-                        let y = x - 12 * cells in let few : y % 6 < 6 = omega arith in
-                        record { class = Large; index = y / 6; slot = y % 6 + 4; inside = omega (arith, e, f); in_it = omega (arith, few); is = omega (arith, e, spot_far Large cells (y / 6) (y % 6 + 4) (omega arith)) })
-                    (λ f.
-                        let y = x - 18 * cells in let few : y % 14 < 14 = omega arith in
-                        record { class = Wide; index = y / 14; slot = y % 14 + 4; inside = omega (arith, f, lt); in_it = omega (arith, few); is = omega (arith, f, spot_far Wide cells (y / 14) (y % 14 + 4) (omega arith)) })
-                    (cases_lt x (18 * cells)))
-                (cases_lt x (12 * cells)))
-            (cases_lt x (8 * cells)))
+        ⊎_elim
+        (λ b. near_some cells x Large (x / 4 - cells) (omega (arith, a, b)) (omega (arith, a)))
+        (λ b.
+        ⊎_elim
+        (λ e. near_some cells x Wide (x / 4 - 2 * cells) (omega (arith, b, e)) (omega (arith, b)))
+        (λ e.
+        ⊎_elim
+        (λ f.
+        let y = x - 12 * cells in let few : y % 6 < 6 = omega arith in
+        record { class = Large; index = y / 6; slot = y % 6 + 4; inside = omega (arith, e, f); in_it = omega (arith, few); is = omega (arith, e, spot_far Large cells (y / 6) (y % 6 + 4) (omega arith)) })
+        (λ f.
+        let y = x - 18 * cells in let few : y % 14 < 14 = omega arith in
+        record { class = Wide; index = y / 14; slot = y % 14 + 4; inside = omega (arith, f, lt); in_it = omega (arith, few); is = omega (arith, f, spot_far Wide cells (y / 14) (y % 14 + 4) (omega arith)) })
+        (cases_lt x (18 * cells)))
+        (cases_lt x (12 * cells)))
+        (cases_lt x (8 * cells)))
         (cases_lt x (4 * cells))
 
 -- ---- what the words of a cell say
@@ -170,8 +170,8 @@ map_range_same : {X : Type 0} (d : X) (f g : ℕ → X) (n : ℕ) → ((p : ℕ)
 map_range_same d f g n same =
     ext_get_or d (map f (range_with_len 0 n)) (map g (range_with_len 0 n)) (length-map-range_with_len f 0 n ∙ sym (length-map-range_with_len g 0 n))
     (λ i lt.
-        let inside : i < n = omega (arith, lt, length-map-range_with_len f 0 n) in
-        get_or-map-range_with_len f 0 n i i d inside (omega arith) ∙ same i inside ∙ sym (get_or-map-range_with_len g 0 n i i d inside (omega arith)))
+    let inside : i < n = omega (arith, lt, length-map-range_with_len f 0 n) in
+    get_or-map-range_with_len f 0 n i i d inside (omega arith) ∙ same i inside ∙ sym (get_or-map-range_with_len g 0 n i i d inside (omega arith)))
 
 pub ends_long : (cells : ℕ) (ws : List Word) (c : CellClass) (i : ℕ) → length (ends_in cells ws c i) ≡ width c
 ends_long cells ws c i = length-map-range_with_len (λ p. end_of (word_at cells ws c i (slot_of p))) 0 (width c)

@@ -143,7 +143,13 @@ impl Arena {
     pub fn lease(&mut self, class: CellClass) -> Option<Lease>
         ensures { Leases self.old class result self.new }
     {
-        if !is_ready(&mut self.words, self.base, self.cells, class, &mut self.lists) {
+        if !is_ready(
+            &mut self.words,
+            self.base,
+            self.cells,
+            class,
+            &mut self.lists,
+        ) {
             return None;
         }
         let list = self.lists.of(class);
@@ -296,7 +302,13 @@ impl Arena {
         requires { Holds class places }
         ensures { MatchOption result ((free_of self.old class ≡ 0) × (self.new ≡ self.old)) (λ c. BeginsCell class symbol places self.old c.0 self.new) }
     {
-        if !is_ready(&mut self.words, self.base, self.cells, class, &mut self.lists) {
+        if !is_ready(
+            &mut self.words,
+            self.base,
+            self.cells,
+            class,
+            &mut self.lists,
+        ) {
             return None;
         }
         let list = self.lists.of(class);
@@ -427,6 +439,12 @@ impl Arena {
     {
         let spot = spot_of(bag.cells, cell);
         let base = bag.base;
-        take_back(&mut self.words, base, spot, bag.words.part_by(&spot), &mut self.lists);
+        take_back(
+            &mut self.words,
+            base,
+            spot,
+            bag.words.part_by(&spot),
+            &mut self.lists,
+        );
     }
 }

@@ -70,6 +70,12 @@ impl Lease {
         requires { place < places self.old.state }
         ensures { self.new ≡ written self.old (with_end self.old.state place end) }
     {
-        set_end(&mut self.words, self.base, self.spot, place, EndWord::of(end));
+        set_end(
+            &mut self.words,
+            self.base,
+            self.spot,
+            place,
+            EndWord::of(end),
+        );
     }
 }

@@ -124,13 +124,7 @@ pub fn begin_cell(
 
 /// Writes the end at a place of a cell that is written.
 #[inline(always)]
-pub fn set_end(
-    words: &mut Cells<EndWord>,
-    base: Base<EndWord>,
-    spot: Spot,
-    place: u8,
-    end: EndWord,
-)
+pub fn set_end(words: &mut Cells<EndWord>, base: Base<EndWord>, spot: Spot, place: u8, end: EndWord)
     requires words { (base.ptr ≡ words.old.at) × (spot.cells ≤ most_cells) × (spot.index < spot.cells) × AreWhole spot.cells words.old.slots }
     requires written { IsWrittenAt words.old.slots spot }
     requires place { place < width spot.class }

@@ -74,20 +74,19 @@ fn read_agent(arena: &Arena, cell: CellNo, first: u8, to: u8, points: &mut [EndW
     requires { HasPortsFor arena.now cell first to (length points.old) }
     ensures { HasPortsIn arena.now cell first to points.old points.new }
 {
-    let ends = arena.ends(cell);
     let many = to - first;
     // Most agents have at most two auxiliary ports: these are read without a loop.
     if many > 2 {
         for number in first..to {
-            points[number as usize] = ends[(number - first) as usize + 1];
+            points[number as usize] = arena.word(cell, number - first + 1);
         }
         return;
     }
     if many > 0 {
-        points[first as usize] = ends[1];
+        points[first as usize] = arena.word(cell, 1);
     }
     if many > 1 {
-        points[first as usize + 1] = ends[2];
+        points[first as usize + 1] = arena.word(cell, 2);
     }
 }
 

@@ -30,6 +30,6 @@ returns c =
     let at : c.write.new.self.slots ≡ with_word s.cells both.slots s.class s.index head h = c.write.ensures.1 ∙ ap (λ n. set both.slots n (Some (Some c.port.result))) c.head.ensures ∙ ap (λ e. with_word s.cells both.slots s.class s.index head e) c.port.ensures in
     let r = head_rewrites both c.write.new.self s o.content o.index p.whole p.cell c.write.ensures.0 h tt at in
     let z = one_freed s.cells s.class words c.args.lists.now w.2 c.requires.lists s.index o.index (ap vacancy o.out) c.write.new.self c.set.new.self (record { word = c.of-list.result.next; count = 0; ends = o.content.ends })
-        (changes_twice s.cells words.slots both.slots c.write.new.self.slots s.class s.index p.changes r.changes) r.cell refl (ap (λ (l : FreeList). l.next) c.of-list.ensures)
-        (c.set.ensures.class ∙ ap (λ (l : FreeList). list_with s.index l.fresh (l.free + 1)) c.of-list.ensures) c.set.ensures.others in
+    (changes_twice s.cells words.slots both.slots c.write.new.self.slots s.class s.index p.changes r.changes) r.cell refl (ap (λ (l : FreeList). l.next) c.of-list.ensures)
+    (c.set.ensures.class ∙ ap (λ (l : FreeList). list_with s.index l.fresh (l.free + 1)) c.of-list.ensures) c.set.ensures.others in
     record { same = c.write.ensures.0 ∙ c.join.ensures.0; whole = r.whole; free = z.0; rows = z.1 }

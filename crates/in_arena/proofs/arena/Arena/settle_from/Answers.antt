@@ -45,6 +45,6 @@ returns c =
     let out = subst (λ k. cell_in k a.words.slots s.class s.index ≡ None) (sym many) (none_where_leased a.words.at a.cells a.words.slots v n s.class s.index c.self.view_is q (of.leased n in_it)) in
     let is = cell_state b c.bag.invariant w c.bag.view_is n s c.spot_of-spot.ensures.0 p in_it in
     let here = (settled_in a c.self.invariant v c.self.view_is s c.part_by.result (owned b c.bag.invariant w c.bag.view_is n s c.spot_of-spot.ensures.0 p in_it c.part_by.result a.words c.part_by.ensures.one m.0 out) c.join.new.self n (state_at w n) many
-        (p.1 ∙ ap (λ k. class_no s.class * k + s.index) (sym c.spot_of-spot.ensures.0)) (subst IsLive (sym is) c.requires.written) c.join.ensures.0 c.join.ensures.1 is).1 in
+    (p.1 ∙ ap (λ k. class_no s.class * k + s.index) (sym c.spot_of-spot.ensures.0)) (subst IsLive (sym is) c.requires.written) c.join.ensures.0 c.join.ensures.1 is).1 in
     let rest = (taken_from b c.bag.invariant w c.bag.view_is n s c.spot_of-spot.ensures.0 p in_it c.part_by.new.self c.part_by.ensures.rest).1 in
     (here, rest, bag_of_is (sym rest) (sym here) (bag_less w v n (state_at w n) of))

@@ -39,9 +39,11 @@ pub get-requires-2 : goal.get-requires-2
 get-requires-2 c =
     let a = c.self.inside in let h = c.self.invariant in let n = c.args.cell.0 in let p = c.args.place in let v = c.args.self.now in
     let l = live_of a h v c.self.view_is n (places_live (state_at v n) p c.requires) in let s = c.spot_of-spot.result in
-    let same = one_class a.cells n l.class s.class l.index s.index l.place c.spot_of-spot.ensures.1 in
-    (sym h.block.0, place_found a.words a.cells n h.whole l p c.far_word.result (width_of a h v c.self.view_is n l p c.requires)
-    (same_spot l.class s.class a.cells s.cells l.index s.index (slot_of p) c.far_word.result same.0 c.spot_of-spot.ensures.0 same.1 c.far_word.ensures))
+    let same = one_class a.cells n l.class s.class l.index s.index l.place c.spot_of-spot.ensures.1 in (
+      sym h.block.0,
+      place_found a.words a.cells n h.whole l p c.far_word.result (width_of a h v c.self.view_is n l p c.requires)
+          (same_spot l.class s.class a.cells s.cells l.index s.index (slot_of p) c.far_word.result same.0 c.spot_of-spot.ensures.0 same.1 c.far_word.ensures),
+    )
 
 pub returns : goal.returns
 returns c =

@@ -37,7 +37,7 @@ returns c =
     let q = subst (λ k. IsPlace k n s.class s.index) m.1 p in let many = c.spot_of-spot.ensures.0 ∙ m.1 in
     let out = subst (λ k. cell_in k d.words.slots s.class s.index ≡ None) (sym many) (none_where_leased d.words.at d.cells d.words.slots c.args.other.now n s.class s.index c.other.view_is q c.requires.apart) in (
       (put_into d c.other.invariant c.args.other.now c.other.view_is c.join.new.self c.part_by.result n s
-      (owned b c.self.invariant c.args.self.now c.self.view_is n s c.spot_of-spot.ensures.0 p c.requires.is_in c.part_by.result d.words c.part_by.ensures.one m.0 out) many q c.join.ensures.0 c.join.ensures.1).1
-      ∙ ap (changed c.args.other.now n) (cell_state b c.self.invariant c.args.self.now c.self.view_is n s c.spot_of-spot.ensures.0 p c.requires.is_in),
+          (owned b c.self.invariant c.args.self.now c.self.view_is n s c.spot_of-spot.ensures.0 p c.requires.is_in c.part_by.result d.words c.part_by.ensures.one m.0 out) many q c.join.ensures.0 c.join.ensures.1).1
+          ∙ ap (changed c.args.other.now n) (cell_state b c.self.invariant c.args.self.now c.self.view_is n s c.spot_of-spot.ensures.0 p c.requires.is_in),
       (taken_from b c.self.invariant c.args.self.now c.self.view_is n s c.spot_of-spot.ensures.0 p c.requires.is_in c.part_by.new.self c.part_by.ensures.rest).1,
     )
