@@ -1,4 +1,4 @@
--- The regions of an arena and the owner of one of its cells, by class: of a class, its region is named here and in `src/regions.rt`.
+-- The regions of an arena and the owner of one of its cells, by class: only this file and `src/regions.rt` name the region of each class.
 use Rattle.std.specs.Prelude.{◌≡◌, ◌<◌, ◌+◌, ◌*◌, ℕ, List, length, map, flat_map, slice_set, replicate, count_by, Option, Some, None}
 use denote.RawPtr.{Ptr}
 use Rattle.in_arena.specs.Arenas.{ArenaView, LeaseView}
@@ -14,13 +14,13 @@ use Rattle.in_arena.specs.Sacks.{IsSack, IsOfSack, sack_states, sack_state}
 use Rattle.in_arena.specs.declared.regions.Regions.{Regions}
 use Rattle.in_arena.specs.declared.regions.Sacks.{Sacks}
 
--- what the cells of a class are, by their places in its region
+-- the states of the cells of a class, by their places in its region
 abbrev pub row_of : Regions → CellClass → List State
 row_of r class.Small = states r.small
 row_of r class.Large = states r.large
 row_of r class.Wide = states r.wide
 
--- .. and what one of them is
+-- .. and the state of one of them
 abbrev pub cell_at : Regions → CellClass → ℕ → State
 cell_at r class.Small i = state_at r.small i
 cell_at r class.Large i = state_at r.large i
@@ -31,7 +31,7 @@ block_of r class.Small = r.small.cells.at
 block_of r class.Large = r.large.cells.at
 block_of r class.Wide = r.wide.cells.at
 
--- what contracts see, where the cells of each class lie and what they are
+-- the view in contracts: the address of the cells of each class, and their states
 abbrev pub seen : (CellClass → Ptr) → ℕ → (CellClass → List State) → ArenaView
 seen block cells row = record { memory = map block classes; cells = cells; states = flat_map row classes }
 
@@ -91,13 +91,13 @@ IsCellOf (Small h) r = IsHeldOf h r.small
 IsCellOf (Large h) r = IsHeldOf h r.large
 IsCellOf (Wide h) r = IsHeldOf h r.wide
 
--- a cell of this class that was free is leased, and nothing is written in it; or none was free
+-- a cell of this class that was free is leased, without content; or none was free
 abbrev pub Lend : Regions → CellClass → Option HeldCell → Regions → Type 0
 Lend r c None s = (count_by is_vacant (row_of r c) ≡ 0) × (s ≡ r)
 Lend r c (Some h) s = ((cell_view h).class ≡ c) × (cell_at r c (index_of h) ≡ Vacant) × Become r s c (index_of h) Leased × IsCellOf h s × ((cell_view h).state ≡ Vacant)
 
 module _ (r : Regions) (c : CellClass) (word count : ℕ) where
-  -- a cell of this class that was free is live with this symbol word and so many ends, which are open; or none was free
+  -- a cell of this class that was free is live with this symbol word and this many open ends; or none was free
   abbrev pub Begin : Option ℕ → Regions → Type 0
   Begin None s = (count_by is_vacant (row_of r c) ≡ 0) × (s ≡ r)
   Begin (Some i) s = (cell_at r c i ≡ Vacant) × ((x : State) × IsBegun word count x × Become r s c i x)
@@ -107,7 +107,7 @@ module _ (r : Regions) (c : CellClass) (word count : ℕ) where
   BeginNumber None s = Begin None s
   BeginNumber (Some n) s = (i : ℕ) × (n ≡ class_no c * s.cells + i) × Begin (Some i) s
 
--- this number is that of a cell of this class, at this place of its region
+-- this is the number of a cell of this class, at this place of its region
 abbrev pub IsPlace : ℕ → ℕ → CellClass → ℕ → Type 0
 IsPlace cells n c i = (i < cells) × (n ≡ class_no c * cells + i)
 
@@ -143,7 +143,7 @@ pub record SacksBecome (s t : Sacks) (c : CellClass) (i : ℕ) (x : State) : Typ
   pub memory : (map (sack_block t) classes ≡ map (sack_block s) classes) × (t.cells ≡ s.cells)
   pub rows : RowsChange (sack_row s) (sack_row t) c i x
 
--- the cell is one of those of which the sacks may have some, and isn't in them
+-- the cell is of the sacks' regions, and isn't in them
 abbrev pub IsOut : HeldCell → Sacks → Type 0
 IsOut (Small h) s = IsOfSack h s.small
 IsOut (Large h) s = IsOfSack h s.large

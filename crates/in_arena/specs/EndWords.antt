@@ -5,15 +5,15 @@ use Rattle.std.specs.Prelude.{◌≡◌, ◌≤◌, ◌<◌, ◌+◌, ◌-◌, �
 use Rattle.in_arena.specs.declared.content.End.{End}
 use Rattle.in_arena.specs.declared.content.End.TheVariants.{Cell, Free}
 
--- the number begins at this bit
+-- the value of the bit at which the number begins
 abbrev pub above : ℕ
 above = 65536
 
--- and from here on the top bit, as it is there
+-- the value of the top bit, counted from there
 abbrev pub top : ℕ
 top = 140737488355328
 
--- how many numbers there are
+-- the count of numbers
 abbrev pub numbers : ℕ
 numbers = 4294967296
 
@@ -24,6 +24,6 @@ abbrev pub bits_of : End → ℕ
 bits_of (Cell c place) = c.0 * above + place
 bits_of (Free number) = (top + number) * above + 65535
 
--- it is the word of an end, whose number has 32 bits and whose place is less than 256
+-- it is the word of an end with a number of 32 bits and a place less than 256
 abbrev pub FitsEnd : ℕ → Type 0
 FitsEnd bits = (bits % above ≡ 65535 → (top ≤ bits / above) × (bits / above < top + numbers)) × ((bits % above ≡ 65535 → ⊥) → (bits % above < 256) × (bits / above < numbers))

@@ -7,7 +7,7 @@ use Rattle.in_arena.specs.declared.content.End.{End}
 use Rattle.in_arena.specs.declared.region.Region.{Region}
 use Rattle.in_arena.specs.declared.region.Held.{Held}
 
--- with a given number of ends; none: the cell is free
+-- the state of a content with a given number of ends; without ends the cell is free
 abbrev pub with_ends : ℕ → ℕ → List End → State
 with_ends zero word ends = Vacant
 with_ends (suc n) word ends = Live word (take (suc n) ends)
@@ -52,7 +52,7 @@ module _ {W : ℕ} where
   abbrev pub LeadsToNext : List (Option (Option (Content W))) → ℕ → (ℕ → Type 0) → Type 0
   LeadsToNext cells f P = (k : ℕ) × IsVacantTo (get_or cells f None) k × P k
 
-  -- the used cells that are free from this one on, each of which names the next one, and the last the end of the region
+  -- the free cells that were used, from this one on: each names the next one, and the last one the end of the region
   abbrev pub IsFreeList : List (Option (Option (Content W))) → ℕ → List ℕ → Type 0
   IsFreeList cells next [] = next ≡ length cells
   IsFreeList cells next (f ∷ fs) = (next ≡ f) × (f < length cells) × LeadsToNext cells f (λ k. IsFreeList cells k fs)
@@ -67,11 +67,11 @@ abbrev pub AreDifferentNumbers : List ℕ → Type 0
 AreDifferentNumbers [] = Unit {0}
 AreDifferentNumbers (x ∷ xs) = AllByRecursion (λ y. x ≢ y) xs × AreDifferentNumbers xs
 
--- the cells from this one on were never used: they are here, and nothing was ever written in them
+-- the cells from this one on were never used: they are here, and were never written
 abbrev pub AreNew : {W : ℕ} → List (Option (Option (Content W))) → ℕ → Type 0
 AreNew cells fresh = (i : ℕ) → fresh ≤ i → i < length cells → get_or cells i None ≡ Some None
 
--- the free cells are those of the list, and all that were never used
+-- the free cells are those of the list and those that were never used
 pub record IsRegion {W : ℕ} (r : Region W) : Type 0 where
   pub block : (r.cells.at ≡ r.base.ptr) × (r.deed.at ≡ r.base.ptr) × (r.deed.len ≡ r.size) × (r.deed.alloc ≡ r.alloc)
   pub size : (length r.cells.slots ≡ r.size) × (r.size < 2 ^ 31)
@@ -93,7 +93,7 @@ pub record IsHeld {W : ℕ} (l : Held W) : Type 0 where
   pub few : content.count ≤ W
   pub width : W < 2 ^ 32
 
--- what is written in it
+-- its content
 abbrev pub state : {W : ℕ} → Held W → State
 state l = state_of (get_or l.cells.slots l.index None)
 
@@ -121,12 +121,12 @@ abbrev pub IsReadyRegion : {W : ℕ} → Region W → Bool → Region W → Type
 IsReadyRegion r true s = IsSame r s × (s.next ≡ s.size → ⊥)
 IsReadyRegion r false s = (count_by is_vacant (states r) ≡ 0) × (s ≡ r)
 
--- a cell that was free is leased, and nothing is written in it; or none was free
+-- a cell that was free is leased, without content; or none was free
 abbrev pub IsLeasedTo : {W : ℕ} → Region W → Region W → Option (Held W) → Type 0
 IsLeasedTo r s None = (count_by is_vacant (states r) ≡ 0) × (s ≡ r)
 IsLeasedTo r s (Some l) = (state_at r l.index ≡ Vacant) × Becomes r s l.index Leased × IsHeldOf l s × (state l ≡ Vacant)
 
--- a cell that was free is live with this symbol word and so many ends, which are open; or none was free
+-- a cell that was free is live with this symbol word and this many open ends; or none was free
 abbrev pub IsBegunIn : {W : ℕ} → Region W → ℕ → ℕ → Option ℕ → Region W → Type 0
 IsBegunIn r word count None s = (count_by is_vacant (states r) ≡ 0) × (s ≡ r)
 IsBegunIn r word count (Some i) s = (state_at r i ≡ Vacant) × ((x : State) × IsBegun word count x × Becomes r s i x)

@@ -18,8 +18,8 @@ use crate::word::EndWord;
 use std::alloc::{AllocError, Global};
 use std::marker::Model;
 
-/// Cells in raw memory, the same number of each class, numbered class by class from 0. Contracts see what each cell is,
-/// by its number: free, leased, or live with a symbol word and its ends. It is dropped only while no cell is on lease.
+/// Cells in raw memory, the same number of each class, numbered class by class from 0. Contracts see the state of each cell, by its number: free,
+/// leased, or live with a symbol word and its ends. It is dropped only while no cell is on lease.
 pub struct Arena {
     regions: Regions,
 }
@@ -36,7 +36,7 @@ impl Model for Arena {
     ghost invariant = { IsArena };
 }
 
-// By hand, since an arena may go only where none of its cells is on lease.
+// By hand, since an arena may be dropped only while none of its cells is on lease.
 impl Drop for Arena {
     fn drop(self)
         requires { NoneLeased self }
@@ -84,7 +84,7 @@ impl Arena {
         class.number() * self.regions.cells + self.regions.used(class)
     }
 
-    /// A number from which on all cells are free, of whatever class: they were never used.
+    /// A number from which on all cells of all classes are free: they were never used.
     pub fn bound(&self) -> u32
         ensures few { result ≤ length self.now.states }
         ensures rest { (n : ℕ) → result ≤ n → n < length self.now.states → state_at self.now n ≡ Vacant }
@@ -99,7 +99,7 @@ impl Arena {
         bound
     }
 
-    /// A free cell of this class; nothing where none is free. Which free cell it is is open.
+    /// Leases a free cell of this class, any one; none if none is free.
     #[inline(always)]
     pub fn lease(&mut self, class: CellClass) -> Option<Lease>
         ensures { Leases self.old class result self.new }
@@ -142,7 +142,7 @@ impl Arena {
         self.regions.is_live(class, index)
     }
 
-    /// How many places a live cell has, the principal one among them. Some class of cells is for that many.
+    /// The number of places of a live cell, with the principal one. Some class of cells is for that many.
     pub fn places(&self, cell: CellNo) -> u8
         requires { IsLive (state_at self.now cell.0) }
         ensures places { result ≡ places (state_at self.now cell.0) }
@@ -200,7 +200,7 @@ impl Arena {
         self.set_word(cell, place, EndWord::of(end));
     }
 
-    /// Writes it where it is in one word.
+    /// The same for an end in one word.
     #[inline(always)]
     pub fn set_word(&mut self, cell: CellNo, place: u8, end: EndWord)
         requires { place < places (state_at self.old cell.0) }
@@ -210,7 +210,7 @@ impl Arena {
         self.regions.set_word(class, index as usize, place, end);
     }
 
-    /// Writes it where `at` leads to, if that is a place of a live cell. Returns whether it is: a free end is left to the caller.
+    /// Writes it at the place to which `at` leads, if that is one of a live cell, and returns true. For a free end it writes nothing and returns false.
     #[inline(always)]
     pub fn set_at(&mut self, at: EndWord, end: EndWord) -> bool
         requires { (c : Number) (p : ℕ) → at ≡ Cell c p → p < places (state_at self.old c.0) }
@@ -226,8 +226,8 @@ impl Arena {
         }
     }
 
-    /// A free cell of this class is live with this symbol word and so many places, the principal port's among them: as many as the class is
-    /// for. Their ends are open until they are written. Nothing changes if none of the class is free. Which free cell it takes is open.
+    /// Makes a free cell of this class, any one, live with this symbol word and this many places, with the principal port's: as many as the class is
+    /// for. Their ends are open until they are written. Nothing changes if none of the class is free.
     #[inline(always)]
     pub fn begin(&mut self, class: CellClass, symbol: SymbolWord, places: u8) -> Option<CellNo>
         requires { Holds class places }
@@ -237,7 +237,7 @@ impl Arena {
         Some(CellNo(number))
     }
 
-    /// A live cell that is one of this class is free, and then begun as `begin` does it. Returns whether it is one: else nothing changes.
+    /// If this live cell is of this class, begins it anew, as `begin` does, and returns true. Else nothing changes.
     #[inline(always)]
     pub fn begin_again(
         &mut self,
@@ -259,8 +259,8 @@ impl Arena {
         false
     }
 
-    /// A live cell has this symbol word and so many places from now on, the principal port's among them: as many as its class is for. Their ends are
-    /// open until they are written.
+    /// Gives a live cell this symbol word and this many places, with the principal port's: as many as its class is for. Their ends are open until
+    /// they are written.
     #[inline(always)]
     pub fn renew(&mut self, cell: CellNo, symbol: SymbolWord, places: u8)
         requires live { IsLive (state_at self.old cell.0) }
@@ -271,7 +271,7 @@ impl Arena {
         self.regions.renew(class, index, symbol, u32::from(places));
     }
 
-    /// The live cell is free from now on.
+    /// Frees a live cell.
     #[inline(always)]
     pub fn retire(&mut self, cell: CellNo)
         requires { IsLive (state_at self.old cell.0) }
@@ -290,7 +290,7 @@ impl Arena {
         }
     }
 
-    /// Leases a free cell of this class into a bag of this arena; nothing where none is free. Which free cell it is is open.
+    /// Leases a free cell of this class, any one, into a bag of this arena; none if none is free.
     #[inline(always)]
     pub fn lease_to(&mut self, class: CellClass, bag: &mut Bag) -> Option<CellNo>
         requires { IsBagOf bag.old self.old }
