@@ -7,7 +7,7 @@ use Rattle.in_arena.specs.declared.content.End.TheVariants.{Cell, Free}
 use Rattle.in_compile.specs.Cells.{agents_of, count_of}
 use Rattle.in_reducer.specs.Machines.{MachineParts}
 
--- it is of the same program, and each class has as many free cells as it has agents
+-- the part is of the same program, and each class has as many free cells as the part has agents
 pub record CanAppend (m other : MachineParts) : Type 0 where
   pub program : other.program ≡ m.program
   pub room : (c : CellClass) → agents_of m.program.tables c other.agents ≤ count_of m.vacant c
