@@ -35,7 +35,7 @@ changed a n x = record { memory = a.memory; cells = a.cells; states = slice_set 
 abbrev pub part_of : ArenaView → CellClass → List State
 part_of a c = take a.cells (drop (class_no c * a.cells) a.states)
 
--- how many of them are free
+-- the number of free ones
 abbrev pub free_of : ArenaView → CellClass → ℕ
 free_of a c = count_by is_vacant (part_of a c)
 

@@ -39,7 +39,7 @@ module _ {W : ℕ} where
   vacancy (Some None) = 1
   vacancy (Some (Some c)) = one_if_zero c.count
 
-  -- how many cells are free
+  -- the number of free cells
   abbrev pub vacancies : List (Option (Option (Content W))) → ℕ
   vacancies = sum_by vacancy
 

@@ -56,21 +56,21 @@ impl Arena {
         Ok(Arena { regions })
     }
 
-    /// How many cells of each class there are.
+    /// The number of cells of each class.
     pub fn cells(&self) -> u32
         ensures { (result ≡ self.now.cells) × HasAllCells self.now }
     {
         self.regions.cells
     }
 
-    /// How many cells there are of all classes: each number below is that of a cell.
+    /// The number of cells of all classes: each number below is that of a cell.
     pub fn all_cells(&self) -> u32
         ensures { result ≡ length self.now.states }
     {
         self.regions.cells * CellClass::ALL.len() as u32
     }
 
-    /// How many cells of a class are free.
+    /// The number of free cells of a class.
     pub fn free_count(&self, class: CellClass) -> u32
         ensures { result ≡ free_of self.now class }
     {

@@ -1,4 +1,4 @@
--- An interaction in cells, whose boundary ends are joined from the highest to the lowest. That order, and the places of the sides, are this
+-- An interaction in cells: boundary ends are joined from the highest to the lowest. That order, and the places of the sides, are this
 -- project's own choice.
 use Rattle.std.specs.Prelude.{◌≡◌, ◌++◌, ℕ, List, length, map, reverse, take}
 use Rattle.in_arena.specs.Arenas.{ArenaView}

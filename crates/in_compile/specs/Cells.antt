@@ -17,11 +17,11 @@ abbrev pub takes : Tables → CellClass → Option Cell → Bool
 takes t c None = false
 takes t c (Some a) = is_of t c a.symbol.0
 
--- how many of these agents take a cell of this class
+-- the number of these agents that take a cell of this class
 abbrev pub agents_of : Tables → CellClass → List (Option Cell) → ℕ
 agents_of t c agents = count_by (takes t c) agents
 
--- how many of a rule's two symbols do
+-- .. and of a rule's two symbols
 abbrev pub heads_taking : Tables → CellClass → RuleParts → ℕ
 heads_taking t c r = cond (is_of t c r.heads.0.0) 1 0 + cond (is_of t c r.heads.1.0) 1 0
 

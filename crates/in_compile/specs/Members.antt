@@ -71,7 +71,7 @@ has_class c a = nat_eq (class_no a.class) (class_no c)
 abbrev pub AgentsFit : MemberParts → Type 0
 AgentsFit m = (k : ℕ) (a : AgentParts) → slice_get m.agents k ≡ Some a → Holds a.class (length a.ends)
 
--- a wire leads back from where it leads to
+-- a wire leads back from its other end
 abbrev pub JointsLeadBack : MemberParts → Type 0
 JointsLeadBack m = (i j : Joint) → joint_at m i ≡ Some j → joint_at m j ≡ Some i
 

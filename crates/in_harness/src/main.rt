@@ -1,4 +1,4 @@
-//! A program for tests alone: answers questions on the text on standard input that no command of `inet` answers. The first word says what:
+//! A program for tests alone: answers questions on the text on standard input that no command of `inet` answers. The first word chooses:
 //!
 //! tokens, count, tree, sizes, tables, nets     the text as it was read, before its types are checked
 //! open                                         open nets of that, with their steps, and the first pair without a rule

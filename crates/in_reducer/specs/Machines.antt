@@ -16,7 +16,7 @@ use Rattle.in_check.specs.Programs.{Program}
 use Rattle.in_compile.specs.declared.cells.Need.{Need}
 use Rattle.in_compile.specs.Cells.{agents_of, count_of}
 
--- its program, the agent of each cell by number, the free ends, the active pairs in their order, and how many cells of each class are free
+-- its program, the agent of each cell by number, the free ends, the active pairs in their order, and the number of free cells of each class
 pub record MachineParts : Type 0 where
   pub program : Program
   pub agents : List (Option Cell)

@@ -7,7 +7,7 @@
 //! `Gather` (`gathering`).
 //!
 //! A `Done` is a placed template with its job and the templates that made it, and keeps that it is the template of the job's symbols; a `Gather`
-//! keeps one for each job of a list. The cells on lease are counted by one number: how many bags of a list have a cell (`holders` in
+//! keeps one for each job of a list. The cells on lease are counted by one number: that of the bags of a list that have a cell (`holders` in
 //! `specs/Holding.antt`). Lending, placing, putting, taking and giving back only move cells from one list of bags to another, so sums show that none
 //! is lost.
 //!
