@@ -5,15 +5,14 @@ use Rattle.in_arena.specs.Classes.{class_no, IsNumberOf}
 use Rattle.in_arena.specs.States.{State, Vacant, Leased, IsLeased, IsBegun, is_vacant}
 use Rattle.in_arena.specs.declared.content.CellClass.{CellClass}
 
--- where its cells of each class lie, by the number of the class: by this contracts tell it from other arenas; how many cells there are of
--- each class; what each cell is, by its number
+-- the address of its cells of each class, by the number of the class: contracts know an arena by this; the number of cells of each class; the state
+-- of each cell, by its number
 pub record ArenaView : Type 0 where
   pub memory : List Ptr
   pub cells : ℕ
   pub states : List State
 
--- the class of its cell, where the cells of that class lie and how many there are, the cell's number, and what is written in it: Vacant
--- where nothing is
+-- the class of its cell, the address of the cells of that class and their number, the cell's number, and its content: Vacant if nothing is written
 pub record LeaseView : Type 0 where
   pub class : CellClass
   pub memory : Ptr
@@ -24,11 +23,11 @@ pub record LeaseView : Type 0 where
 abbrev pub memory_of : ArenaView → CellClass → Ptr
 memory_of a c = get_or a.memory (class_no c) null_ptr
 
--- what the cell of this number is; no other part of a program has a number past the last one
+-- the state of the cell of this number; leased for a number past the last one
 abbrev pub state_at : ArenaView → ℕ → State
 state_at a n = slice_index_or a.states n Leased
 
--- the arena once this cell is that
+-- the arena with this cell in that state
 abbrev pub changed : ArenaView → ℕ → State → ArenaView
 changed a n x = record { memory = a.memory; cells = a.cells; states = slice_set a.states n x }
 
@@ -36,7 +35,7 @@ changed a n x = record { memory = a.memory; cells = a.cells; states = slice_set 
 abbrev pub part_of : ArenaView → CellClass → List State
 part_of a c = take a.cells (drop (class_no c * a.cells) a.states)
 
--- how many of them are free
+-- the number of free ones
 abbrev pub free_of : ArenaView → CellClass → ℕ
 free_of a c = count_by is_vacant (part_of a c)
 
@@ -47,7 +46,7 @@ pub record IsOf (l : LeaseView) (a : ArenaView) : Type 0 where
   pub number : IsNumberOf a.cells l.class l.number
   pub leased : state_at a l.number ≡ Leased
 
--- no cell of the class is live or leased from this number on, which isn't below its first one
+-- from this number on, which isn't below the class's first one, no cell of the class is live or leased
 pub record IsUsedOf (a : ArenaView) (c : CellClass) (to : ℕ) : Type 0 where
   pub some : class_no c * a.cells ≤ to
   pub within : to ≤ (class_no c + 1) * a.cells
@@ -56,16 +55,16 @@ pub record IsUsedOf (a : ArenaView) (c : CellClass) (to : ℕ) : Type 0 where
 abbrev pub NoneLeased : ArenaView → Type 0
 NoneLeased a = (n : ℕ) → n < length a.states → IsLeased (state_at a n) → ⊥
 
--- the lease once that is written in its cell
+-- the lease with that content in its cell
 abbrev pub written : LeaseView → State → LeaseView
 written l x = record { class = l.class; memory = l.memory; cells = l.cells; number = l.number; state = x }
 
--- a lease of a cell of this class that was free, or none where none was
+-- a lease of a cell of this class that was free, or none if none was
 abbrev pub Leases : ArenaView → CellClass → Option LeaseView → ArenaView → Type 0
 Leases old c None new = (free_of old c ≡ 0) × (new ≡ old)
 Leases old c (Some l) new = (l.class ≡ c) × IsNumberOf old.cells c l.number × (state_at old l.number ≡ Vacant) × (new ≡ changed old l.number Leased) × IsOf l new × (l.state ≡ Vacant)
 
--- a cell of this class that was free, the one of this number, is live with this symbol word and so many ends, which are open
+-- the cell of this number, which is of this class and was free, is live with this symbol word and this many open ends
 pub record BeginsCell (c : CellClass) (symbol places : ℕ) (old : ArenaView) (n : ℕ) (new : ArenaView) : Type 0 where
   pub at : IsNumberOf old.cells c n
   pub was : state_at old n ≡ Vacant

@@ -1,5 +1,5 @@
--- What contracts see of a bag of leased cells, which is what they see of an arena: a cell that isn't in the bag is another owner's, so leased;
--- one that is in it and has nothing written is vacant.
+-- The view of a bag of leased cells, which has the form of an arena's view: a cell that isn't in the bag has another owner, so it is leased; a cell
+-- of the bag without content is vacant.
 use Rattle.std.specs.Prelude.{◌≡◌, ◌*◌, ℕ, length, replicate, Option, Some, None}
 use Rattle.in_arena.specs.Arenas.{ArenaView, changed, free_of, state_at}
 use Rattle.in_arena.specs.Classes.{classes, IsNumberOf, Holds}
@@ -29,11 +29,11 @@ BagsAreApart b d = (n : ℕ) → IsInBag b n → state_at d n ≡ Leased
 abbrev pub AreOfOne : ArenaView → ArenaView → Type 0
 AreOfOne b d = (d.memory ≡ b.memory) × (d.cells ≡ b.cells)
 
--- where there are `cells` cells of each class, the cell of number n is for `ends` ends
+-- in an arena with `cells` cells of each class, the cell of number n is for `ends` ends
 abbrev pub IsFor : ℕ → ℕ → ℕ → Type 0
 IsFor cells n ends = (c : CellClass) × IsNumberOf cells c n × Holds c ends
 
--- a cell of this class that was free is leased and in the bag, and nothing is written in it; or none was free
+-- a cell of this class that was free is leased and in the bag, without content; or none was free
 abbrev pub LeasesTo : ArenaView → CellClass → ArenaView → Option CellNo → ArenaView → ArenaView → Type 0
 LeasesTo a c b None a' b' = (free_of a c ≡ 0) × (a' ≡ a) × (b' ≡ b)
 LeasesTo a c b (Some n) a' b' = IsNumberOf a.cells c n.0 × (state_at a n.0 ≡ Vacant) × (a' ≡ changed a n.0 Leased) × (b' ≡ changed b n.0 Vacant) × IsBagOf b' a' × (state_at b' n.0 ≡ Vacant)

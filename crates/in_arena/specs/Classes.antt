@@ -1,4 +1,4 @@
--- The classes of cells. A class is a number and a width; all that is said of classes is said by these two. This project's own choice.
+-- The classes of cells. A class is a number and a width; all definitions on classes use these two alone. This project's own choice.
 use Rattle.std.specs.Prelude.{◌≡◌, ◌≤◌, ◌<◌, ◌+◌, ◌*◌, ℕ, Bool, ◌&&◌, nat_le, List, [], ◌∷◌, length}
 use Rattle.in_arena.specs.declared.content.CellClass.{CellClass}
 use Rattle.in_arena.specs.declared.content.CellClass.TheVariants.{Small, Large, Wide}
@@ -12,13 +12,13 @@ class_no Small = 0
 class_no Large = 1
 class_no Wide = 2
 
--- how many ends a cell has room for, the principal port's among them
+-- the number of ends for which a cell has room, with the principal port's
 abbrev pub width : CellClass → ℕ
 width Small = 3
 width Large = 9
 width Wide = 17
 
--- how many it is for at least: one, or more than a cell of the class before has room for
+-- the least number of ends for a cell: one, or one more than a cell of the class before has room for
 abbrev pub least : CellClass → ℕ
 least Small = 1
 least Large = width Small + 1
@@ -31,7 +31,7 @@ Holds c n = (least c ≤ n) × (n ≤ width c)
 abbrev pub holds : CellClass → ℕ → Bool
 holds c n = nat_le (least c) n && nat_le n (width c)
 
--- where there are `cells` cells of each class, n is the number of one of class c: the cells of a class are after those of the class before
+-- in an arena with `cells` cells of each class, n is the number of one of class c: the cells of a class come after those of the class before
 abbrev pub IsNumberOf : ℕ → CellClass → ℕ → Type 0
 IsNumberOf cells c n = (class_no c * cells ≤ n) × (n < (class_no c + 1) * cells)
 
@@ -43,7 +43,7 @@ ClassesAreApart = (n : ℕ) (c d : CellClass) → Holds c n → Holds d n → c 
 abbrev pub ClassesAreAll : Type 0
 ClassesAreAll = (n : ℕ) → 1 ≤ n → n ≤ width Wide → (c : CellClass) × Holds c n
 
--- a number is that of a cell of one class
+-- no number is that of cells of two classes
 abbrev pub NumbersAreApart : Type 0
 NumbersAreApart = (cells n : ℕ) (c d : CellClass) → IsNumberOf cells c n → IsNumberOf cells d n → c ≡ d
 

@@ -1,4 +1,4 @@
--- How many cells of each class an arena may have. This project's own choice.
+-- The most cells of each class of an arena. This project's own choice.
 use Rattle.std.specs.Prelude.{ℕ}
 
 abbrev pub most_cells : ℕ

@@ -22,7 +22,7 @@ IsLeased Vacant = ⊥
 IsLeased Leased = Unit {0}
 IsLeased (Live word ends) = ⊥
 
--- how many places it has, the principal one among them
+-- the number of its places, with the principal one
 abbrev pub places : State → ℕ
 places Vacant = 0
 places Leased = 0
@@ -38,7 +38,7 @@ end_at Vacant place = None
 end_at Leased place = None
 end_at (Live word ends) place = slice_get ends place
 
--- live with this symbol word and `count` ends, which are open
+-- live with this symbol word and `count` open ends
 abbrev pub IsBegun : ℕ → ℕ → State → Type 0
 IsBegun word count x = (ends : List End) × (length ends ≡ count) × (x ≡ Live word ends)
 

@@ -25,8 +25,8 @@ use std_alloc::room::may_hold;
 // How many words the row has for each number of cells of a class: four for each cell, and six and fourteen more for a large and a wide one.
 const WORDS: usize = 32;
 
-/// Cells in raw memory, the same number of each class, numbered class by class from 0. Contracts see what each cell is,
-/// by its number: free, leased, or live with a symbol word and its ends. It is dropped only while no cell is on lease.
+/// Cells in raw memory, the same number of each class, numbered class by class from 0. Contracts see the state of each cell, by its number: free,
+/// leased, or live with a symbol word and its ends. It is dropped only while no cell is on lease.
 pub struct Arena {
     base: Base<EndWord>,
     words: Cells<EndWord>,
@@ -48,7 +48,7 @@ impl Model for Arena {
     ghost invariant = { IsArena };
 }
 
-// By hand, since an arena may go only where none of its cells is on lease.
+// By hand, since an arena may be dropped only while none of its cells is on lease.
 impl Drop for Arena {
     fn drop(self)
         requires { NoneLeased self }
@@ -95,21 +95,21 @@ impl Arena {
         })
     }
 
-    /// How many cells of each class there are.
+    /// The number of cells of each class.
     pub fn cells(&self) -> u32
         ensures { (result ≡ self.now.cells) × HasAllCells self.now }
     {
         self.cells
     }
 
-    /// How many cells there are of all classes: each number below is that of a cell.
+    /// The number of cells of all classes: each number below is that of a cell.
     pub fn all_cells(&self) -> u32
         ensures { result ≡ length self.now.states }
     {
         self.cells * CellClass::ALL.len() as u32
     }
 
-    /// How many cells of a class are free.
+    /// The number of free cells of a class.
     pub fn free_count(&self, class: CellClass) -> u32
         ensures { result ≡ free_of self.now class }
     {
@@ -123,7 +123,7 @@ impl Arena {
         class.number() * self.cells + self.lists.of(class).fresh
     }
 
-    /// A number from which on all cells are free, of whatever class: they were never used.
+    /// A number from which on all cells of all classes are free: they were never used.
     pub fn bound(&self) -> u32
         ensures few { result ≤ length self.now.states }
         ensures rest { (n : ℕ) → result ≤ n → n < length self.now.states → state_at self.now n ≡ Vacant }
@@ -138,7 +138,7 @@ impl Arena {
         bound
     }
 
-    /// A free cell of this class; nothing where none is free. Which free cell it is is open.
+    /// Leases a free cell of this class, any one; none if none is free.
     #[inline(always)]
     pub fn lease(&mut self, class: CellClass) -> Option<Lease>
         ensures { Leases self.old class result self.new }
@@ -212,7 +212,7 @@ impl Arena {
         head_of(&self.words, self.base, cell).place() != 0
     }
 
-    /// How many places a live cell has, the principal one among them. Some class of cells is for that many.
+    /// The number of places of a live cell, with the principal one. Some class of cells is for that many.
     pub fn places(&self, cell: CellNo) -> u8
         requires { IsLive (state_at self.now cell.0) }
         ensures places { result ≡ places (state_at self.now cell.0) }
@@ -261,7 +261,7 @@ impl Arena {
         self.set_word(cell, place, EndWord::of(end));
     }
 
-    /// Writes it where it is in one word.
+    /// The same for an end in one word.
     #[inline(always)]
     pub fn set_word(&mut self, cell: CellNo, place: u8, end: EndWord)
         requires { place < places (state_at self.old cell.0) }
@@ -275,7 +275,7 @@ impl Arena {
         self.words.write(self.base, spot.far_word(place), end);
     }
 
-    /// Writes it where `at` leads to, if that is a place of a live cell. Returns whether it is: a free end is left to the caller.
+    /// Writes it at the place to which `at` leads, if that is one of a live cell, and returns true. For a free end it writes nothing and returns false.
     #[inline(always)]
     pub fn set_at(&mut self, at: EndWord, end: EndWord) -> bool
         requires { (c : Number) (p : ℕ) → at ≡ Cell c p → p < places (state_at self.old c.0) }
@@ -295,8 +295,8 @@ impl Arena {
         }
     }
 
-    /// A free cell of this class is live with this symbol word and so many places, the principal port's among them: as many as the class is
-    /// for. Their ends are open until they are written. Nothing changes if none of the class is free. Which free cell it takes is open.
+    /// Makes a free cell of this class, any one, live with this symbol word and this many places, with the principal port's: as many as the class is
+    /// for. Their ends are open until they are written. Nothing changes if none of the class is free.
     #[inline(always)]
     pub fn begin(&mut self, class: CellClass, symbol: SymbolWord, places: u8) -> Option<CellNo>
         requires { Holds class places }
@@ -333,7 +333,7 @@ impl Arena {
         Some(cell)
     }
 
-    /// A live cell that is one of this class is free, and then begun as `begin` does it. Returns whether it is one: else nothing changes.
+    /// If this live cell is of this class, begins it anew, as `begin` does, and returns true. Else nothing changes.
     #[inline(always)]
     pub fn begin_again(
         &mut self,
@@ -355,8 +355,8 @@ impl Arena {
         false
     }
 
-    /// A live cell has this symbol word and so many places from now on, the principal port's among them: as many as its class is for. Their ends are
-    /// open until they are written.
+    /// Gives a live cell this symbol word and this many places, with the principal port's: as many as its class is for. Their ends are open until
+    /// they are written.
     #[inline(always)]
     pub fn renew(&mut self, cell: CellNo, symbol: SymbolWord, places: u8)
         requires live { IsLive (state_at self.old cell.0) }
@@ -370,7 +370,7 @@ impl Arena {
         );
     }
 
-    /// The live cell is free from now on.
+    /// Frees a live cell.
     #[inline(always)]
     pub fn retire(&mut self, cell: CellNo)
         requires { IsLive (state_at self.old cell.0) }
@@ -404,7 +404,7 @@ impl Arena {
         }
     }
 
-    /// Leases a free cell of this class into a bag of this arena; nothing where none is free. Which free cell it is is open.
+    /// Leases a free cell of this class, any one, into a bag of this arena; none if none is free.
     #[inline(always)]
     pub fn lease_to(&mut self, class: CellClass, bag: &mut Bag) -> Option<CellNo>
         requires { IsBagOf bag.old self.old }

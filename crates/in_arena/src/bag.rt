@@ -11,10 +11,9 @@ use crate::word::EndWord;
 use in_memory::{Base, Cells};
 use std::marker::Model;
 
-/// Owns some cells of an arena, by their numbers, which no other part of the program reads or writes meanwhile; it takes no bytes for a
-/// cell, and may be moved to another thread. Contracts see it as they see an arena: a cell that it has is vacant where nothing is written in
-/// it, else live; one that it doesn't have is leased. Its cells are to be spent by `Arena::settle_from` or `Arena::give_back_from`: an arena
-/// with a cell in a bag can't be dropped.
+/// Owns some cells of an arena, by their numbers: no other part of the program reads or writes them meanwhile. It takes no bytes for a cell, and may
+/// be moved to another thread. Contracts see it as they see an arena: one of its cells is vacant if nothing is written in it, else live; any other
+/// cell is leased. Spend its cells by `Arena::settle_from` or `Arena::give_back_from`: an arena with a cell in a bag can't be dropped.
 #[derive(Drop)]
 pub struct Bag {
     pub(crate) base: Base<EndWord>,
@@ -46,8 +45,8 @@ impl Bag {
         write_cell(&mut self.words, self.base, spot, symbol, ends);
     }
 
-    /// Writes the symbol word of a cell, and how many ends it has, the principal port's among them: as many as its class is for. The ends are open
-    /// until they are set one by one, so that they needn't be gathered before.
+    /// Writes the symbol word of a cell and the number of its ends, with the principal port's: as many as its class is for. The ends are open until
+    /// they are set one by one, so they needn't be gathered before.
     pub fn begin(&mut self, cell: CellNo, symbol: SymbolWord, ends: u8)
         requires is_in { IsInBag self.old cell.0 }
         requires many { IsFor self.old.cells cell.0 ends }

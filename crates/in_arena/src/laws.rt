@@ -13,7 +13,7 @@ pub fn classes_are_all()
     ensures { ClassesAreAll }
 {}
 
-/// A cell's number is that of one class alone.
+/// A cell's number is one of one class alone.
 pub fn numbers_are_apart()
     ensures { NumbersAreApart }
 {}
@@ -23,8 +23,8 @@ pub fn numbers_are_all()
     ensures { NumbersAreAll }
 {}
 
-/// A cell that changes makes its class have one free cell more where it becomes free and one fewer where it was, and leaves other classes
-/// as many: so a lease takes one, `settle` and `set_port` none, `give_back` and `retire` give one.
+/// If a cell changes, its class has one free cell more if the cell becomes free, and one less if it was free; other classes have as many as before.
+/// So a lease takes one, `settle` and `set_port` none, and `give_back` and `retire` give one.
 pub fn free_counts_change()
     ensures { FreeCountsChange }
 {}
@@ -44,7 +44,7 @@ pub fn leases_stay()
     ensures { LeasesStay }
 {}
 
-/// A lease is of another cell than one that is made while it is out, and stays a lease of the arena.
+/// A lease made while another one is out is of another cell, and the earlier one stays a lease of the arena.
 pub fn leases_differ()
     ensures { LeasesDiffer }
 {}
@@ -54,7 +54,7 @@ pub fn empty_bag_is_of()
     ensures { EmptyBagIsOf }
 {}
 
-/// A bag is one of its arena after a cell has changed that it doesn't have.
+/// A bag stays one of its arena after a cell has changed that it doesn't have.
 pub fn bags_stay()
     ensures { BagsStay }
 {}
@@ -69,17 +69,17 @@ pub fn lease_to_takes_one()
     ensures { LeaseToTakesOne }
 {}
 
-/// Bags of one arena that have no cell in common stay so where a cell is leased into one of them.
+/// Bags of one arena without a common cell stay so if a cell is leased into one of them.
 pub fn bags_stay_apart()
     ensures { BagsStayApart }
 {}
 
-/// They stay so where a cell is moved from one to the other.
+/// They stay so if a cell is moved from one to the other.
 pub fn moving_keeps_apart()
     ensures { MovingKeepsApart }
 {}
 
-/// A lease is of another cell than one that is leased into a bag while it is out, and stays a lease of the arena.
+/// A cell that is leased into a bag while a lease is out is another cell, and the lease stays one of the arena.
 pub fn lease_is_in_no_bag()
     ensures { LeaseIsInNoBag }
 {}
@@ -99,7 +99,7 @@ pub fn lending_goes_back()
     ensures { LendingGoesBack }
 {}
 
-/// The other leases of an arena stay its leases where the cell of one becomes free or live.
+/// The other leases of an arena stay its leases if the cell of one becomes free or live.
 pub fn others_stay()
     ensures { OthersStay }
 {}

@@ -11,9 +11,9 @@ use crate::word::EndWord;
 use in_memory::{Base, Cells};
 use std::marker::Model;
 
-/// Owns one cell of an arena, which no other part of the program reads or writes meanwhile; it may be moved to another thread. To be
-/// spent by `Arena::settle` or `Arena::give_back`: an arena with a cell on lease can't be dropped. Contracts see its class and number, its
-/// memory, and its content.
+/// Owns one cell of an arena: no other part of the program reads or writes it meanwhile. It may be moved to another thread. Spend it by
+/// `Arena::settle` or `Arena::give_back`: an arena with a cell on lease can't be dropped. Contracts see its class and number, its memory, and its
+/// content.
 #[derive(Drop)]
 pub struct Lease {
     pub(crate) spot: Spot,
@@ -56,7 +56,7 @@ impl Lease {
         write_cell(&mut self.words, self.base, self.spot, symbol, ends);
     }
 
-    /// Writes the symbol word, and how many ends there are, the principal port's among them: as many as its class is for. The ends are open until
+    /// Writes the symbol word and the number of ends, with the principal port's: as many as its class is for. The ends are open until
     /// they are written.
     pub fn begin(&mut self, symbol: SymbolWord, ends: u8)
         requires { Holds self.old.class ends }

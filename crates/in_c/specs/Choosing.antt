@@ -19,7 +19,7 @@ use Rattle.in_c.specs.declared.choosing.Shown.{Shown}
 abbrev pub no_run : RunNumbers
 no_run = record { chosen = 0; further = 0; pairs = 0; agents = 0 }
 
--- how many of the choices were done, how many interactions came after them, and how many pairs and agents there are
+-- the number of choices done, of interactions after them, and of pairs and agents
 abbrev pub run_numbers : Chosen → RunNumbers
 run_numbers o = record { chosen = o.chosen; further = o.further; pairs = length o.machine.queue; agents = count_by is_some o.machine.agents }
 
@@ -27,7 +27,7 @@ run_numbers o = record { chosen = o.chosen; further = o.further; pairs = length 
 abbrev pub AreGivenOut : Shown → List ℕ → RunNumbers → Status → Type 0
 AreGivenOut a bytes n s = (a.bytes.items ≡ bytes) × (a.numbers ≡ n) × (a.status ≡ s)
 
--- the status where the next choice is of this number: its pair has no room, or there is no such pair
+-- the status if the next choice is of this number: its pair has no room, or there is no such pair
 abbrev pub IsEndAt : MachineParts → ℕ → Status → Type 0
 IsEndAt m c s = ((c < length m.queue) × (s ≡ status 4)) ⊎ ((length m.queue ≤ c) × (s ≡ status 2))
 
@@ -59,6 +59,6 @@ abbrev pub ShowsText : List ℕ → List ℕ → Limits → Shown → Type 0
 ShowsText text choices l a =
     ((p : Program) × IsAccepted text p × ShowsProgram p choices l a) ⊎ (((r : Refusal) × IsRefused text r × AreGivenOut a [] no_run (status 1)) ⊎ AreGivenOut a [] no_run memory_status)
 
--- .. within these numbers; nothing, with the status of wrong words, where one of them is out of range
+-- .. within these numbers; nothing, with the status of wrong words, if one of them is out of range
 abbrev pub IsRunBy : List ℕ → List ℕ → ℕ → ℕ → Shown → Type 0
 IsRunBy text choices limit cells a = ((l : Limits) × AreLimits 1 limit cells (Some l) × ShowsText text choices l a) ⊎ (AreLimits 1 limit cells None × AreGivenOut a [] no_run (status 2))

@@ -1,7 +1,7 @@
 -- How bytes are given to a caller that has room for them.
 use Rattle.std.specs.Prelude.{◌≡◌, ℕ, List, ◌++◌, drop, length, take}
 
--- as many first bytes as there is room for are in the room, and behind them what was there; the count is that of all bytes
+-- the first bytes are in the room, as many as fit, and the bytes behind them are as before; the count is that of all bytes
 pub record IsGiven (bytes old new : List ℕ) (count : ℕ) : Type 0 where
   pub front : new ≡ take (length old) bytes ++ drop (length bytes) old
   pub all : count ≡ length bytes

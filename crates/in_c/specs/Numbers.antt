@@ -1,4 +1,4 @@
--- A refusal, and the version, as numbers. That they come so is this project's own choice.
+-- A refusal, and the version, as numbers. Their form is this project's own choice.
 use Rattle.std.specs.Prelude.{ℕ, Option, Some, None}
 use Rattle.in_syntax.specs.declared.faults.Refusal.{Refusal}
 use Rattle.in_syntax.specs.declared.places.Place.{Place}

@@ -7,7 +7,7 @@ pub struct Answer {
     pub status: Status,
 }
 
-/// The statuses that are this crate's to say: the program has them too.
+/// The statuses that this crate itself returns: the program has them too.
 pub const ACCEPTED: Status = Status(0);
 
 pub const REFUSED: Status = Status(1);

@@ -13,8 +13,7 @@ use in_run::{Limits, Machine, StartFault};
 use in_syntax::Fault;
 use std::alloc::{AllocError, Global};
 
-/// The counts of a run: how many of the choices were done, how many interactions came after them, how many active pairs are left, and how
-/// many agents there are.
+/// The counts of a run: the number of choices done, of interactions after them, of active pairs left, and of agents.
 #[repr(C)]
 #[derive(Clone, Copy, Debug, PartialEq, Eq)]
 pub struct RunNumbers {
@@ -61,7 +60,7 @@ fn net_text(alloc: Global, machine: &Machine) -> Result<Vec<u8>, AllocError>
     }
 }
 
-/// The status where a choice is left: there is no pair of its number, or the pair needs more cells than are free.
+/// The status if a choice is left: there is no pair of its number, or the pair needs more cells than are free.
 fn status_at(outcome: &Chosen, number: u32) -> Status
     ensures { IsEndAt outcome.now.machine number result }
 {
@@ -85,7 +84,7 @@ fn status_after(outcome: &Chosen, limit: u64) -> Status
     }
 }
 
-/// The status that reports how the run ended.
+/// The status for the end of the run.
 fn status_of(outcome: &Chosen, choices: &[u32], limit: u64) -> Status
     ensures { EndsSo choices.now limit outcome.now result }
 {
@@ -121,7 +120,7 @@ fn shown_of(alloc: Global, outcome: &Chosen, choices: &[u32], limit: u64) -> Sho
     }
 }
 
-/// Runs an accepted program by these choices, and returns what its end shows.
+/// Runs an accepted program by these choices, and returns the view of its end.
 fn run_by(alloc: Global, checked: &Checked, choices: &[u32], limits: Limits) -> Shown
     ensures { ShowsProgram checked.now choices.now limits result }
 {

@@ -3,7 +3,7 @@ ghost use Rattle.std.specs.Prelude.{◌≡◌, Some, []};
 use in_syntax::TextOut;
 use std::alloc::Global;
 
-/// A writer that keeps all that it takes. A write of it fails only when out of memory.
+/// A writer that keeps all bytes that it takes. A write fails only when out of memory.
 #[derive(Drop)]
 pub struct Collected {
     bytes: Vec<u8>,

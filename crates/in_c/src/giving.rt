@@ -8,7 +8,7 @@ use std::alloc::AllocError;
 
 const MEMORY_LINE: &[u8] = b"memory\n";
 
-/// Copies as many first bytes as there is room for, and says how many bytes there are.
+/// Copies as many first bytes as fit, and returns the number of all bytes.
 fn copy(bytes: &[u8], room: &mut [u8]) -> usize
     ensures { IsGiven bytes.now room.old room.new result }
 {

@@ -21,7 +21,7 @@ pub fn calls_answer_once()
     texts_are_exported_once();
 }
 
-/// So are the room, the length, the numbers and the status after `inet_run_by`, of the choices too.
+/// So are the room, the length, the numbers and the status after `inet_run_by`: of these and of the choices.
 pub fn chosen_runs_answer_once()
     ensures { RunByAnswersAreOne }
 {
@@ -31,7 +31,7 @@ pub fn chosen_runs_answer_once()
     texts_are_same();
 }
 
-/// So are the status of both diagnoses, whose words are open, and the numbers and the status of `inet_refusal`.
+/// So are the status of both diagnoses (their words are open), and the numbers and the status of `inet_refusal`.
 pub fn refusals_are_told_once()
     ensures diagnoses { DiagnosesHaveOneStatus }
     ensures numbers { RefusalNumbersAreOne }

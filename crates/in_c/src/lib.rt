@@ -1,10 +1,10 @@
-//! The checker and the runner for programs in other languages, as a static library: each call goes from a text to the bytes that the program
-//! `inet` writes on it, and its status. `include/inet.h` says how it is called from C.
+//! The checker and the runner for programs in other languages, as a static library: each call returns the bytes that the program `inet` writes on a
+//! text, and its status. `include/inet.h` has the conditions for callers in C.
 //!
-//! Nothing is kept from call to call, so that several threads may call at once, each on a text and a room of its own.
+//! Nothing is kept from call to call, so several threads may call at once, each on a text and a room of its own.
 //!
-//! There is an export for each call. It has its answer made in memory (`saying`, `exporting`, `diagnosing`) by a writer that keeps what it takes
-//! (`collecting`), and gives it to the caller's room (`giving`); or it answers by numbers (`refusing`, `verifying`). The answers are those of
+//! There is an export for each call. It makes its answer in memory (`saying`, `exporting`, `diagnosing`) by a writer that keeps all bytes
+//! (`collecting`), and copies it to the caller's room (`giving`); or it answers by numbers (`refusing`, `verifying`). The answers are those of
 //! `in_program`'s `report_text` and `run_text`: the latter runs with one worker, since an export has no runtime to give to `act`. No crate can use a
 //! static library, so its tests are `tests/run --only library`. `docs/use/LIBRARY.md` has the page for users.
 #![tactic(auto)]
@@ -48,7 +48,7 @@ pub extern "C" fn inet_version() -> u32
     VERSION
 }
 
-/// The output of `inet check` on a text: as many first bytes of it as there is room for, and how many bytes the whole has. Returns the program's
+/// The output of `inet check` on a text: as many first bytes of it as fit the room, and the number of all bytes. Returns the program's
 /// status.
 #[unsafe(no_mangle)]
 pub extern "C" fn inet_check(alloc: Global, text: &[u8], room: &mut [u8], length: &mut usize) -> u8
@@ -65,8 +65,8 @@ pub extern "C" fn inet_derive(alloc: Global, text: &[u8], room: &mut [u8], lengt
     give(reported(alloc, true, text), room, length)
 }
 
-/// The same of `inet run` with one worker, at most `limit` interactions, and `cells` cells of each class: nothing is written where one of
-/// the two numbers is out of range, and the status is that of wrong words.
+/// The same of `inet run` with one worker, at most `limit` interactions, and `cells` cells of each class: if one of the two numbers is out of range,
+/// nothing is written, and the status is that of wrong words.
 #[unsafe(no_mangle)]
 pub extern "C" fn inet_run(
     alloc: Global,

@@ -1,4 +1,4 @@
--- An interaction in cells, whose boundary ends are joined from the highest to the lowest. That order, and the places of the sides, are this
+-- An interaction in cells: boundary ends are joined from the highest to the lowest. That order, and the places of the sides, are this
 -- project's own choice.
 use Rattle.std.specs.Prelude.{◌≡◌, ◌++◌, ℕ, List, length, map, reverse, take}
 use Rattle.in_arena.specs.Arenas.{ArenaView}
@@ -30,13 +30,13 @@ before x = net_of x.net
 abbrev pub redex_of : Interaction → Redex ℕ ℕ
 redex_of x = redex_at x.rule x.one.0 x.two.0
 
--- it can be done, and its net has `own` free ends, and its pair `many` boundary ends
+-- the interaction is possible; its net has `own` free ends, and its pair `many` boundary ends
 pub record IsWith (t : Tables) (x : Interaction) (own many : ℕ) : Type 0 where
   pub can : CanStepAt t x.net x.rule x.one x.two x.name
   pub own_ends : own ≡ length (before x).free
   pub boundary : many ≡ length (redex_of x).member.free
 
--- the cells and the list of ends show its net taken apart, no boundary end being joined
+-- the cells and the list of ends show its net taken apart, without a joined boundary end
 pub record IsReadyToJoin (t : Tables) (x : Interaction) (own many : ℕ) (a : ArenaView) (ends : List End) : Type 0 where
   pub given : IsWith t x own many
   pub net : Net ℕ
@@ -52,7 +52,7 @@ pub record IsBetween (t : Tables) (x : Interaction) (own many e : ℕ) (a : Aren
   pub free : net.free ≡ (before x).free
   pub shown : IsShownUpTo own many e a ends net
 
--- the cells, with the first ends of the list for the net's free ends, show the net after it
+-- the cells show the net after the interaction; the first ends of the list are for the net's free ends
 pub record IsDone (t : Tables) (x : Interaction) (own : ℕ) (a : ArenaView) (ends : List End) : Type 0 where
   pub after : Net ℕ
   pub step : IsStep (signature_of t) (before x) (redex_of x) x.name after
@@ -62,10 +62,10 @@ pub record IsDone (t : Tables) (x : Interaction) (own : ℕ) (a : ArenaView) (en
 abbrev pub HasMade : Tables → Interaction → ℕ → List (ℕ × ℕ) → List (ℕ × ℕ) → Type 0
 HasMade t x e old new = (qs : List (AgentNo × AgentNo)) × (new ≡ old ++ map numbers_of qs) × AreMadeSoFar t x.net x.rule x.one x.two x.name e qs
 
--- those that it makes over boundary ends were added, the last one first
+-- the pairs that it makes over boundary ends were added, the last one first
 abbrev pub AddsMade : Tables → Interaction → List (ℕ × ℕ) → List (ℕ × ℕ) → Type 0
 AddsMade t x old new = (qs : List (AgentNo × AgentNo)) × (new ≡ old ++ map numbers_of (reverse qs)) × AreMadeOverEnds t x.net x.rule x.one x.two x.name qs
 
--- what is added is determined
+-- the added pairs are determined
 abbrev pub PairsAreAddedOnce : Type 0
 PairsAreAddedOnce = (t : Tables) (x : Interaction) (old new other : List (ℕ × ℕ)) → AddsMade t x old new → AddsMade t x old other → new ≡ other

@@ -12,14 +12,14 @@ use Rattle.in_arena.specs.declared.content.End.TheVariants.{Cell, Free}
 
 -- ---- numbers
 
--- the number that a list has for that of a cell, or of a free end
+-- the number in a list for the number of a cell, or of a free end
 abbrev pub name_in : List CellNo → ℕ → ℕ
 name_in names n = (slice_index_or names n (record { 0 = 0 })).0
 
 abbrev pub number_in : List ℕ → ℕ → ℕ
 number_in ends k = slice_index_or ends k 0
 
--- an end, and the content of a cell, where cells and free ends have these numbers
+-- an end, and the content of a cell, if cells and free ends have these numbers
 abbrev pub moved_end : (ℕ → ℕ) → (ℕ → ℕ) → End → End
 moved_end name number (Cell c i) = Cell (record { 0 = name c.0 }) i
 moved_end name number (Free k) = Free (number k)
@@ -29,11 +29,11 @@ moved name number Vacant = Vacant
 moved name number Leased = Leased
 moved name number (Live word ends) = Live word (map (moved_end name number) ends)
 
--- the same symbol word and as many places
+-- the same symbol word and the same number of places
 abbrev pub LooksLike : State → State → Type 0
 LooksLike x y = (word_of y ≡ word_of x) × (places y ≡ places x)
 
--- ---- what is copied
+-- ---- the copied agents
 
 -- live cells, each once
 pub record ArePart (a : ArenaView) (agents : List CellNo) : Type 0 where
@@ -63,7 +63,7 @@ LeadsInto agents many (Free k) = k < many
 abbrev pub AreClosed : ArenaView → List CellNo → ℕ → Type 0
 AreClosed a agents many = (k i : ℕ) (c : CellNo) (e : End) → slice_get agents k ≡ Some c → end_at (state_at a c.0) i ≡ Some e → LeadsInto agents many e
 
--- the numbers of an end are below these
+-- an end's numbers are below these
 abbrev pub IsEndWithin : ℕ → ℕ → End → Type 0
 IsEndWithin cells many (Cell c i) = c.0 < cells
 IsEndWithin cells many (Free k) = k < many
@@ -72,7 +72,7 @@ IsEndWithin cells many (Free k) = k < many
 abbrev pub is_for : ArenaView → CellClass → CellNo → Bool
 is_for a d c = holds d (places (state_at a c.0))
 
--- of each class as many cells are free as these agents take
+-- each class has as many free cells as these agents take
 abbrev pub HasCellsFor : ArenaView → List CellNo → ArenaView → Type 0
 HasCellsFor a agents b = (d : CellClass) → count_by (is_for a d) agents ≤ free_of b d
 
@@ -82,8 +82,8 @@ HasCellsFor a agents b = (d : CellClass) → count_by (is_for a d) agents ≤ fr
 abbrev pub HaveOwnNames : List CellNo → List CellNo → Type 0
 HaveOwnNames agents names = (j k : ℕ) (c d : CellNo) → slice_get agents j ≡ Some c → slice_get agents k ≡ Some d → name_in names c.0 ≡ name_in names d.0 → j ≡ k
 
--- each agent is in a cell of its own, which was free and is of the class for its places, with what it leads to under the new numbers; all
--- other cells are as they were
+-- each agent is in a cell of its own, which was free and is of the class for its places, with its ends under the new numbers; all other cells are as
+-- they were
 pub record IsCopied (from : ArenaView) (agents : List CellNo) (ends : List ℕ) (names : List CellNo) (old new : ArenaView) : Type 0 where
   pub each : (k : ℕ) (c : CellNo) → slice_get agents k ≡ Some c
       → (state_at old (name_in names c.0) ≡ Vacant) × (state_at new (name_in names c.0) ≡ moved (name_in names) (number_in ends) (state_at from c.0))

@@ -15,7 +15,7 @@ pub record AreListedBelow (a : ArenaView) (x : ℕ) (cells : List CellNo) : Type
   pub all : (n : ℕ) → n < x → IsLive (state_at a n) → (k : ℕ) × (slice_get cells k ≡ Some (record { 0 = n }))
   pub rising : (j k : ℕ) (c d : CellNo) → j < k → slice_get cells j ≡ Some c → slice_get cells k ≡ Some d → c.0 < d.0
 
--- a free cell of the class for that agent is live with the same symbol word and as many places
+-- a cell of the class for that agent, which was free, is live with the same symbol word and the same number of places
 pub record TakesCell (x : State) (old : ArenaView) (n : ℕ) (new : ArenaView) : Type 0 where
   pub class : CellClass
   pub held : Holds class (places x)
@@ -42,12 +42,12 @@ pub record HaveCellsBelow (from : ArenaView) (agents : List CellNo) (old : Arena
   pub cells : now.cells ≡ old.cells
   pub many : length now.states ≡ length old.states
 
--- each agent has a cell of its own, in which it is to be written
+-- each agent has a cell of its own, where it will be written
 pub record HaveOwnCells (from : ArenaView) (agents names : List CellNo) (now : ArenaView) : Type 0 where
   pub each : (k : ℕ) (c : CellNo) → slice_get agents k ≡ Some c → LooksLike (state_at from c.0) (state_at now (name_in names c.0))
   pub once : HaveOwnNames agents names
 
--- the content of a cell whose first i ends are written
+-- the content of a cell with its first i ends written
 pub record IsBeingMoved (name number : ℕ → ℕ) (x : State) (n i : ℕ) (first now : ArenaView) : Type 0 where
   pub word : ℕ
   pub all : List End

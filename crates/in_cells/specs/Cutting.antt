@@ -1,4 +1,4 @@
--- What cells show before a wire is cut, and that it was.
+-- The net in the cells before a wire is cut, and the cut.
 use Rattle.std.specs.Prelude.{◌≡◌, ℕ, suc, List, length, take, Some}
 use Rattle.in_arena.specs.Arenas.{ArenaView}
 use Rattle.in_arena.specs.declared.content.End.{End}
@@ -12,7 +12,7 @@ pub record Shows (sig : Signature) (own : ℕ) (a : ArenaView) (ends : List End)
   pub many : own ≡ length w.free
   pub shown : IsShown a (take own ends) w
 
--- the wire at this place of that agent is cut: the place is at the free end of this number, and the point that it led to at the next one
+-- the wire at this place of that agent is cut: the place leads to the free end of this number, and the place's old partner to the next one
 pub record IsCutAt (w : Net ℕ) (c i own : ℕ) (m : Net ℕ) : Type 0 where
   pub other : Point ℕ
   pub wire : w.partner (Port c i) ≡ Some other

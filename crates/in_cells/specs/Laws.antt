@@ -14,13 +14,13 @@ use Rattle.in_cells.specs.Copying.{ArePart, AreAllLive, AreClosed, IsCopied, mov
 
 -- ---- some agents of a net
 
--- a point where agents and free ends have these numbers
+-- a point, if agents and free ends have these numbers
 abbrev pub moved_point : (ℕ → ℕ) → (ℕ → ℕ) → Point ℕ → Point ℕ
 moved_point name number (Port y i) = Port (name y) i
 moved_point name number (Free k) = Free (number k)
 
--- the net has these agents of another one as new agents, under these names and with their wires, where free ends have these numbers; its
--- other agents are those that it had, with the wires that they had
+-- the net has these agents of another one as new agents, under these names and with their wires, with these numbers of free ends; its other agents
+-- are as before, with the wires that they had
 pub record HasCopies (n : Net ℕ) (agents : List CellNo) (name number : ℕ → ℕ) (old new : Net ℕ) : Type 0 where
   pub symbols : (k : ℕ) (c : CellNo) → slice_get agents k ≡ Some c → new.symbol (name c.0) ≡ n.symbol c.0
   pub wires : (k i : ℕ) (c : CellNo) → slice_get agents k ≡ Some c → new.partner (Port (name c.0) i) ≡ option_map (moved_point name number) (n.partner (Port c.0 i))
@@ -33,13 +33,13 @@ abbrev pub CopiesAreShown : Type 0
 CopiesAreShown = (from old new : ArenaView) (agents names : List CellNo) (ends : List ℕ) (of_from of_old of_new : List End) (n m w : Net ℕ) → IsShown from of_from n → IsShown old of_old m →
     IsCopied from agents ends names old new → IsShown new of_new w → HasCopies n agents (name_in names) (number_in ends) m w
 
--- where no cell was on lease none is
+-- if no cell was on lease, none is
 abbrev pub NoneIsLeased : Type 0
 NoneIsLeased = (from old new : ArenaView) (agents names : List CellNo) (ends : List ℕ) → ArePart from agents → IsCopied from agents ends names old new → NoneLeased old → NoneLeased new
 
 -- ---- all agents of a net
 
--- where all agents of a net are copied, with its free ends, none leads elsewhere
+-- if all agents of a net are copied, with its free ends, none leads elsewhere
 abbrev pub AllAreClosed : Type 0
 AllAreClosed = (a : ArenaView) (agents : List CellNo) (of_a : List End) (n : Net ℕ) → IsShown a of_a n → WiresLeadBack n → AreAllLive a agents → AreClosed a agents (length of_a)
 
@@ -48,11 +48,11 @@ pub record ShowsAll (a : ArenaView) (ends : List End) (n : Net ℕ) : Type 0 whe
   pub shown : IsShown a ends n
   pub many : length ends ≡ length n.free
 
--- the same cells, where free ends have these numbers
+-- the same cells, if free ends have these numbers
 abbrev pub AreRenumbered : (ℕ → ℕ) → ArenaView → ArenaView → Type 0
 AreRenumbered own a b = (y : ℕ) → state_at b y ≡ moved (λ z. z) own (state_at a y)
 
--- the number of a free end of a part, where those of part 0 have these numbers and those of part 1 those
+-- the number of a free end of a part: the first list has those of part 0, the second those of part 1
 abbrev pub number_of : (ℕ → ℕ) → (ℕ → ℕ) → ℕ → ℕ → ℕ
 number_of own number zero e = own e
 number_of own number (suc i) e = number e
@@ -69,8 +69,8 @@ pub record AreEndsOfBoth (one two : Net ℕ) (name own number : ℕ → ℕ) (of
   pub each : (k i e : ℕ) → slice_get ends k ≡ Some (i, e) → (number_of own number i e ≡ k) × (slice_get of_both k ≡ leads_to name own number of_one of_two i e)
   pub all : (i e : ℕ) → e < length (two_parts one two i).free → slice_get ends (number_of own number i e) ≡ Some (i, e)
 
--- where the free ends of a net in cells get other numbers, and all agents of another one are copied to these cells, the cells show both side
--- by side, whatever the order of the free ends
+-- if the free ends of a net in cells get other numbers, and all agents of another one are copied to these cells, the cells show both side by side,
+-- with the free ends in any order
 abbrev pub CopiesStandBeside : Type 0
 CopiesStandBeside = (from before old new : ArenaView) (agents names : List CellNo) (numbers : List ℕ) (own : ℕ → ℕ) (of_from of_before of_new : List End) (ends : List (ℕ × ℕ)) (n m w : Net ℕ) →
     ShowsAll from of_from n → ShowsAll before of_before m → AreAllLive from agents → AreRenumbered own before old → IsCopied from agents numbers names old new →
@@ -88,7 +88,7 @@ ends_of i first (suc k) = (i, first) ∷ ends_of i (suc first) k
 abbrev pub HasNoAgent : ArenaView → Type 0
 HasNoAgent a = (y : ℕ) → word_of (state_at a y) ≡ None
 
--- these agents are gone, and the others are the same, where free ends have these numbers
+-- these agents are gone, and the others are the same, with these numbers of free ends
 pub record AreTakenOut (agents : List CellNo) (own : ℕ → ℕ) (a b : ArenaView) : Type 0 where
   pub gone : (k : ℕ) (c : CellNo) → slice_get agents k ≡ Some c → state_at b c.0 ≡ Vacant
   pub others : (y : ℕ) → ((k : ℕ) → slice_get agents k ≡ Some (record { 0 = y }) → ⊥) → state_at b y ≡ moved (λ z. z) own (state_at a y)
@@ -98,7 +98,7 @@ abbrev pub LeadsIntoPart : List CellNo → List (ℕ × ℕ) → End → Type 0
 LeadsIntoPart agents ends (end.Cell c i) = (k : ℕ) × (slice_get agents k ≡ Some c)
 LeadsIntoPart agents ends (end.Free f) = (e : ℕ) × (slice_get ends f ≡ Some (1, e))
 
--- each free end of the net is one of the rest, part 0, or of the part, part 1, and there it has the same partner as in the net
+-- each free end of the net is one of the rest (part 0) or of the part (part 1), and there it has the same partner as in the net
 pub record AreEndsSplit (one two : Net ℕ) (agents : List CellNo) (name own number : ℕ → ℕ) (place : ℕ → ℕ → ℕ) (of_both of_one of_two : List End) (ends : List (ℕ × ℕ)) : Type 0 where
   pub many : length of_both ≡ length ends
   pub places : (k i e : ℕ) → slice_get ends k ≡ Some (i, e) → place i e ≡ k
@@ -109,8 +109,8 @@ pub record AreEndsSplit (one two : Net ℕ) (agents : List CellNo) (name own num
   pub apart : (k e : ℕ) (x : End) → slice_get ends k ≡ Some (0, e) → slice_get of_both k ≡ Some x → LeadsIntoPart agents ends x → ⊥
   pub closed : (k e : ℕ) (x : End) → slice_get ends k ≡ Some (1, e) → slice_get of_both k ≡ Some x → LeadsIntoPart agents ends x
 
--- where agents that lead to each other and to free ends of their own are copied to cells that show no agent, and are taken out, the net before
--- is the rest and the part side by side: the agents of the part had these names there
+-- if agents that lead to each other and to free ends of their own are copied to cells that show no agent, and are taken out, the net before is the
+-- rest and the part side by side: the agents of the part had these names there
 abbrev pub PartStandsBeside : Type 0
 PartStandsBeside = (from left old new : ArenaView) (agents names : List CellNo) (numbers : List ℕ) (own origin : ℕ → ℕ) (place : ℕ → ℕ → ℕ) (of_from of_left of_new : List End) (ends : List (ℕ × ℕ)) (n m p : Net ℕ) →
     ShowsAll from of_from n → WiresLeadBack n → ShowsAll left of_left m → ShowsAll new of_new p →

@@ -1,4 +1,4 @@
--- The pair of two principal ports that are to be joined.
+-- The pair of two principal ports that will be joined.
 use Rattle.std.specs.Prelude.{◌≡◌, ◌⊎◌, ◌++◌, ◌∷◌, [], ℕ, List, Some}
 use Rattle.in_arena.specs.Arenas.{ArenaView, state_at}
 use Rattle.in_arena.specs.States.{IsLive, word_of}

@@ -1,4 +1,4 @@
--- A net in cells. Each place of a cell, and a list at the number of each free end, has the end that it leads to.
+-- A net in cells. Each place of a cell has the end that it leads to; for a free end a list has it, at the free end's number.
 use Rattle.std.specs.Prelude.{◌≡◌, ◌⊎◌, ◌↔◌, ◌+◌, ◌<◌, ◌≤◌, ℕ, List, length, slice_get, slice_set, Option, Some, IsSome, option_map}
 use Rattle.in_arena.specs.Arenas.{ArenaView, state_at, changed}
 use Rattle.in_arena.specs.States.{word_of, places, end_at, with_end}
@@ -27,7 +27,7 @@ pub record IsShown (a : ArenaView) (ends : List End) (m : Net ℕ) : Type 0 wher
 
 -- ---- writing
 
--- there is something at this point, so that it can be written
+-- something is at this point, so it can be written
 abbrev pub IsPlaceAt : ArenaView → List End → End → Type 0
 IsPlaceAt a ends (end.Cell c i) = i < places (state_at a c.0)
 IsPlaceAt a ends (end.Free k) = k < length ends
@@ -46,7 +46,7 @@ pub record AreExchanged (x y : End) (a : ArenaView) (ends : List End) (b : Arena
 
 -- ---- while boundary ends are joined
 
--- a side of a boundary end below this one, where the net has `own` free ends of its own and there are `many` boundary ends: the outer
+-- a side of a boundary end below this one, if the net has `own` free ends of its own, and `many` boundary ends: the outer
 -- sides are numbered after the net's own free ends, and the inner sides after these
 abbrev pub IsSideBelow : ℕ → ℕ → ℕ → Point ℕ → Type 0
 IsSideBelow own many e (Port y i) = ⊥
@@ -57,8 +57,8 @@ abbrev pub IsPointUpTo : ArenaView → ℕ → ℕ → ℕ → Point ℕ → Typ
 IsPointUpTo a own many e (Port y i) = i < places (state_at a y)
 IsPointUpTo a own many e (Free k) = (k < own) ⊎ IsSideBelow own many e (Free k)
 
--- the net is shown but for what leads to sides of boundary ends below this one, which are not joined yet: nothing is said of the ends at
--- a point that leads to such a side, unless it is one itself
+-- the cells show the net up to the points that lead to sides of boundary ends below this one, which are not joined yet: the end at such a point is
+-- open, unless the point is such a side itself
 pub record IsShownUpTo (own many e : ℕ) (a : ArenaView) (ends : List End) (m : Net ℕ) : Type 0 where
   pub agents : (y s : ℕ) → (m.symbol y ≡ Some s) ↔ (word_of (state_at a y) ≡ Some s)
   pub points : (u : Point ℕ) → IsSome (m.partner u) ↔ IsPointUpTo a own many e u

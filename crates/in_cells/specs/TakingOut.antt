@@ -1,5 +1,5 @@
--- Agents that leave an arena, and free ends that get other numbers in it: how a part of a net is taken out, and how what is left is numbered
--- anew. This project's own choice.
+-- Agents that leave an arena, and free ends that get other numbers in it: how a part of a net is taken out, and how the rest is numbered anew. This
+-- project's own choice.
 use Rattle.std.specs.Prelude.{◌≡◌, ◌+◌, ℕ, List, length, count_by, Some, slice_get}
 use Rattle.in_arena.specs.Arenas.{ArenaView, free_of, state_at}
 use Rattle.in_arena.specs.Changes.{AsManyAreFree, UnlistedStay}
@@ -16,7 +16,7 @@ module _ (a : ArenaView) (agents : List CellNo) where
   abbrev pub AreClassed : Type 0
   AreClassed = (k : ℕ) (c : CellNo) (d : CellClass) → slice_get agents k ≡ Some c → IsNumberOf a.cells d c.0 → Holds d (places (state_at a c.0))
 
-  -- in the other arena as many cells more are free of each class as these agents took
+  -- in the other arena each class has as many free cells more as these agents took
   abbrev pub FreesCellsOf : ArenaView → Type 0
   FreesCellsOf b = (d : CellClass) → free_of b d ≡ free_of a d + count_by (is_for a d) agents
 
@@ -29,7 +29,7 @@ pub record AreRetired (agents : List CellNo) (old new : ArenaView) : Type 0 wher
   pub cells : new.cells ≡ old.cells
   pub many : length new.states ≡ length old.states
 
--- the list has what each free end leads to: a place of a cell is in it if and only if the place leads to that free end
+-- the list has the partner of each free end: a place of a cell is in it if and only if the place leads to that free end
 pub record AreLedTo (a : ArenaView) (ends : List End) : Type 0 where
   pub back : (k i : ℕ) (c : CellNo) → slice_get ends k ≡ Some (Cell c i) → end_at (state_at a c.0) i ≡ Some (Free k)
   pub all : (y i k : ℕ) → end_at (state_at a y) i ≡ Some (Free k) → slice_get ends k ≡ Some (Cell (record { 0 = y }) i)

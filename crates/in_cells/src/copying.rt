@@ -7,10 +7,10 @@ use crate::writing::write_agents;
 use in_arena::{Arena, CellNo};
 use in_base::use_promise;
 
-/// Copies agents to another arena, each to a cell that was free there and is of the class for its places: live cells of `from`, each once, whose
-/// places lead to each other and to free ends below the length of `ends`. Afterwards each place of a copy leads to the same as before, cells by
-/// their new numbers and free end k by the number `ends[k]`. The new number of a cell is written at its number in `names`, which is long enough for
-/// that. Of each class as many cells have to be free in `to` as the agents take. It takes no memory.
+/// Copies agents to another arena, each to a cell that was free there and is of the class for its places. They are live cells of `from`, each named
+/// once, whose places lead to each other and to free ends below the length of `ends`. Afterwards each place of a copy leads to the same point as
+/// before, to cells by their new numbers and to free end k by the number `ends[k]`. The new number of a cell is written at its number in `names`,
+/// which is long enough for that. Each class of `to` must have as many free cells as the agents take. It takes no memory.
 pub fn copy(from: &Arena, agents: &[CellNo], ends: &[u32], to: &mut Arena, names: &mut [CellNo])
     requires part { ArePart from.now agents.now }
     requires closed { AreClosed from.now agents.now (length ends.now) }

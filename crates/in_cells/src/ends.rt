@@ -4,7 +4,7 @@ ghost use Rattle.in_cells.specs.Copying.{IsEndWithin, moved_end, name_in, number
 
 use in_arena::{CellNo, End, EndWord};
 
-/// The end that leads to what this one does, where cells and free ends have these numbers.
+/// The end that leads to the same point, if cells and free ends have these numbers.
 #[inline(always)]
 pub fn moved_end(names: &[CellNo], ends: &[u32], end: EndWord) -> EndWord
     requires { IsEndWithin (length names.now) (length ends.now) end }

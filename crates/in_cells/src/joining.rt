@@ -41,9 +41,9 @@ fn join(
 ///
 /// The list of ends has first the partner of each of the net's `own` free ends, then the partner at the outer side of each of the `many`
 /// boundary ends, and then those at their inner sides. Afterwards the cells and the list's first `own` ends show the net after the
-/// interaction; of cells only what their places lead to has changed. Pairs that it makes over boundary ends are added to `made`, the one
-/// with the highest lowest end first; there is to be room for `many`. Each live cell has the number of one of the `Symbols`. The order is
-/// this project's own choice.
+/// interaction; in cells only the ends at their places have changed. Pairs that it makes over boundary ends are added to `made`, the one with the
+/// highest lowest end first; it must have room for `many`. Each live cell has the number of one of the `Symbols`. The order is this project's own
+/// choice.
 pub fn join_all(
     arena: &mut Arena,
     ends: &mut [EndWord],

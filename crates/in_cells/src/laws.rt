@@ -10,7 +10,7 @@ pub fn set_is_ready()
     ensures { SetIsReady }
 {}
 
-/// There each live cell has the number of a symbol, where the net and the right member are over the symbols.
+/// There each live cell has the number of a symbol, if the net and the right member are over the symbols.
 pub fn set_has_symbols()
     ensures { SetHasSymbols }
 {}
@@ -25,12 +25,12 @@ pub fn pairs_are_added_once()
     ensures { PairsAreAddedOnce }
 {}
 
-/// The net that the cells show afterwards has the copied agents under their new names, with their wires, beside all that was there before.
+/// The net that the cells show afterwards has the copied agents under their new names, with their wires, beside its earlier agents.
 pub fn copies_are_shown()
     ensures { CopiesAreShown }
 {}
 
-/// Where no cell was on lease none is afterwards.
+/// If no cell was on lease, none is afterwards.
 pub fn none_is_leased()
     ensures { NoneIsLeased }
 {}
@@ -45,8 +45,8 @@ pub fn copies_stand_beside()
     ensures { CopiesStandBeside }
 {}
 
-/// Where agents that lead to each other and to free ends of their own are copied to cells that show no agent, and taken out, the net before is
-/// the rest and the part side by side.
+/// If agents that lead to each other and to free ends of their own are copied to cells that show no agent, and taken out, the net before is the rest
+/// and the part side by side.
 pub fn part_stands_beside()
     ensures { PartStandsBeside }
 {}

@@ -1,15 +1,15 @@
 //! Operations on a net in cells: the boundary ends of an interaction are joined, wires are cut and joined again, and agents are copied to
 //! another arena.
 //!
-//! - An interaction in place: the pair is retired, and the right member is beside what is left of the net. From the highest end to the lowest,
-//!   the end's two sides are made to lead to each other (`joining`), each end in constant time and with no path followed.
+//! - An interaction in place: the pair is retired, and the right member is beside the rest of the net. From the highest end to the lowest,
+//!   the end's two sides then lead to each other (`joining`), each end in constant time and without following a path.
 //!   `exchanging` has the two writes for one end, `pairing` adds the active pair that they make.
 //! - A wire is cut (`cutting`), and two free ends are joined (`rejoining`): how a net falls into parts, and how it is glued again.
 //! - Agents are copied to another arena, under the numbers of the cells that they get there (`copying`): `taking` takes a cell for each, and
 //!   `writing` writes their places, with cells and free ends under their new numbers (`ends`). `numbering`
 //!   gives the free ends that cells lead to other numbers; `retiring` frees the cells of agents that are gone.
 //!
-//! By `laws` the cells show afterwards a net after an interaction, or two nets side by side.
+//! By `laws` the cells then show the net after an interaction, or two nets side by side.
 #![tactic(auto)]
 
 mod copying;

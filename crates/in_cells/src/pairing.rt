@@ -18,7 +18,7 @@ fn agent(arena: &Arena, cell: CellNo) -> (AgentNo, SymbolNo)
     (AgentNo(cell.0), SymbolNo(arena.symbol(cell)))
 }
 
-/// The two agents whose principal ports these are, in their order, if both are principal ports.
+/// The two agents with these principal ports, in their order, if both ends are principal ports.
 #[inline(always)]
 pub fn pair_of(
     arena: &Arena,

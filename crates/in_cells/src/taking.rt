@@ -1,4 +1,4 @@
-// Cells are taken for agents that are to be copied.
+// Cells are taken for agents that will be copied.
 ghost use Rattle.std.specs.Prelude.{◌≡◌, ◌≤◌, ◌<◌, length};
 ghost use Rattle.in_arena.specs.Arenas.{free_of, state_at};
 ghost use Rattle.in_arena.specs.Changes.{HasAllCells};

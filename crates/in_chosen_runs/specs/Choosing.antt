@@ -1,4 +1,4 @@
--- A run whose first pairs are chosen. Which pair comes next is open in Lafont 1990: here a caller says it.
+-- A run whose first pairs are chosen. Which pair comes next is open in Lafont 1990: here a caller chooses.
 use Rattle.std.specs.Prelude.{◌≡◌, ◌⊎◌, ◌<◌, ◌≤◌, ℕ, List, [], ◌∷◌, length, take, slice_get, Some, Result, Ok, Err}
 use Rattle.in_check.specs.Programs.{Program}
 use Rattle.in_reducer.specs.Machines.{MachineParts}
@@ -19,8 +19,8 @@ StepsBy m (i ∷ choices) after = (next : MachineParts) × StepsAt m i next × S
 abbrev pub CannotStep : MachineParts → ℕ → Type 0
 CannotStep m i = (length m.queue ≤ i) ⊎ (HasRoomAt m i → ⊥)
 
--- from a start the first choices are done, and then interactions first in, first out; some choices are left only where the next one can't be
--- done, and then nothing comes after them; and fewer than allowed come after them only where none is next
+-- from a start the first choices are done, and then interactions first in, first out. Some choices are left only if the next one is impossible, and
+-- then nothing comes after them; fewer than allowed come after them only if none is possible
 pub record IsAsChosen (p : Program) (choices : List ℕ) (limit cells : ℕ) (o : Chosen) : Type 0 where
   pub start : MachineParts
   pub is_start : IsStart p cells start

@@ -19,7 +19,7 @@ ChosenRunsAreOne = (text : List ℕ) (p : Program) (choices : List ℕ) (limit c
     RunsAsChosen p choices limit cells (Ok o) → RunsAsChosen p choices limit cells (Ok u) →
     (o.chosen ≡ u.chosen) × (o.further ≡ u.further) × AreSame o.machine u.machine
 
--- a program that is refused as too large for its cells has no machine to start with, and the class and both numbers are one
+-- a program that is refused as too large for its cells has no first machine, and the class and both numbers are determined
 abbrev pub StartsAreRefusedOnce : Type 0
 StartsAreRefusedOnce = (p : Program) (cells : ℕ) (c : CellClass) (need free : ℕ) → IsNoStart p cells (start.Full c need free) → ((m : MachineParts) → IsStart p cells m → ⊥)
     × ((d : CellClass) (more less : ℕ) → IsNoStart p cells (start.Full d more less) → (c ≡ d) × (need ≡ more) × (free ≡ less))

@@ -2,18 +2,18 @@
 
 ghost use Rattle.in_chosen_runs.specs.Laws.{ChosenRunsAreMachines, ChosenRunsAreOne, ChosenRunsAreRefusedOnce, StartsAreRefusedOnce};
 
-/// An accepted program, choices and limits lead to one end: as many choices are done each time, as many interactions come after them, and the
-/// machine is one up to the numbers of its agents.
+/// An accepted program, choices and limits lead to one end: the number of choices done and the number of interactions after them are determined, and
+/// so is the machine, up to the numbers of its agents.
 pub fn chosen_runs_are_one()
     ensures { ChosenRunsAreOne }
 {}
 
-/// A program that `Machine::new` refuses as `Full` has no machine to start with, and one class is named, with its two numbers.
+/// A program that `Machine::new` refuses as `Full` has no first machine, and the class and both numbers are determined.
 pub fn starts_are_refused_once()
     ensures { StartsAreRefusedOnce }
 {}
 
-/// So it has no such run, and is refused so in one way.
+/// So it has no such run, and its refusal is determined.
 pub fn chosen_runs_are_refused_once()
     ensures { ChosenRunsAreRefusedOnce }
 {}

@@ -1,5 +1,5 @@
-//! A run whose first interactions somebody else chooses: the pairs of these numbers in the queue, one after another, and then the first pair
-//! again and again. So a caller who keeps the numbers alone can go on, give up and choose the next pair.
+//! A run whose first interactions a caller chooses: those of the pairs of these numbers in the queue, one after another, and then of the first pair
+//! again and again. So a caller who keeps only the numbers can go on, stop, and choose the next pair.
 //!
 //! `choosing` does the chosen ones, and `running` has the call, over a machine of `in_machine`; `laws` says that it has one end. The static
 //! library gives it to C.

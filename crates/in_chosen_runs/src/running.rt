@@ -8,7 +8,7 @@ use in_check::Checked;
 use in_machine::{Machine, StartFault};
 use std::alloc::Global;
 
-/// The outcome of such a run: its machine, how many of the choices it did, and how many further interactions.
+/// The outcome of such a run: its machine, the number of choices done, and the number of further interactions.
 #[derive(Drop)]
 pub struct Chosen<'a> {
     pub machine: Machine<'a>,
@@ -16,7 +16,7 @@ pub struct Chosen<'a> {
     pub further: u64,
 }
 
-/// How many interactions may come after so many of the choices: none where some of them are left.
+/// The most interactions after this many of the choices: 0 if some of them are left.
 fn allowed(chosen: usize, choices: &[u32], limit: u64) -> u64
     ensures most { result ≤ limit }
     ensures all { chosen ≡ length choices.now → result ≡ limit }
@@ -25,9 +25,9 @@ fn allowed(chosen: usize, choices: &[u32], limit: u64) -> u64
     if chosen < choices.len() { 0 } else { limit }
 }
 
-/// Runs a program: first the interactions of the pairs of these numbers in the queue, from 0, one after another, and then, where all were done, at
-/// most `limit` interactions first in, first out. It breaks off at the first choice without a pair, or whose pair needs more cells than are free;
-/// and after the choices if no pair is left, or the first one needs more. Each interaction is Lafont 1990's, and takes no memory. Refused only if no
+/// Runs a program: first the interactions of the pairs of these numbers in the queue, from 0, one after another, and then, if all were done, at most
+/// `limit` interactions first in, first out. It breaks off at the first choice without a pair, or whose pair needs more cells than are free, and
+/// after the choices if no pair is left, or the first one needs more. Each interaction is Lafont 1990's, and takes no memory. Refused only if no
 /// machine starts.
 pub fn run_chosen<'a>(
     alloc: Global,

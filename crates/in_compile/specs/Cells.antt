@@ -1,5 +1,5 @@
--- Cells by their classes: which class an agent takes, how many of each an interaction needs, and whether they are free. That an agent takes a
--- cell, of the class that holds its ports, is this project's own choice.
+-- Cells by their classes: the class for an agent, how many of each an interaction needs, and whether they are free. That an agent takes a cell, of
+-- the class that holds its ports, is this project's own choice.
 use Rattle.std.specs.Prelude.{◌≡◌, ◌≤◌, ◌<◌, ◌+◌, ℕ, Bool, false, cond, List, Option, Some, None, count_by}
 use Rattle.in_arena.specs.declared.content.CellClass.{CellClass}
 use Rattle.in_arena.specs.declared.content.CellClass.TheVariants.{Small, Large, Wide}
@@ -17,11 +17,11 @@ abbrev pub takes : Tables → CellClass → Option Cell → Bool
 takes t c None = false
 takes t c (Some a) = is_of t c a.symbol.0
 
--- how many of these agents take a cell of this class
+-- the number of these agents that take a cell of this class
 abbrev pub agents_of : Tables → CellClass → List (Option Cell) → ℕ
 agents_of t c agents = count_by (takes t c) agents
 
--- how many of a rule's two symbols do
+-- .. and of a rule's two symbols
 abbrev pub heads_taking : Tables → CellClass → RuleParts → ℕ
 heads_taking t c r = cond (is_of t c r.heads.0.0) 1 0 + cond (is_of t c r.heads.1.0) 1 0
 
@@ -31,14 +31,14 @@ count_of need Small = need.small
 count_of need Large = need.large
 count_of need Wide = need.wide
 
--- of each class as many of these agents take a cell as `need` says
+-- `need` has, for each class, the number of these agents that take a cell of it
 abbrev pub IsNeedOf : Tables → List (Option Cell) → Need → Type 0
 IsNeedOf t agents need = (c : CellClass) → count_of need c ≡ agents_of t c agents
 
--- of each class as many cells are free as are needed
+-- each class has as many free cells as needed
 abbrev pub IsEnough : (CellClass → ℕ) → (CellClass → ℕ) → Type 0
 IsEnough need free = (c : CellClass) → need c ≤ free c
 
--- of this class fewer are free than are needed, and of no class before it
+-- this class has fewer free cells than needed, and no class before it does
 abbrev pub IsFirstShort : (CellClass → ℕ) → (CellClass → ℕ) → CellClass → Type 0
 IsFirstShort need free c = (free c < need c) × ((d : CellClass) → class_no d < class_no c → need d ≤ free d)

@@ -32,7 +32,7 @@ EachPairHasOneTemplate = (text : List ℕ) (p : Program) (ts : TemplatesParts) (
 abbrev pub TemplatesAreOne : Type 0
 TemplatesAreOne = (t : Tables) (r : RuleParts) (p q : TemplateParts) → IsTemplateOf t r p → IsTemplateOf t r q → p ≡ q
 
--- the same templates, by number and for each two symbols, and the same net. Their tables of numbers may differ in size, which nothing looks up
+-- the same templates, by number and for each two symbols, and the same net. Their tables of numbers may differ in size
 pub record AreAlike (ts us : TemplatesParts) : Type 0 where
   pub templates : ts.templates ≡ us.templates
   pub start : ts.start ≡ us.start

@@ -16,11 +16,11 @@ listed l Small = l.small.items
 listed l Large = l.large.items
 listed l Wide = l.wide.items
 
--- for how many of each class the lists have room
+-- the number of cells of each class for which the lists have room
 abbrev pub room_of : Lists → Need
 room_of l = record { small = vec_capacity l.small; large = vec_capacity l.large; wide = vec_capacity l.wide }
 
--- this number is at the end of the list of its class besides
+-- the second lists have this number besides, at the end of the list of its class
 pub record HasOneMore (fewer more : Lists) (c : CellClass) (n : CellNo) : Type 0 where
   pub here : listed more c ≡ listed fewer c ++ n ∷ []
   pub others : (d : CellClass) → (d ≡ c → ⊥) → listed more d ≡ listed fewer d
@@ -30,7 +30,7 @@ pub record HasOneMore (fewer more : Lists) (c : CellClass) (n : CellNo) : Type 0
 abbrev pub of_class : CellClass → ℕ → CellClass → ℕ
 of_class c n d = cond (nat_eq (class_no c) (class_no d)) n 0
 
--- the lists have the numbers of the bag's cells, each once, in the list of its class; and nothing is written in these
+-- the lists have the numbers of the bag's cells, each once, in the list of its class; these cells have no content
 pub record IsListing (b : ArenaView) (l : CellClass → List CellNo) : Type 0 where
   pub all : HasAllCells b
   pub each : (c : CellClass) (k : ℕ) (n : CellNo) → slice_get (l c) k ≡ Some n → IsNumberOf b.cells c n.0 × (state_at b n.0 ≡ Vacant)
@@ -40,7 +40,7 @@ pub record IsListing (b : ArenaView) (l : CellClass → List CellNo) : Type 0 wh
 
 -- ---- cells that go back one by one
 
--- what a cell is once the bag's are back: f of what is written in it, where it is in the bag
+-- the state of a cell once the bag's cells are back: f of its content, if it is in the bag
 abbrev pub once_back : (State → State) → State → State → State
 once_back f Leased x = x
 once_back f Vacant x = f Vacant

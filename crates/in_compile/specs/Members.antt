@@ -1,4 +1,4 @@
--- Members: what is placed in cells, which is a right member of a rule or the initial net. Lafont 1990: an interaction puts the right member
+-- Members, which are placed in cells: a right member of a rule, or the initial net. Lafont 1990: an interaction puts the right member
 -- of a rule in the place of an active pair. That nets are compiled before a run, and in which form, is this project's own choice.
 use Rattle.std.specs.Prelude.{◌≡◌, ◌<◌, ◌^◌, ℕ, Bool, nat_eq, true, List, length, Option, Some, IsSomeAnd, count_by, option_map, option_and_then, slice_get}
 use Rattle.in_arena.specs.declared.content.CellClass.{CellClass}
@@ -14,13 +14,13 @@ use Rattle.in_compile.specs.declared.joints.Joint.{Joint}
 use Rattle.in_compile.specs.declared.joints.Joint.TheVariants.{ToAgent, ToBoundary}
 use Rattle.in_compile.specs.Cells.{is_of, count_of, IsNeedOf}
 
--- an agent: its symbol, the class of the cell that it takes, and where the wire at each of its places leads, the principal port first
+-- an agent: its symbol, the class of its cell, and the other end of the wire at each of its places, the principal port first
 pub record AgentParts : Type 0 where
   pub symbol : SymbolNo
   pub class : CellClass
   pub ends : List Joint
 
--- the agents; where the wire at each boundary end leads; the active pairs among the agents; and the cells that they all need
+-- the agents; the other end of the wire at each boundary end; the active pairs among the agents; and the cells that all agents need
 pub record MemberParts : Type 0 where
   pub agents : List AgentParts
   pub joints : List Joint
@@ -33,15 +33,15 @@ symbol_at m k = option_map (λ a. a.symbol) (slice_get m.agents k)
 abbrev pub class_at : MemberParts → ℕ → Option CellClass
 class_at m k = option_map (λ a. a.class) (slice_get m.agents k)
 
--- how many places an agent has, the principal port among them
+-- the number of places of an agent, with the principal port
 abbrev pub places_at : MemberParts → ℕ → Option ℕ
 places_at m k = option_map (λ a. length a.ends) (slice_get m.agents k)
 
--- a place of an agent that is there
+-- the agent exists, and has this place
 abbrev pub IsPlaceOf : MemberParts → ℕ → ℕ → Type 0
 IsPlaceOf m k i = IsSomeAnd (slice_get m.agents k) (λ a. i < length a.ends)
 
--- where the wire leads at a place of an agent, or at a boundary end
+-- the other end of the wire at a place of an agent, or at a boundary end
 abbrev pub joint_at : MemberParts → Joint → Option Joint
 joint_at m (ToAgent k i) = option_and_then (λ a. slice_get a.ends i) (slice_get m.agents k)
 joint_at m (ToBoundary e) = slice_get m.joints e
@@ -62,7 +62,7 @@ pub record IsMemberOf (t : Tables) (n : Parts) (m : MemberParts) : Type 0 where
   pub pairs : IsFirstQueue t n m.pairs
   pub need : IsNeedOf t n.cells m.need
 
--- ---- what each member is, of whatever net
+-- ---- each member, of any net
 
 abbrev pub has_class : CellClass → AgentParts → Bool
 has_class c a = nat_eq (class_no a.class) (class_no c)
@@ -71,12 +71,12 @@ has_class c a = nat_eq (class_no a.class) (class_no c)
 abbrev pub AgentsFit : MemberParts → Type 0
 AgentsFit m = (k : ℕ) (a : AgentParts) → slice_get m.agents k ≡ Some a → Holds a.class (length a.ends)
 
--- a wire leads back from where it leads to
+-- a wire leads back from its other end
 abbrev pub JointsLeadBack : MemberParts → Type 0
 JointsLeadBack m = (i j : Joint) → joint_at m i ≡ Some j → joint_at m j ≡ Some i
 
--- each agent's cell is for its places; a wire leads back from where it leads to; of each class as many cells are needed as agents take one;
--- and numbers fit
+-- each agent's cell is for its places; a wire leads back from its other end; each class has as many needed cells as agents that take one; and numbers
+-- fit
 pub record IsSoundMember (m : MemberParts) : Type 0 where
   pub fits : AgentsFit m
   pub back : JointsLeadBack m

@@ -1,4 +1,4 @@
--- Placed templates: the right member of a rule in leased cells, with the template that it is of.
+-- Placed templates: the right member of a rule in leased cells, with its template.
 use Rattle.in_compile.specs.Placing.{PlacedParts, IsPlacedMember}
 use Rattle.in_compile.specs.Templates.{TemplateParts}
 
@@ -6,6 +6,6 @@ pub record PlacedTemplateParts : Type 0 where
   pub template : TemplateParts
   pub placed : PlacedParts
 
--- what is placed is the template's right member
+-- the placed member is the template's right member
 abbrev pub IsOfTemplate : PlacedTemplateParts → Type 0
 IsOfTemplate p = IsPlacedMember p.template.member p.placed

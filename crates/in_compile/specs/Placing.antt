@@ -1,5 +1,5 @@
--- Placed members: agents with their inner wires in leased cells, before they are the arena's. Which cell of its class an agent gets is open.
--- That boundary ends hold their numbers is this project's own choice.
+-- Placed members: agents with their inner wires in leased cells, before they are the arena's. An agent may get any cell of its class. That boundary
+-- ends hold their numbers is this project's own choice.
 use Rattle.std.specs.Prelude.{◌≡◌, ◌+◌, ℕ, List, length, map, Some, slice_get, slice_index_or}
 use Rattle.std.specs.List.{AllByRecursion}
 use Rattle.in_arena.specs.Arenas.{ArenaView, state_at}
@@ -18,7 +18,7 @@ use Rattle.in_compile.specs.Cells.{count_of}
 use Rattle.in_compile.specs.Members.{AgentParts, MemberParts}
 use Rattle.in_compile.specs.Stocks.{StockParts, held, with_all}
 
--- the cell of each agent by its number, the bag that has these cells, and for how many agents there is room
+-- the cell of each agent by its number, the bag that has these cells, and the number of agents for which it has room
 pub record PlacedParts : Type 0 where
   pub cells : List CellNo
   pub bag : ArenaView
@@ -38,9 +38,9 @@ pub record AreWritten (b : ArenaView) (ns : List CellNo) : Type 0 where
   pub cells : AreCellsOf b ns
   pub live : (k : ℕ) (n : CellNo) → slice_get ns k ≡ Some n → IsLive (state_at b n.0)
 
--- ---- what is written
+-- ---- the written cells
 
--- the end that a joint is, where the agents have these cells; a joint leads to an agent that is there
+-- the end for a joint, if the agents have these cells; a joint leads to an agent of the member
 abbrev pub end_in : List CellNo → Joint → End
 end_in ns (ToAgent k place) = Cell (slice_index_or ns k (record { 0 = 0 })) place
 end_in ns (ToBoundary e) = Free e
@@ -55,7 +55,7 @@ pub record IsPlacedMember (m : MemberParts) (p : PlacedParts) : Type 0 where
       → IsNumberOf p.bag.cells a.class n.0 × (state_at p.bag n.0 ≡ content p.cells a)
   pub written : AreWritten p.bag p.cells
 
--- these cells, as many of each class as `need` says, were the stock's and no longer are; nothing else of it changes
+-- the stock loses these cells, as many of each class as `need` has; nothing else of it changes
 pub record TakesCells (need : Need) (cells : List CellNo) (old new : StockParts) : Type 0 where
   pub were : AllByRecursion (λ n. state_at old.bag n.0 ≡ Vacant) cells
   pub bag : new.bag ≡ with_all old.bag cells Leased

@@ -27,11 +27,11 @@ MemberPutsAreOne = (m : MemberParts) (ns : List CellNo) (old new other : ArenaVi
 
 -- ---- no cell is lost
 
--- of each class as many are free or held after leasing as before
+-- after leasing, each class has as many cells that are free or held as before
 abbrev pub LeasingKeepsAll : Type 0
 LeasingKeepsAll = (count : CellClass → ℕ) (a b a' b' : ArenaView) (c : CellClass) → Adds count a b a' b' → free_of a' c + free_of b' c ≡ free_of a c + free_of b c
 
--- .. and after giving back: where nothing is written in a bag's cells, they all are free again
+-- .. and after giving back: if nothing is written in a bag's cells, they all are free again
 abbrev pub GivingBackKeepsAll : Type 0
 GivingBackKeepsAll = (a b a' : ArenaView) (c : CellClass) → HasAllCells a → HasAllCells b → IsBagOf b a → ((n : ℕ) → IsLive (state_at b n) → ⊥) → Regains (λ _. Vacant) a b a' → free_of a' c ≡ free_of a c + free_of b c
 
@@ -44,7 +44,7 @@ abbrev pub PlacingLosesNone : Type 0
 PlacingLosesNone = (need : Need) (s s' : StockParts) (p : PlacedParts) (a a' a'' : ArenaView) → TakesCells need p.cells s s' → AreCellsOf p.bag p.cells
     → Regains (λ _. Vacant) a s'.bag a' → Regains (λ _. Vacant) a' p.bag a'' → Regains (λ _. Vacant) a s.bag a''
 
--- .. and if the placed cells are settled in the end, they are live, and the arena is else as it was before the stock was filled
+-- .. and if the placed cells are settled in the end, they are live, and the rest of the arena is as it was before the stock was filled
 abbrev pub SettlingLosesNone : Type 0
 SettlingLosesNone = (count : CellClass → ℕ) (a a1 : ArenaView) (s : StockParts) → HasAllCells a → Adds count a (empty_bag a) a1 s.bag
     → (need : Need) (s' : StockParts) (p : PlacedParts) (a2 a3 : ArenaView) → TakesCells need p.cells s s' → AreCellsOf p.bag p.cells
@@ -59,7 +59,7 @@ abbrev pub PlacingSharesOut : Type 0
 PlacingSharesOut = (need : Need) (s s' : StockParts) (p : PlacedParts) (a : ArenaView) → IsStockOf s a → TakesCells need p.cells s s' → AreCellsOf p.bag p.cells → AreOfOne s.bag p.bag
     → IsStockOf s' a × IsBagOf p.bag a × HaveNoneInCommon s'.bag p.bag
 
--- a bag stays one of its arena if that regains the cells of another that has none in common with it
+-- a bag stays one of its arena if the arena regains the cells of another bag without a common cell
 abbrev pub OtherBagsStay : Type 0
 OtherBagsStay = (f : State → State) (a b d a' : ArenaView) → Regains f a b a' → IsBagOf d a → HaveNoneInCommon d b → IsBagOf d a'
 

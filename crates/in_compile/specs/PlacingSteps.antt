@@ -44,7 +44,7 @@ abbrev pub IsInside : ℕ → Joint → Type 0
 IsInside count (ToAgent k place) = k < count
 IsInside count (ToBoundary e) = Unit {0}
 
--- an agent's cell is live, and its first x ends are written
+-- an agent's cell is live, with its first x ends written
 pub record IsBeingWritten (m : MemberParts) (ns : List CellNo) (k x : ℕ) (n : CellNo) (first b : ArenaView) : Type 0 where
   pub agent : AgentParts
   pub stands : slice_get m.agents k ≡ Some agent

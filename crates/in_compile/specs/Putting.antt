@@ -1,5 +1,5 @@
--- Members that are put into an arena at once. Which cell of its class an agent gets is open. That boundary ends hold their numbers is this
--- project's own choice.
+-- Members that are put into an arena at once. An agent may get any cell of its class. That boundary ends hold their numbers is this project's own
+-- choice.
 use Rattle.std.specs.Prelude.{◌≡◌, ◌≤◌, ◌<◌, ◌+◌, ℕ, cond, List, length, take, count_by, Some, None, slice_get}
 use Rattle.in_arena.specs.Arenas.{ArenaView, changed, free_of, state_at}
 use Rattle.in_arena.specs.Changes.{AreListedOnce, UnlistedStay}
@@ -10,7 +10,7 @@ use Rattle.in_arena.specs.declared.content.CellNo.{CellNo}
 use Rattle.in_compile.specs.Members.{AgentParts, MemberParts, has_class}
 use Rattle.in_compile.specs.Placing.{content}
 
--- each agent is in a cell of its class that held none, its own one; all other cells are as they were
+-- each agent is in a cell of its own, of its class, which held no agent; all other cells are as they were
 pub record IsPut (m : MemberParts) (ns : List CellNo) (old new : ArenaView) : Type 0 where
   pub count : length ns ≡ length m.agents
   pub each : (k : ℕ) (a : AgentParts) (n : CellNo) → slice_get m.agents k ≡ Some a → slice_get ns k ≡ Some n
@@ -21,9 +21,9 @@ pub record IsPut (m : MemberParts) (ns : List CellNo) (old new : ArenaView) : Ty
   pub cells : new.cells ≡ old.cells
   pub many : length new.states ≡ length old.states
 
--- ---- how: no contract of a public call speaks of it
+-- ---- the steps, which no contract of a public call names
 
--- a free cell of the agent's class is live with its symbol; what its places lead to is open
+-- a cell of the agent's class, which was free, is live with its symbol; the ends at its places are open
 pub record BeginsAgent (a : AgentParts) (old : ArenaView) (n : ℕ) (new : ArenaView) : Type 0 where
   pub at : IsNumberOf old.cells a.class n
   pub was : state_at old n ≡ Vacant

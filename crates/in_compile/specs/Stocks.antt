@@ -1,5 +1,5 @@
--- Stocks: cells of an arena that are held until agents are placed in them. As contracts see it a stock is a bag of cells with nothing written;
--- in which order they are taken, and which free cells are leased, is open.
+-- Stocks: cells of an arena that are held until agents are placed in them. Contracts see a stock as a bag of cells without content. The order in
+-- which they are taken is open, and so is which free cells are leased.
 use Rattle.std.specs.Prelude.{◌≡◌, ◌≤◌, ◌+◌, ℕ, length, List, [], ◌∷◌}
 use Rattle.std.specs.List.{AllByRecursion}
 use Rattle.in_arena.specs.Arenas.{ArenaView, changed, free_of, state_at}
@@ -10,7 +10,7 @@ use Rattle.in_arena.specs.declared.content.CellNo.{CellNo}
 use Rattle.in_compile.specs.declared.cells.Need.{Need}
 use Rattle.in_compile.specs.Cells.{count_of}
 
--- its cells, and for how many of each class it has room
+-- its cells, and the number of cells of each class for which it has room
 pub record StockParts : Type 0 where
   pub bag : ArenaView
   pub room : Need
@@ -19,25 +19,25 @@ pub record StockParts : Type 0 where
 abbrev pub empty_stock : ArenaView → Need → StockParts
 empty_stock a room = record { bag = empty_bag a; room = room }
 
--- how many cells of a class it holds
+-- the number of its cells of a class
 abbrev pub held : StockParts → CellClass → ℕ
 held s c = free_of s.bag c
 
 abbrev pub IsStockOf : StockParts → ArenaView → Type 0
 IsStockOf s a = IsBagOf s.bag a
 
--- with those that it holds, as many as `need` says fit its room
+-- its cells and those of `need` together fit its room
 abbrev pub HasRoom : StockParts → Need → Type 0
 HasRoom s need = (c : CellClass) → held s c + count_of need c ≤ count_of s.room c
 
--- ---- what changes
+-- ---- changes
 
--- the arena, or the bag, once each of these cells is so
+-- the arena, or the bag, with each of these cells in that state
 abbrev pub with_all : ArenaView → List CellNo → State → ArenaView
 with_all a [] x = a
 with_all a (n ∷ ns) x = changed (with_all a ns x) n.0 x
 
--- of each class c, `count c` cells that were free are leased and in the bag, with nothing written; nothing else changes
+-- for each class c, `count c` cells that were free are leased and in the bag, without content; nothing else changes
 pub record Adds (count : CellClass → ℕ) (a b a' b' : ArenaView) : Type 0 where
   pub cells : List CellNo
   pub free : AllByRecursion (λ n. state_at a n.0 ≡ Vacant) cells
@@ -47,11 +47,11 @@ pub record Adds (count : CellClass → ℕ) (a b a' b' : ArenaView) : Type 0 whe
   pub more : (c : CellClass) → free_of b' c ≡ free_of b c + count c
   pub of : IsBagOf b' a'
 
--- the stock has the need's cells more
+-- the stock has as many cells more as `need`
 abbrev pub AddsTo : Need → ArenaView → StockParts → ArenaView → StockParts → Type 0
 AddsTo need a s a' s' = Adds (count_of need) a s.bag a' s'.bag × (s'.room ≡ s.room)
 
--- the arena regains the cells of the bag, each as f makes it of what is written in it; all else is as it was
+-- the arena regains the cells of the bag, each with the state that f makes of its content; all else is as it was
 pub record Regains (f : State → State) (a b a' : ArenaView) : Type 0 where
   pub memory : a'.memory ≡ a.memory
   pub cells : a'.cells ≡ a.cells

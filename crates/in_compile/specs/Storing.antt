@@ -16,14 +16,14 @@ use Rattle.in_compile.specs.Wires.{first_agent_slot, slots}
 
 -- ---- joints in two words
 
--- in place of a place: it leads to a boundary end
+-- in place of a place's number: the joint leads to a boundary end
 abbrev pub at_boundary : ℕ
 at_boundary = 4294967295
 
 abbrev pub joint_from : ℕ → ℕ → Joint
 joint_from number place = cond (nat_eq place at_boundary) (ToBoundary number) (ToAgent number place)
 
--- places and boundary ends are numbers of a byte
+-- numbers of places and of boundary ends fit a byte
 abbrev pub FitsJoint : ℕ → ℕ → Type 0
 FitsJoint number place = (place ≡ at_boundary → number < 2 ^ 8) × (place ≢ at_boundary → place < 2 ^ 8)
 
@@ -46,7 +46,7 @@ agent_from joints a = record { symbol = a.symbol; class = a.class; ends = ends_f
 abbrev pub agents_from : List Joint → List MemberAgent → List AgentParts
 agents_from joints agents = map (agent_from joints) agents
 
--- what is read is in the list, and numbers fit
+-- the joints of the agents are in the list, and numbers fit
 pub record IsLaidOut (agents : List MemberAgent) (joints : List Joint) (boundary : ℕ) (pairs : List (ℕ × ℕ)) : Type 0 where
   pub ends : boundary ≤ length joints
   pub places : (k : ℕ) (a : MemberAgent) → slice_get agents k ≡ Some a → a.first + a.places ≤ length joints
@@ -63,7 +63,7 @@ IsSmallMember m = (length m.joints ≤ first_agent_slot) × (length m.agents ≤
 abbrev pub joint_at_slot : ℕ → ℕ → Joint
 joint_at_slot slot place = cond (nat_lt slot first_agent_slot) (ToBoundary slot) (ToAgent (slot - first_agent_slot) place)
 
--- there are so many slots, and at a boundary end there is one place
+-- the slot is below their number, and a boundary end has one place
 abbrev pub FitsSlot : ℕ → ℕ → Type 0
 FitsSlot slot place = (slot < slots) × (place ≤ max_ports) × (slot < first_agent_slot → place ≡ 0)
 
@@ -71,7 +71,7 @@ abbrev pub IsSmallJoint : Joint → Type 0
 IsSmallJoint (ToAgent k i) = (k < max_member_agents) × (i ≤ max_ports)
 IsSmallJoint (ToBoundary e) = e < first_agent_slot
 
--- ---- what compiling adds
+-- ---- the parts that compiling adds
 
 -- this agent of a member is that one, and its joints lead where the ends do
 pub record IsAgentOf (t : Tables) (joints : List Joint) (c : Cell) (a : MemberAgent) : Type 0 where

@@ -1,4 +1,4 @@
--- What the fields of a template keep: its right member is small, and its wires are listed.
+-- The invariant of a template's fields: its right member is small, and its wires are listed.
 use Rattle.std.specs.Prelude.{◌≡◌}
 use Rattle.in_compile.specs.Storing.{IsSmallMember}
 use Rattle.in_compile.specs.Wires.{over_of, within_of}

@@ -1,4 +1,4 @@
--- Templates: a rule's right member, with what joins it in the place of an active pair.
+-- Templates: a rule's right member, with the data that join it in the place of an active pair.
 use Rattle.std.specs.Prelude.{◌≡◌, ◌⊎◌, ◌↔◌, ◌≤◌, ℕ, Bool, IsTrue, List, length, map, Option, Some, option_and_then, slice_get}
 use Rattle.in_arena.specs.declared.content.CellClass.{CellClass}
 use Rattle.in_symbols.specs.declared.symbols.SymbolNo.{SymbolNo}
@@ -15,8 +15,8 @@ use Rattle.in_compile.specs.Members.{MemberParts, IsMemberOf}
 
 -- ---- a template
 
--- the rule's two symbols; how many boundary ends are places of the first one, which come first; whether neither symbol is marked; whether each
--- boundary end is an output of the pair; and the right member
+-- the rule's two symbols; the number of boundary ends that are places of the first one, which come first; whether neither symbol is marked; for each
+-- boundary end, whether it is an output of the pair; and the right member
 pub record TemplateParts : Type 0 where
   pub heads : SymbolNo × SymbolNo
   pub first_ends : ℕ
@@ -28,7 +28,7 @@ pub record TemplateParts : Type 0 where
 abbrev pub AreUnmarked : Tables → SymbolNo × SymbolNo → Type 0
 AreUnmarked t heads = (IsMarkedSymbol (signature_of t) heads.0.0 → ⊥) × (IsMarkedSymbol (signature_of t) heads.1.0 → ⊥)
 
--- the template is that of the rule, whose right member it has
+-- the template is the rule's, with its right member
 pub record IsTemplateOf (t : Tables) (r : RuleParts) (p : TemplateParts) : Type 0 where
   pub heads : p.heads ≡ r.heads
   pub first_ends : p.first_ends ≡ arity_of t r.heads.0.0
@@ -38,7 +38,7 @@ pub record IsTemplateOf (t : Tables) (r : RuleParts) (p : TemplateParts) : Type 
 
 -- ---- the templates of a program
 
--- those of the rules by number, the number of the rule of each two symbols, and the initial net
+-- the templates of the rules by number, the number of the rule for each two symbols, and the initial net
 pub record TemplatesParts : Type 0 where
   pub templates : List TemplateParts
   pub numbers : table.Cells
@@ -57,11 +57,11 @@ pub record HaveFirst (t : Tables) (rules : List RuleParts) (count : ℕ) (templa
   pub count_is : length templates ≡ count
   pub each : (k : ℕ) (r : RuleParts) (p : TemplateParts) → slice_get rules k ≡ Some r → slice_get templates k ≡ Some p → IsTemplateOf t r p
 
--- each rule has
+-- each rule has its template
 abbrev pub HaveTemplates : Tables → List RuleParts → List TemplateParts → Type 0
 HaveTemplates t rules templates = HaveFirst t rules (length rules) templates
 
--- of this class some template needs `most`, and none more; without templates it is 0
+-- some template needs `most` cells of this class, and none needs more; without templates it is 0
 abbrev pub IsMost : List TemplateParts → CellClass → ℕ → Type 0
 IsMost templates c most = ((k : ℕ) (p : TemplateParts) → slice_get templates k ≡ Some p → count_of p.member.need c ≤ most)
     × (((length templates ≡ 0) × (most ≡ 0)) ⊎ ((k : ℕ) × (p : TemplateParts) × (slice_get templates k ≡ Some p) × (count_of p.member.need c ≡ most)))

@@ -16,7 +16,7 @@ abbrev pub is_from_lowest : ℕ × Joint → Bool
 is_from_lowest (e, ToAgent k i) = true
 is_from_lowest (e, ToBoundary d) = nat_le e d
 
--- each by its lowest boundary end and where it leads from there, in the order of these ends
+-- each by its lowest boundary end and its other end, in the order of these boundary ends
 abbrev pub over_of : MemberParts → List (ℕ × Joint)
 over_of m = filter is_from_lowest (enumerate_from 0 m.joints)
 
@@ -28,7 +28,7 @@ is_from_first (ToAgent k i, ToAgent l j) = nat_lt k l || (nat_eq k l && nat_lt i
 is_from_first (ToAgent k i, ToBoundary e) = false
 is_from_first (ToBoundary e, j) = false
 
--- the places of agent k, each with where its wire leads
+-- the places of agent k, each with the other end of its wire
 abbrev pub wires_at : ℕ × AgentParts → List (Joint × Joint)
 wires_at (k, a) = map (λ x. (ToAgent k x.0, x.1)) (enumerate_from 0 a.ends)
 

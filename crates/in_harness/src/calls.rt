@@ -1,5 +1,4 @@
-//! Calls that take memory, each made directly on a program, and a line on what came of each: those over machines. `in_harness_texts` has the
-//! others.
+//! Calls over machines that take memory, each made directly on a program, with a line on its result. `in_harness_texts` has the others.
 ghost use Rattle.std.specs.Prelude.{◌≡◌};
 
 use crate::rounds::{one_round, turns};
@@ -16,10 +15,10 @@ use std::alloc::{AllocError, Global};
 use std::sync::Wait;
 use std::thread::Threads;
 
-/// How many cells of each class a machine has.
+/// The number of cells of each class of a machine.
 const CELLS: u32 = 64;
 
-/// How many interactions a round may do.
+/// The most interactions of a round.
 const BUDGET: u32 = 2;
 
 /// A gather of two jobs.
@@ -68,7 +67,7 @@ fn of_two<R: Threads + Wait>(
     one_round(rt, alloc, machine, 2, BUDGET as u64, &NoGate)
 }
 
-/// The result of a round after a refused one, which has to leave the machine as before.
+/// The result of a round after a refused one, which must leave the machine as before.
 fn rounded_then<R: Threads + Wait>(
     rt: &R,
     alloc: Global,
@@ -121,7 +120,7 @@ fn rounded<R: Threads + Wait>(
     }
 }
 
-/// The same for a machine whose net was read first, before the call.
+/// The same for a machine, with its net read before the call.
 fn looked_at_and_rounded<R: Threads + Wait>(
     rt: &R,
     alloc: Global,
@@ -140,13 +139,13 @@ fn looked_at_and_rounded<R: Threads + Wait>(
 /// A question about a new machine.
 #[derive(Clone, Copy)]
 enum Question {
-    /// Whether there is one.
+    /// Whether there is a machine.
     Start,
     /// The result of printing its net.
     Printing,
-    /// The net that it shows after as many steps as a round does.
+    /// Its net after as many steps as a round does.
     Steps,
-    /// The result of a round, after which it has to show that.
+    /// The result of a round, after which the net must be that one.
     Round,
 }
 
@@ -213,8 +212,7 @@ fn add_of_machines<R: Threads + Wait>(rt: &R, sheet: &mut Sheet, program: &Check
     add_call(sheet, "round", round);
 }
 
-/// All calls on a program, and two that need none; the run has the limit and the cells that the words say, which say too how many interactions
-/// it has.
+/// All calls on a program, and two that need none; the words give the limit and the cells of the run, and its number of interactions.
 pub fn add_all_calls<R: Threads + Wait>(
     rt: &R,
     sheet: &mut Sheet,

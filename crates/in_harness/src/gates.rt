@@ -2,11 +2,11 @@
 use in_rounds::Gate;
 use std::sync::atomic::{AtomicU64, Ordering};
 
-/// For how many turns a job is held at most.
+/// The most turns for which a job is held.
 const TURNS: u32 = 1_000_000_000;
 
-/// Holds each of the first `jobs` jobs, at most 64, until the others were reached too, so that one thread alone can't pass; after `TURNS`
-/// turns it gives up, and notes it.
+/// Holds each of the first `jobs` jobs, at most 64, until the others were reached too, so one thread alone can't pass; after `TURNS` turns it gives
+/// up, and notes that.
 #[derive(Drop)]
 pub struct Together {
     jobs: u32,
@@ -24,12 +24,12 @@ impl Together {
         }
     }
 
-    /// How many jobs were reached.
+    /// The number of jobs reached.
     pub fn reached(&self) -> u64 {
         self.reached.load(Ordering::SeqCst)
     }
 
-    /// How often it gave up.
+    /// The number of times that it gave up.
     pub fn gave_up(&self) -> u64 {
         self.gave_up.load(Ordering::SeqCst)
     }

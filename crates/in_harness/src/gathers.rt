@@ -15,13 +15,13 @@ use in_rounds::{Done, Gather, Why};
 use in_symbols::SymbolNo;
 use std::alloc::Global;
 
-/// Two symbols by their numbers, of which the first is the word at this index.
+/// Two symbols by their numbers, the words at this index and the next.
 fn pair_at(words: &[String], at: usize) -> (SymbolNo, SymbolNo) {
     let first = SymbolNo(small(words, at));
     (first, SymbolNo(small(words, at.saturating_add(1))))
 }
 
-/// Whether two symbols match, so that there is a template for them.
+/// Whether two symbols match, so there is a template for them.
 pub fn is_pair(checked: &Checked, templates: &Templates, c: SymbolNo, d: SymbolNo) -> bool
     requires { AreTemplatesOf checked.now templates.now }
     ensures { IsTrue result → IsSome (template_at templates.now c.0 d.0) }
@@ -63,7 +63,7 @@ fn reason(why: Why) -> &'static str {
     }
 }
 
-/// A job is done and put; where it comes back, its cells are free again.
+/// Does a job and puts its result; if it comes back, its cells are freed.
 fn put<'t>(
     alloc: Global,
     templates: &'t Templates,
@@ -89,7 +89,7 @@ fn put<'t>(
     }
 }
 
-/// Whether one is kept for the job, whose cells are then free.
+/// Whether a result is kept for the job; its cells are then free.
 fn taken(arena: &mut Arena, stock: &Stock, gather: &mut Gather, job: u32) -> &'static str
     requires { HaveAllLeased (stock.now.bag ∷ bags_of gather.old.slots) arena.old }
     ensures { HaveAllLeased (stock.now.bag ∷ bags_of gather.new.slots) arena.new }
@@ -165,12 +165,12 @@ fn add_answers<'t>(
     }
 }
 
-/// How many small cells are free.
+/// The number of free small cells.
 fn add_free(sheet: &mut Sheet, arena: &Arena) {
     sheet.fill("#\n", &[arena.free_count(CellClass::Small) as u64]);
 }
 
-/// The results of a row of puts and takes, over a list of two jobs; how many small cells are free before, once the stock is spent, and once the
+/// The results of a row of puts and takes, over a list of two jobs; and the number of free small cells before, once the stock is spent, and once the
 /// gather is.
 pub fn add_gather(
     sheet: &mut Sheet,

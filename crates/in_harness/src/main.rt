@@ -1,25 +1,25 @@
-//! A program for tests alone: answers what the commands of `inet` don't show of the text on standard input. The first word says what:
+//! A program for tests alone: answers questions on the text on standard input that no command of `inet` answers. The first word chooses:
 //!
-//! tokens, count, tree, sizes, tables, nets     what is read, before types are looked at
+//! tokens, count, tree, sizes, tables, nets     the text as it was read, before its types are checked
 //! open                                         open nets of that, with their steps, and the first pair without a rule
-//! program, templates                           what `check` answers, and what is made of it
-//! stock ONE OTHER CELLS                        a stock for the template of these symbols, and what is placed from it
+//! program, templates                           the result of `check`, and the templates
+//! stock ONE OTHER CELLS                        a stock for the template of these symbols, and the member placed from it
 //! verify ITEM STEP ..                          whether these steps build the net (`net`), or the rule of this number
 //! plain ORDER TURNS                            the slow reducer: `oldest`, `newest`, or a seed
-//! run WORKERS LIMIT CELLS                      what a run comes to, as its machine shows it
+//! run WORKERS LIMIT CELLS                      the outcome of a run, and the view of its machine
 //! round CELLS WORKERS BUDGET STEPS HELD        a round whose first jobs wait for one another, and steps after it
-//! rounds CELLS WORKERS BUDGET ROUNDS           what a machine shows after each of these rounds
-//! steps CELLS COUNT ..                         what it shows after each of these counts of interactions in turn
-//! still CELLS COUNT NEWEST FIRST               so many interactions by each of the calls that do them, and nothing of the net
-//! written CELLS ROOM                           what of its net is written to a writer of so many bytes
+//! rounds CELLS WORKERS BUDGET ROUNDS           the view of a machine after each of these rounds
+//! steps CELLS COUNT ..                         its view after each of these counts of interactions in turn
+//! still CELLS COUNT NEWEST FIRST               interactions by each of the calls that do them, and nothing of the net
+//! written CELLS ROOM                           the part of its net that a writer with this room takes
 //! phases CELLS PARTS BETWEEN MOST LIMIT        a run with a phase at every chance
-//! gather ONE OTHER ONE OTHER WORD ..           what a gather of two jobs answers: `put JOB ONE OTHER`, `take JOB`
+//! gather ONE OTHER ONE OTHER WORD ..           a gather of two jobs: `put JOB ONE OTHER`, `take JOB`
 //! workers COUNT                                six jobs that this many workers do
 //! calls LIMIT CELLS INTERACTIONS               calls that take memory, a line for each
-//! action WORD ..                               what these words ask of `inet`
+//! action WORD ..                               the action for these words of `inet`
 //!
-//! Where the text is refused, it says so; `none` where nothing can start, and `memory` where memory runs out. `tests/harness/asked.py` has what
-//! is wanted. What needs no machine is answered by `in_harness_texts`, which is proved beside the machines.
+//! If the text is refused, it writes that; `none` if nothing can start, and `memory` if memory runs out. `tests/harness/asked.py` has the expected
+//! answers. `in_harness_texts`, which is proved beside the machines, answers questions without a machine.
 #![tactic(auto)]
 
 mod arenas;
@@ -48,11 +48,11 @@ use std::sync::Wait;
 use std::thread::Threads;
 use std::{env, io};
 
-/// Reads to the end, or until more bytes came than a text has.
+/// Reads to the end, or until more bytes came than a text may have.
 fn read_text<R: Read>(alloc: Global, reader: &mut R) -> io::Result<Vec<u8>> {
     let mut text = Vec::new(alloc);
     let mut buffer = [0u8; 4096];
-    // Each turn but the last brings a byte or more, so these are enough.
+    // Each turn but the last brings at least one byte, so these are enough.
     for _turn in 0..MAX_TEXT_BYTES + 1 {
         let read = reader.read(&mut buffer)?;
         text.extend_from_slice(&buffer[..read])?;
@@ -80,7 +80,7 @@ fn add_of_machine<R: Threads + Wait>(
     }
 }
 
-/// Builds a machine of a program, with as many cells of each class as the words say, and adds the answer to a question about it.
+/// Builds a machine of a program, with the cells of each class that the words give, and adds the answer to a question about it.
 fn add_machine_run<R: Threads + Wait>(
     rt: &R,
     sheet: &mut Sheet,

@@ -9,11 +9,11 @@ use in_rounds::{CellClass, Machine};
 use std::alloc::Global;
 use std::thread::Threads;
 
-/// The most free cells of each class that a part gets, so that many phases don't take long.
+/// The most free cells of each class for a part, so that many phases don't take long.
 const MOST_SHARE: u32 = 1_024;
 
-/// How a run with a phase at every chance goes: of how many parts a phase is, how many interactions in turn come before each, how many a phase
-/// does at most, and how many interactions all do at most.
+/// A run with a phase at every chance: the number of parts of a phase, of interactions in turn before each, the most interactions of a phase, and the
+/// most of all.
 #[derive(Clone, Copy)]
 struct Asked {
     parts: u32,
@@ -22,14 +22,14 @@ struct Asked {
     limit: u64,
 }
 
-/// How many interactions there were, and how many phases in more than one part.
+/// The number of interactions, and of phases in more than one part.
 #[derive(Clone, Copy)]
 struct Count {
     interactions: u64,
     phases: u64,
 }
 
-/// How many free cells of each class each of `parts` parts gets.
+/// The number of free cells of each class for each of `parts` parts.
 fn share(machine: &Machine, parts: u32) -> u32
     requires { 1 ≤ parts }
     ensures { result ≤ 1048576 }
@@ -77,7 +77,7 @@ fn turns_and_phase<R: Threads>(
     }
 }
 
-/// The whole run. Each time but the last there is an interaction, so as many times as interactions are allowed are enough.
+/// The whole run. Each turn but the last does an interaction, so as many turns as allowed interactions are enough.
 fn all<R: Threads>(
     rt: &R,
     alloc: Global,
@@ -104,8 +104,8 @@ fn all<R: Threads>(
     all
 }
 
-/// The run of a machine with a phase at every chance, as the words say: again and again some interactions in turn, first in, first out, and
-/// then a phase, until no pair is left, the limit is reached, or nothing goes on.
+/// The run of a machine with a phase at every chance, by the numbers of the words: again and again some interactions in turn, first in, first out,
+/// and then a phase, until no pair is left, the limit is reached, or no interaction is possible.
 pub fn add_phases<R: Threads>(rt: &R, sheet: &mut Sheet, machine: &mut Machine, words: &[String]) {
     let asked = Asked {
         parts: small(words, 3),

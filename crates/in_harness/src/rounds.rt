@@ -7,7 +7,7 @@ use std::alloc::{AllocError, Global};
 use std::sync::Wait;
 use std::thread::Threads;
 
-/// The interactions of the first pairs in turn, at most `most`, while the cells that the first one needs are free. Returns how many there were.
+/// The interactions of the first pairs in turn, at most `most`, while the cells that the first one needs are free. Returns their number.
 pub fn turns(machine: &mut Machine, most: u64) -> u64 {
     for turn in 0..most {
         if machine.pairs() == 0 || !machine.has_room(0) {
@@ -33,8 +33,8 @@ pub fn one_round<R: Threads + Wait, G: Gate + Sync>(
     Some(round(rt, alloc, machine, workers, budget, gate))
 }
 
-/// A round of a machine with the workers and the budget that the words say, how many pairs it leaves, as many steps as they say, the net that is
-/// reached, and, where as many first jobs are held back as they say, how many jobs came to the gate and how often it gave up.
+/// A round of a machine with the workers and the budget of the words, the number of pairs that it leaves, then the steps of the words, the net that
+/// is reached, and, if first jobs are held back, the number of jobs that came to the gate and how often it gave up.
 pub fn add_round<R: Threads + Wait>(
     rt: &R,
     sheet: &mut Sheet,
@@ -63,7 +63,7 @@ pub fn add_round<R: Threads + Wait>(
     }
 }
 
-/// A round that was done, how many pairs it left, and the net after as many steps.
+/// A round that was done, the number of pairs that it left, and the net after as many steps.
 fn add_done(sheet: &mut Sheet, machine: &mut Machine, done: Round, steps: u64) {
     let numbers = [
         done.interactions as u64,
@@ -91,7 +91,7 @@ fn add_one_of_rounds<R: Threads + Wait>(
     add_view(sheet, machine);
 }
 
-/// As many rounds in a row as the words say, with the workers and the budget that they say, and the view of the machine after each.
+/// Rounds in a row, with the number, the workers and the budget of the words, and the view of the machine after each.
 pub fn add_rounds<R: Threads + Wait>(
     rt: &R,
     sheet: &mut Sheet,
@@ -112,7 +112,7 @@ pub fn add_steps(sheet: &mut Sheet, machine: &mut Machine, words: &[String]) {
     }
 }
 
-/// Interactions, as many as the words say, by `step`, by `take_newest` and by `take_first`, and how many each did: nothing of the net, so that a
+/// Interactions, in the numbers of the words, by `step`, by `take_newest` and by `take_first`, and the number that each did: nothing of the net, so a
 /// count of the requests for memory has those of these calls alone.
 pub fn add_still(sheet: &mut Sheet, machine: &mut Machine, words: &[String]) {
     let stepped = turns(machine, number(words, 3));

@@ -11,7 +11,7 @@ use std::thread::Threads;
 /// Which part of a run's outcome is written.
 #[derive(Clone, Copy)]
 pub enum Told {
-    /// How it ended, and what its machine shows.
+    /// Its end, and the view of its machine.
     All,
     /// Whether it has this many interactions, as a call that takes memory.
     Counted(u64),
@@ -42,7 +42,7 @@ fn add_no_run(sheet: &mut Sheet, fault: &RunFault) {
     }
 }
 
-/// The result of a refused run. Memory runs out before a run alone: within one it lets phases have fewer parts.
+/// The result of a refused run. Memory runs out only before a run: within one, phases then have fewer parts.
 fn came_of_fault(fault: &RunFault) -> Came {
     match fault {
         RunFault::Start(StartFault::Memory(_)) => Came::Memory,
@@ -50,7 +50,7 @@ fn came_of_fault(fault: &RunFault) -> Came {
     }
 }
 
-/// Why there was none.
+/// The reason why there was none.
 fn add_fault(sheet: &mut Sheet, fault: &RunFault, told: Told) {
     match told {
         Told::All => add_no_run(sheet, fault),
@@ -78,7 +78,7 @@ pub fn add_run_of<R: Threads + Wait>(
     }
 }
 
-/// The run of a program with the workers, the limit and the cells that the words say.
+/// The run of a program with the workers, the limit and the cells of the words.
 pub fn add_run<R: Threads + Wait>(rt: &R, sheet: &mut Sheet, program: &Checked, words: &[String]) {
     match Limits::new(small(words, 2), number(words, 3), small(words, 4)) {
         Some(limits) => add_run_of(rt, sheet, program, limits, Told::All),

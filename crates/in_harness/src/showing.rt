@@ -8,7 +8,7 @@ use std::alloc::Global;
 /// Room for a printed net, in bytes.
 pub const ROOM: usize = 1_048_576;
 
-/// A pair of the queue by its agents' symbols and numbers of auxiliary ports. Which cells they have is open.
+/// A pair of the queue by its agents' symbols and numbers of auxiliary ports. Their cells are open.
 fn add_pair(sheet: &mut Sheet, machine: &Machine, number: u32) {
     if number >= machine.pairs() {
         return;
@@ -25,7 +25,7 @@ fn add_free(sheet: &mut Sheet, machine: &Machine, number: u32) {
     if number >= machine.free_ends() {
         return;
     }
-    // It is a machine, so that the agent which a wire leads to is there.
+    // In a machine the agent to which a wire leads exists.
     let _ = machine.pairs();
     sheet.say(machine.free_name(number));
     match machine.partner(End::Free(number)) {
@@ -87,7 +87,7 @@ fn add_came(sheet: &mut Sheet, came: Result<u64, PrintFault>) {
     }
 }
 
-/// Adds what of a machine's net a writer takes that has room for so many bytes, and then fails.
+/// Adds the part of a machine's net that a writer takes which has room for this many bytes, and then fails.
 pub fn add_written(sheet: &mut Sheet, machine: &Machine, room: u32) {
     match MemoryOut::new(sheet.alloc, room as usize) {
         Ok(mut writer) => {

@@ -30,7 +30,7 @@ fn are_shares(arena: &Arena, workers: u32) -> bool
     workers * 8 <= arena.free_count(CellClass::Wide)
 }
 
-/// One where the job is kept, whose cells are then free; else nothing.
+/// 1 if a result of the job is kept, and its cells are then free; else 0.
 fn taken(arena: &mut Arena, gather: &mut Gather, job: u32) -> u32
     requires { HaveAllLeased (bags_of gather.old.slots) arena.old }
     ensures all { HaveAllLeased (bags_of gather.new.slots) arena.new }
@@ -45,7 +45,7 @@ fn taken(arena: &mut Arena, gather: &mut Gather, job: u32) -> u32
     }
 }
 
-/// How many of six jobs are kept: their cells are free then.
+/// The number of kept results of six jobs; their cells are free then.
 fn kept(arena: &mut Arena, gather: &mut Gather) -> u32
     requires { HaveAllLeased (bags_of gather.old.slots) arena.old }
     ensures { HaveAllLeased (bags_of gather.new.slots) arena.new }
@@ -57,8 +57,8 @@ fn kept(arena: &mut Arena, gather: &mut Gather) -> u32
     kept
 }
 
-/// How many of six jobs so many workers do, each with eight cells of each class; whether there are fewer threads than workers, and whether all
-/// cells are free again.
+/// The number of jobs of six that this many workers do, each with eight cells of each class; whether there are fewer threads than workers, and
+/// whether all cells are free again.
 fn add_done<R: Threads + Wait>(
     rt: &R,
     sheet: &mut Sheet,
@@ -107,7 +107,7 @@ fn add_done<R: Threads + Wait>(
     sheet.say("\n");
 }
 
-/// The same of as many workers as the words say, 1 to 64.
+/// The same of the workers of the words, 1 to 64.
 pub fn add_workers<R: Threads + Wait>(
     rt: &R,
     sheet: &mut Sheet,

@@ -24,7 +24,7 @@ use Rattle.in_machine.specs.Texts.{text_of}
 abbrev pub MachinesAsPromised : Type 0
 MachinesAsPromised = (m : MachineParts) → IsMachine m → IsAsPromised (system_of m.program) (net_of (parts_of m))
 
--- its queue is one of the net, as the text of a net has it
+-- its queue is one of the net, as the text of a net requires
 abbrev pub QueuesAreQueues : Type 0
 QueuesAreQueues = (m : MachineParts) → IsMachine m → IsQueue (net_of (parts_of m)) m.queue
 
@@ -36,7 +36,7 @@ RunsReach = (m n : MachineParts) (j k : ℕ) → IsMachine m → IsReachedBy (pl
 abbrev pub StepsKeepMachines : Type 0
 StepsKeepMachines = (m o : MachineParts) (i : ℕ) → IsMachine m → StepsAt m i o → IsMachine o
 
--- a machine is a reducer, so that the laws over reducers that are the same up to numbers hold of machines
+-- a machine is a reducer, so the laws over reducers that are the same up to numbers hold of machines
 abbrev pub MachinesAreReducers : Type 0
 MachinesAreReducers = (m : MachineParts) → IsMachine m → IsReducer m
 
@@ -48,7 +48,7 @@ SameAreMachines = (m n : MachineParts) → IsMachine m → AreSame m n → IsMac
 abbrev pub SameAreReached : Type 0
 SameAreReached = (m n : MachineParts) (k : ℕ) → AreSame m n → IsReachedBy (plain_of m) k → IsReachedBy (plain_of n) k
 
--- an accepted program and a number of cells have one machine to start with, up to the numbers of its agents
+-- an accepted program and a number of cells have one first machine, up to the numbers of its agents
 abbrev pub StartsAreSame : Type 0
 StartsAreSame = (text : List ℕ) (p : Program) (cells : ℕ) (m n : MachineParts) → IsAccepted text p → IsStart p cells m → IsStart p cells n → AreSame m n
 
@@ -56,16 +56,15 @@ StartsAreSame = (text : List ℕ) (p : Program) (cells : ℕ) (m n : MachinePart
 abbrev pub StartsAreMachines : Type 0
 StartsAreMachines = (text : List ℕ) (p : Program) (cells : ℕ) (m : MachineParts) → IsAccepted text p → cells ≤ most_cells → IsStart p cells m → IsMachine m
 
--- a machine without active pairs is the one end of its program: each run that ends, its interactions in any order, has as many and its text
+-- a machine without active pairs is the one end of its program: each run that ends, in any order, has as many interactions and the same text
 abbrev pub NormalEndsAreOne : Type 0
 NormalEndsAreOne = (m : MachineParts) (k : ℕ) → IsMachine m → IsReachedBy (plain_of m) k → m.queue ≡ [] → EndsOnce m.program k (text_of m)
 
--- where there is room for the first k pairs together, each of them has room when its turn comes
+-- if there is room for the first k pairs together, each of them has room when its turn comes
 abbrev pub RoomLasts : Type 0
 RoomLasts = (m n : MachineParts) (j k : ℕ) → IsMachine m → HasRoomFor m k → Runs m j n → j < k → HasRoomAt n 0
 
--- after j interactions, first in, first out, the queue is the pairs that are left, and then new ones; a further interaction adds its own
--- at its end
+-- after j interactions, first in, first out, the queue has the remaining pairs and then new ones; a further interaction adds its own at the end
 abbrev pub QueuesMoveUp : Type 0
 QueuesMoveUp = (m n : MachineParts) (j : ℕ) → Runs m j n → j ≤ length m.queue → (new : List (ℕ × ℕ)) × (n.queue ≡ drop j m.queue ++ new)
     × ((o : MachineParts) (s : StepsAt n 0 o) → suc j ≤ length m.queue → o.queue ≡ drop (suc j) m.queue ++ (new ++ map numbers_of s.made))

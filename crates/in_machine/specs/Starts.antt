@@ -8,7 +8,7 @@ use Rattle.in_reducer.specs.Starts.{IsStart}
 use Rattle.in_machine.specs.declared.starting.StartFault.{StartFault}
 use Rattle.in_machine.specs.declared.starting.StartFault.TheVariants as start
 
--- this is the first class of which the program's net has more agents than there are cells
+-- this is the first class with fewer cells than the program's net has agents of it, and these are the two numbers
 abbrev pub DoesNotFit : Program → ℕ → CellClass → ℕ → ℕ → Type 0
 DoesNotFit p cells c need free = IsFirstShort (λ d. agents_of p.tables d p.net.cells) (λ d. cells) c × (need ≡ agents_of p.tables c p.net.cells) × (free ≡ cells)
 

@@ -1,4 +1,4 @@
--- Interactions of the first pairs, one after another: where they end, and that this is one result. This project's own choice.
+-- Interactions of the first pairs, one after another: their end, and that they have one result. This project's own choice.
 use Rattle.std.specs.Prelude.{◌≡◌, ◌⊎◌, ◌<◌, ◌≤◌, ℕ, []}
 use Rattle.in_reducer.specs.Machines.{MachineParts}
 use Rattle.in_reducer.specs.Steps.{HasRoomAt}
@@ -9,8 +9,8 @@ use Rattle.in_machine.specs.Machines.{IsMachine}
 abbrev pub TakesNoFirst : MachineParts → Type 0
 TakesNoFirst m = (m.queue ≡ []) ⊎ (HasRoomAt m 0 → ⊥)
 
--- so many interactions, at most as many as were asked for, and fewer only where no further one is taken, are as many each time, and lead to
--- one machine up to numbers
+-- the number of interactions (at most as many as requested, and fewer only if no further one is possible) is determined, and they lead to one machine
+-- up to numbers
 abbrev pub FirstsTakenAreOne : Type 0
 FirstsTakenAreOne = (m n o : MachineParts) (most j k : ℕ) → IsMachine m → RunsUpToNumbers m j n → j ≤ most → (j < most → TakesNoFirst n) →
     RunsUpToNumbers m k o → k ≤ most → (k < most → TakesNoFirst o) → (j ≡ k) × AreSame n o

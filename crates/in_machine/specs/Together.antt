@@ -1,4 +1,4 @@
--- What the first pairs of a queue need together: what is free for all of them is free for each in its turn. This project's own choice.
+-- The cells that the first pairs of a queue need together: if they are free for all, they are free for each in its turn. This project's own choice.
 use Rattle.std.specs.Prelude.{◌+◌, ℕ, zero, suc}
 use Rattle.in_arena.specs.declared.content.CellClass.{CellClass}
 use Rattle.in_compile.specs.declared.cells.Need.{Need}

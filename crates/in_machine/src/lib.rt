@@ -1,7 +1,7 @@
 //! A machine over raw cells: a reducer with its templates, whose net its program reaches.
 //!
 //! A `Machine` (`machine`) adds to a reducer's invariant that its program reaches the net, and nothing else. Its `take_first` does
-//! interactions of the first pairs, up to the numbers of agents. `starting` has why none starts, and `looking` its accessors. Its
+//! interactions of the first pairs, up to the numbers of agents. `starting` has the reasons why none starts, and `looking` its accessors. Its
 //! `phase` (`phases`) reduces the net in parts, as `in_phases` does. `machine_laws` has laws on machines and their runs. `in_rounds` has rounds
 //! of several workers over it, `in_run` runs within limits; both export it again.
 #![tactic(auto)]

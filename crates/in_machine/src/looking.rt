@@ -15,7 +15,7 @@ use in_compile::Need;
 use in_symbols::SymbolNo;
 
 impl<'a> Machine<'a> {
-    /// How many active pairs are left.
+    /// The number of active pairs left.
     pub fn pairs(&self) -> u32
         ensures count { result ≡ length self.now.queue }
         ensures machine { IsMachine self.now }
@@ -32,14 +32,14 @@ impl<'a> Machine<'a> {
         self.reducer.pair(number)
     }
 
-    /// How many cells of this class are free.
+    /// The number of free cells of this class.
     pub fn free(&self, class: CellClass) -> u32
         ensures { result ≡ count_of self.now.vacant class }
     {
         self.reducer.free(class)
     }
 
-    /// How many cells of each class are free.
+    /// The number of free cells of each class.
     pub fn vacant(&self) -> Need
         ensures { result ≡ self.now.vacant }
     {
@@ -54,14 +54,14 @@ impl<'a> Machine<'a> {
         self.reducer.least_free()
     }
 
-    /// How many agents there are.
+    /// The number of agents.
     pub fn agents(&self) -> u32
         ensures { result ≡ count_by is_some self.now.agents }
     {
         self.reducer.agents()
     }
 
-    /// How many numbers there are for agents: those of all cells, whether free or not.
+    /// The count of numbers for agents: those of all cells, free or not.
     pub fn numbers(&self) -> u32
         ensures { result ≡ length self.now.agents }
     {
@@ -84,7 +84,7 @@ impl<'a> Machine<'a> {
         self.reducer.symbol(cell)
     }
 
-    /// How many auxiliary ports an agent has.
+    /// The number of an agent's auxiliary ports.
     pub fn arity(&self, cell: CellNo) -> u8
         requires { IsSome (symbol_in (parts_of self.now) cell.0) }
         ensures { option_map (λ s. arity_of self.now.program.tables s.0) (symbol_in (parts_of self.now) cell.0) ≡ Some result }
@@ -100,7 +100,7 @@ impl<'a> Machine<'a> {
         self.reducer.checked().symbols().name(self.symbol(cell))
     }
 
-    /// How many free ends the net has.
+    /// The number of the net's free ends.
     pub fn free_ends(&self) -> u32
         ensures { result ≡ length self.now.free }
     {
@@ -115,7 +115,7 @@ impl<'a> Machine<'a> {
         self.reducer.free_name(number)
     }
 
-    /// How many cells of each class the interaction of the pair of that number needs: the agents of its rule's right member. They must be
+    /// The number of cells of each class that the interaction of the pair of that number needs: for the agents of its rule's right member. They must be
     /// free while the pair is still there.
     pub fn need_of(&self, number: u32) -> Need
         requires { number < length self.now.queue }

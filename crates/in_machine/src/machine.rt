@@ -1,4 +1,4 @@
-// A machine, how it starts, and one interaction of it.
+// A machine, its start, and its interactions.
 ghost use Rattle.std.specs.Prelude.{◌≡◌, ◌<◌, ◌≤◌, ℕ, suc, true, false, length};
 ghost use Rattle.in_check.specs.Plain.{IsReachedBy};
 ghost use Rattle.in_arena.specs.declared.content.CellClass.{CellClass};
@@ -23,14 +23,14 @@ use std::marker::Model;
 /// The state of a run over a number of cells: the active pairs of its net are in a queue, and for each class of agents a number of cells is
 /// free. Its program reaches the net.
 ///
-/// A round lends the cells of its reducer to workers; so both fields can be named outside. Code that changes one proves the invariant again.
+/// A round lends the cells of its reducer to workers, so both fields can be named outside. Code that changes one proves the invariant again.
 #[derive(Drop)]
 pub struct Machine<'a> {
     pub templates: Templates,
     pub reducer: Reducer<'a>,
 }
 
-// Contracts see the net that it reduces. It keeps that the program reaches it, which a reducer alone doesn't.
+// Contracts see the net that it reduces. Its invariant is that the program reaches this net, which a reducer's is not.
 impl<'a> Model for Machine<'a> {
     ghost use Rattle.in_compile.specs.Templates.{AreTemplatesOf};
     ghost use Rattle.in_reducer.specs.Machines.{MachineParts};
@@ -47,7 +47,7 @@ impl<'a> Machine<'a> {
     /// A machine with `cells` cells of each class, at the program's net. Its pairs are queued in the order of the places of their wires,
     /// which is this project's own choice, as are the sizes of cells.
     ///
-    /// Refused `Full` where the net has more agents of a class than cells, tested in the order of the classes, or when out of memory. No
+    /// Refused as `Full` if the net has more agents of a class than cells, tested in the order of the classes, or when out of memory. No
     /// other call takes memory.
     pub fn new(alloc: Global, checked: &'a Checked, cells: u32) -> Result<Machine<'a>, StartFault>
         requires least { least_cells ≤ cells }
@@ -68,7 +68,7 @@ impl<'a> Machine<'a> {
         Ok(Machine { templates, reducer })
     }
 
-    /// The interaction of the pair of that number, by the rule of its symbols: Lafont 1990's, as `in_check`'s `Plain::step` says. The pair
+    /// Does the interaction of the pair of that number, by the rule of its symbols: Lafont 1990's, as of `Plain::step` of `in_check`. The pair
     /// leaves the queue, and the new pairs come last, by the lowest-numbered boundary end on the path that made each, and then the right
     /// member's own; the cells of the pair are free, and those of the new agents aren't. The cells that the pair needs must be free while it is
     /// still there. It takes no memory.
@@ -81,8 +81,8 @@ impl<'a> Machine<'a> {
         self.reducer.step(&self.templates, number);
     }
 
-    /// Interactions of the first pair of the queue, one after another, at most `most`, first in, first out. Fewer only if no pair is left, or the
-    /// cells that the first one needs aren't free. Returns how many there were. They are those of a machine that is this one up to the numbers of
+    /// Does interactions of the first pair of the queue, one after another, at most `most`, first in, first out; fewer only if no pair is left, or
+    /// the cells that the first one needs aren't free. Returns their number. They are those of a machine that is this one up to the numbers of
     /// agents: so an agent may continue under another number, and a new one may have the number of one that is gone. It takes no memory.
     pub fn take_first(&mut self, most: u64) -> u64
         ensures runs { RunsUpToNumbers self.old result self.new }
@@ -92,10 +92,10 @@ impl<'a> Machine<'a> {
         self.reducer.take_first(&self.templates, most)
     }
 
-    /// Interactions of the last pair of the queue, one after another, at most `most`, the newest pair first: the newest agents are still in the
-    /// cache, and a net that is reduced so stays small. Fewer only if no pair is left, or the cells of the last one aren't free with `floor`
-    /// more of each class; and where so many are free, so many stay free. Returns the number of interactions. The net is one that the program reaches
-    /// by as many interactions more. It takes no memory.
+    /// Does interactions of the last pair of the queue, one after another, at most `most`, the newest pair first: the newest agents are still in the
+    /// cache, and the net stays small. It does fewer only if no pair is left, or the cells of the last one aren't free with `floor` more of each
+    /// class. If `floor` cells of each class are free before, they are after. Returns the number of interactions. The net is one that the program
+    /// reaches by as many interactions more. It takes no memory.
     pub fn take_newest(&mut self, floor: u32, most: u64) -> u64
         ensures phase { IsPhase self.old result self.new }
         ensures most { result ≤ most }

@@ -19,7 +19,7 @@ pub fn runs_reach()
     ensures { RunsReach }
 {}
 
-/// An interaction of a machine leaves a machine, however the new agents are numbered.
+/// An interaction of a machine leaves a machine, under any numbers of the new agents.
 pub fn steps_keep_machines()
     ensures { StepsKeepMachines }
 {}
@@ -39,7 +39,7 @@ pub fn same_are_reached()
     ensures { SameAreReached }
 {}
 
-/// An accepted program and a number of cells have one machine to start with, up to the numbers of its agents.
+/// An accepted program and a number of cells have one first machine, up to the numbers of its agents.
 pub fn starts_are_same()
     ensures { StartsAreSame }
 {}
@@ -49,24 +49,23 @@ pub fn starts_are_machines()
     ensures { StartsAreMachines }
 {}
 
-/// A machine without active pairs is the one end of its program: each run that ends, its interactions in any order, has as many interactions
-/// and the same text.
+/// A machine without active pairs is the one end of its program: each run that ends, in any order, has as many interactions and the same text.
 pub fn normal_ends_are_one()
     ensures { NormalEndsAreOne }
 {}
 
-/// If there is room for the first pairs of the queue together, each of them has room at its turn, first in, first out, whichever agents were made
-/// before.
+/// If there is room for the first pairs of the queue together, each of them has room at its turn, first in, first out, beside any agents that were
+/// made before.
 pub fn room_lasts()
     ensures { RoomLasts }
 {}
 
-/// While pairs of the queue are left, interactions, first in, first out, take them in turn, and add the new ones behind them.
+/// While pairs of the queue are left, interactions take them in turn, first in, first out, and add the new ones behind them.
 pub fn queues_move_up()
     ensures { QueuesMoveUp }
 {}
 
-/// `take_first` has one result: as many interactions each time, and one machine up to the numbers of its agents.
+/// `take_first` has one result: one number of interactions, and one machine up to the numbers of its agents.
 pub fn firsts_taken_are_one()
     ensures { FirstsTakenAreOne }
 {}

@@ -11,13 +11,13 @@ use in_phases::{Room, Sharing, Worked, reduce_in_parts};
 use std::alloc::Global;
 use std::thread::Threads;
 
-/// A phase: the net is reduced in parts that share nothing, each in a thread of its own but the rest, which the caller reduces. Which
-/// interactions are done, and in which order, is open; they are at most as many as the sharing says, and of each class at least as many cells
-/// are free afterwards as it says are to stay so. The net is one that the program reaches by as many interactions more.
+/// A phase: the net is reduced in parts that share nothing, each in a thread of its own but the rest, which the caller reduces. Which interactions
+/// are done, and in which order, is open; they are at most `most` of the sharing, and at least `floor` cells of each class are free afterwards. The
+/// net is one that the program reaches by as many interactions more.
 ///
-/// The sharing is into at least one part, and the cells that are to stay free are free before. The room is used again, and
-/// grows where it is too small. A phase is never refused: where memory runs out there are fewer parts, and where a thread can't be started the caller does its
-/// part. It waits for its threads.
+/// The sharing is into at least one part, and `floor` cells of each class are free before. The room is used again, and grows if it is too small. A
+/// phase is never refused: if memory runs out, there are fewer parts, and if a thread can't be started, the caller does its part. It waits for its
+/// threads.
 pub fn phase<R: Threads>(
     rt: &R,
     alloc: Global,

@@ -1,4 +1,4 @@
--- The agents of a part, which are gathered before it is split off. This project's own choice.
+-- The agents of a part, gathered before it is split off. This project's own choice.
 use Rattle.std.specs.Prelude.{◌≡◌, ◌<◌, ℕ, Bool, true, List, length, Some, IsSome, slice_get}
 use Rattle.in_arena.specs.Changes.{AreListedOnce}
 use Rattle.in_arena.specs.declared.content.CellNo.{CellNo}
@@ -9,14 +9,14 @@ use Rattle.in_net.specs.Parts.{IsPointOf, symbol_in}
 use Rattle.in_phases.specs.declared.branch.Branch.{Branch}
 use Rattle.in_reducer.specs.Machines.{MachineParts, parts_of}
 
--- the agent is there, and so is this place of it
+-- the agent exists, and has this place
 abbrev pub HasAgent : MachineParts → ℕ → Type 0
 HasAgent m c = IsSome (symbol_in (parts_of m) c)
 
 abbrev pub HasPlace : MachineParts → ℕ → ℕ → Type 0
 HasPlace m c i = IsPointOf (parts_of m) (point.Port (record { 0 = c }) i)
 
--- an end leads to no agent that isn't there
+-- an end leads only to an agent that exists
 abbrev pub LeadsSomewhere : MachineParts → End → Type 0
 LeadsSomewhere m (Cell c i) = HasAgent m c.0
 LeadsSomewhere m (Free k) = Unit {0}

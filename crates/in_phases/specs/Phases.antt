@@ -14,7 +14,7 @@ use Rattle.in_reducer.specs.Reducers.{IsReducer}
 abbrev pub HasFree : MachineParts → ℕ → Type 0
 HasFree m count = (c : CellClass) → count ≤ count_of m.vacant c
 
--- some agents were split off where `cuts` wires were cut, and the seam has room for it to come back
+-- after `cuts` cuts some agents were split off as a part, and the seam has room for it to come back
 pub record IsSplitBy (cut : MachineParts) (cuts size : ℕ) (seam : Seam) (part rest : MachineParts) : Type 0 where
   pub agents : List CellNo
   pub own : ℕ
@@ -24,7 +24,7 @@ pub record IsSplitBy (cut : MachineParts) (cuts size : ℕ) (seam : Seam) (part 
   pub of_rest : IsReducer rest
   pub of_part : IsReducer part
 
--- wires were cut, and a part was split off there
+-- wires were cut, and then a part was split off
 pub record IsTakenOut (m : MachineParts) (cuts size : ℕ) (seam : Seam) (part rest : MachineParts) : Type 0 where
   pub reducer : IsReducer m
   pub cut : MachineParts

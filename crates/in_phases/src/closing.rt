@@ -82,7 +82,7 @@ fn are_ends_closed(reducer: &Reducer, branch: &Branch, own: u32, cuts: u32) -> b
     true
 }
 
-/// Whether the branch's agents and the first ends of the cuts lead to each other alone, so that they can be split off.
+/// Whether the branch's agents and the first ends of the cuts lead only to each other, so that they can be split off.
 pub(crate) fn is_closed(reducer: &Reducer, branch: &Branch, own: u32, cuts: u32) -> bool
     requires branch { IsBranch reducer.now branch.now }
     requires many { length reducer.now.free ≡ own + (cuts + cuts) }

@@ -25,8 +25,7 @@ fn leads_out(reducer: &Reducer, branch: &Branch, cell: CellNo, place: u8) -> boo
     }
 }
 
-/// Cuts the wire at this place of an agent, where it leads out of the branch. Says how many cuts that were: none where memory or numbers of free
-/// ends run out.
+/// Cuts the wire at this place of an agent, if it leads out of the branch. Returns the number of cuts: 0 if memory or numbers of free ends run out.
 fn cut_place(reducer: &mut Reducer, branch: &Branch, cell: CellNo, place: u8) -> u32
     requires branch { IsBranch reducer.old branch.now }
     requires there { HasPlace reducer.old cell.0 place }
@@ -43,7 +42,7 @@ fn cut_place(reducer: &mut Reducer, branch: &Branch, cell: CellNo, place: u8) ->
     }
 }
 
-/// Cuts those of the wires at an agent that lead out of the branch, and says how many.
+/// Cuts those of the wires at an agent that lead out of the branch, and returns their number.
 fn cut_agent(reducer: &mut Reducer, branch: &Branch, cell: CellNo) -> u32
     requires branch { IsBranch reducer.old branch.now }
     requires there { HasAgent reducer.old cell.0 }
@@ -58,7 +57,7 @@ fn cut_agent(reducer: &mut Reducer, branch: &Branch, cell: CellNo) -> u32
     cuts
 }
 
-/// Cuts all wires that lead out of the branch, and says how many. Where memory or numbers of free ends run out, some are left.
+/// Cuts all wires that lead out of the branch, and returns their number. If memory or numbers of free ends run out, some are left.
 pub(crate) fn cut_off(reducer: &mut Reducer, branch: &Branch) -> u32
     requires branch { IsBranch reducer.old branch.now }
     ensures cuts { IsCutTimes reducer.old result reducer.new }

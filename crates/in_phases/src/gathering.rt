@@ -19,7 +19,7 @@ impl Branch {
         }
     }
 
-    /// Makes it one for nets whose agents have numbers below this one, and below those of before. Refused only when out of memory.
+    /// Grows it for nets whose agents have numbers below this one; it never shrinks. Refused only when out of memory.
     pub(crate) fn reach(&mut self, numbers: u32) -> Result<(), AllocError>
         ensures reached { OnOk result (numbers ≤ length self.new.marks.items) }
         ensures more { length self.old.marks.items ≤ length self.new.marks.items }
@@ -51,7 +51,7 @@ impl Branch {
         self.marks[cell.0 as usize]
     }
 
-    /// Takes an agent in, where it isn't yet.
+    /// Takes in an agent that isn't in it yet.
     fn take_in(&mut self, reducer: &Reducer, cell: CellNo) -> Result<(), AllocError>
         requires branch { IsBranch reducer.now self.old }
         requires there { HasAgent reducer.now cell.0 }
@@ -97,7 +97,7 @@ impl Branch {
         Ok(())
     }
 
-    /// Takes in the agents behind each one that it has, and behind those, and so on.
+    /// Takes in the agents behind each of its agents, those behind these, and so on.
     fn take_trees(&mut self, reducer: &Reducer) -> Result<(), AllocError>
         requires branch { IsBranch reducer.now self.old }
         ensures branch { OnOk result (IsBranch reducer.now self.new) }
@@ -113,7 +113,7 @@ impl Branch {
         Ok(())
     }
 
-    /// Forgets what it had, and gathers the trees behind the first `pairs` pairs: both agents of each, each agent whose principal port is joined
+    /// Forgets its agents, and gathers the trees behind the first `pairs` pairs: both agents of each, each agent whose principal port is joined
     /// to an auxiliary port of one of them, and so on. Few wires lead out of them. Refused only when out of memory.
     pub(crate) fn gather(&mut self, reducer: &Reducer, pairs: u32) -> Result<(), AllocError>
         requires reached { AreNumbersBelow reducer.now (length self.old.marks.items) }

@@ -23,7 +23,7 @@ pub struct Sharing {
     pub most: u64,
 }
 
-/// The result of a phase: how many interactions, the most that one part did, and how many parts there were, the rest among them.
+/// The result of a phase: the number of interactions, the most that one part did, and the number of parts, with the rest.
 #[derive(Clone, Copy, Debug, PartialEq, Eq)]
 pub struct Worked {
     pub interactions: u64,
@@ -86,9 +86,9 @@ fn at_once<R: Threads>(
     )
 }
 
-/// Reduces a net in parts, each in a thread of its own but the rest: newest pairs first. It is never refused: where memory or cells run out
-/// there are fewer parts, and where a thread can't be started its part is reduced after the rest. Which agents are whose is open. The room is
-/// used again, and grows where it is too small. There is at least one part, and as many cells are free as are to stay so.
+/// Reduces a net in parts, each in a thread of its own but the rest: newest pairs first. It is never refused: if memory or cells run out, there are
+/// fewer parts, and if a thread can't be started, its part is reduced after the rest. Which agents a part has is open. The room is used again, and
+/// grows if it is too small. The sharing has at least one part, and the cells that have to stay free are free before.
 #[cycle(phases)]
 pub fn reduce_in_parts<R: Threads>(
     rt: &R,

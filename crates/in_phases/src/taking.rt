@@ -20,7 +20,7 @@ use in_compile::Templates;
 use in_reducer::{CellClass, CellNo, MOST_CELLS, MOST_FREE_ENDS, Reducer, Seam};
 use std::alloc::{AllocError, Global};
 
-/// A part that was split off, and the seam at which it comes back; how many cuts there were, and how many cells of each class it has.
+/// A part that was split off, and the seam at which it comes back; the number of cuts, and the number of its cells of each class.
 #[derive(Drop)]
 pub(crate) struct Taken<'a> {
     pub(crate) part: Reducer<'a>,
@@ -29,8 +29,7 @@ pub(crate) struct Taken<'a> {
     pub(crate) cells: u32,
 }
 
-/// Splits the branch off, where its wires are cut, with room for it to come back. Nothing where it can't be split off, and then the reducer is
-/// as it was.
+/// Splits off the branch, whose wires are cut, with room for it to come back. `None` if it can't be split off, and then the reducer is as it was.
 fn split<'a>(
     alloc: Global,
     reducer: &mut Reducer<'a>,

@@ -20,12 +20,12 @@ pub record BreaksAt (old new : Device) (bytes : List ℕ) (count : ℕ) : Type 0
   pub short : count < length bytes
   pub breaks : Breaks old new (take count bytes)
 
--- all is written, or a front of it up to a failure
+-- all is written, or a prefix of it up to a failure
 abbrev pub WritesAll : Device → Device → List ℕ → Result (Unit {0}) ℕ → Type 0
 WritesAll old new bytes (Ok u) = Moves old new bytes
 WritesAll old new bytes (Err n) = BreaksAt old new bytes n
 
--- a text is written, and how long it is; or a front of it, and how long that is; or nothing, when out of memory
+-- a text is written, with its length; or a prefix of it, with its length; or nothing, when out of memory
 abbrev pub Prints : Device → Device → List ℕ → Result ℕ PrintFault → Type 0
 Prints old new text (Ok n) = (n ≡ length text) × Moves old new text
 Prints old new text (Err Memory) = new ≡ old

@@ -1,4 +1,4 @@
--- The point that an end stands for: a cell has the number of its agent.
+-- The point of an end: a cell has the number of its agent.
 use Rattle.std.specs.Prelude.{ℕ}
 use Rattle.in_arena.specs.declared.content.End.{End}
 use Rattle.in_arena.specs.declared.content.End.TheVariants as end

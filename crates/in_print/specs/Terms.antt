@@ -1,4 +1,4 @@
--- The term at a point, while it is written: the agents that hang on each other there, and what is still to be written of them. Words of the
+-- The term at a point, while it is written: the agents that hang on each other there, and the text of them that is still to be written. Words of the
 -- inner contracts.
 use Rattle.std.specs.Prelude.{◌≡◌, ℕ, zero, suc, ◌-◌, ◌<◌, ◌≤◌, List, [], ◌∷◌, ◌++◌, length, Option, Some, None}
 use Rattle.in_net.specs.Nets.{Point, Port}
@@ -22,14 +22,14 @@ abbrev pub LeadsDown : Setting → Point ℕ → List Frame → Type 0
 LeadsDown s p [] = Unit {0}
 LeadsDown s p (f ∷ fs) = (s.net.partner p ≡ Some (Port f.cell.0 0)) × (0 < f.place) × (f.place ≤ arity_at s f.cell.0) × LeadsDown s (Port f.cell.0 f.place) fs
 
--- what is still to be written: the term at the point in hand, where there is one, and then the rest of each of these agents
+-- the text still to be written: the term at the point in hand, if there is one, and then the rest of each of these agents
 abbrev pub remaining : Setting → ℕ → List Frame → Option (Point ℕ) → List (TextPart ℕ)
 remaining s d [] None = []
 remaining s d [] (Some p) = term_in s d p
 remaining s zero (f ∷ fs) x = []
 remaining s (suc d) (f ∷ fs) x = remaining s d fs x ++ rest_of (term_in s d) f.cell.0 f.place (arity_at s f.cell.0 - f.place)
 
--- the point at which the last of these agents waits for its term
+-- the point where the last of these agents waits for its term
 abbrev pub last_point : Point ℕ → List Frame → Point ℕ
 last_point p [] = p
 last_point p (f ∷ fs) = last_point (Port f.cell.0 f.place) fs

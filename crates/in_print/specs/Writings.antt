@@ -1,4 +1,4 @@
--- A text while it is written: its bytes so far, and the wires that were met, each by the point at which it was. Words of the inner
+-- A text while it is written: its bytes so far, and the wires that were met, each by the point where it was met. Words of the inner
 -- contracts. The whole text is defined by `in_check`, as a net's text.
 use Rattle.std.specs.Prelude.{ℕ, suc, List, [], ◌∷◌, ◌++◌, length, Some, None, unwrap_or, nat_eq}
 use Rattle.in_net.specs.Nets.{Point, Signature, Net}
@@ -31,7 +31,7 @@ with_bytes w bs = record { bytes = w.bytes ++ bs; met = w.met }
 abbrev pub with_variable : TextSoFar → Point ℕ → Point ℕ → TextSoFar
 with_variable w p q = record { bytes = w.bytes ++ variable_name (number_at w.met p q); met = met_after w.met p q }
 
--- after one part more
+-- the text after one part more
 abbrev pub with_part : Setting → TextSoFar → TextPart ℕ → TextSoFar
 with_part s w (Bytes bs) = with_bytes w bs
 with_part s w (Head y) = with_bytes w (symbol_name s.words (s.net.symbol y))

@@ -2,8 +2,7 @@
 
 ghost use Rattle.in_print.specs.Laws.{TextsAreSame, TextsHoldAll};
 
-/// The text of a machine's net holds each agent once and each variable twice, and nothing else of the kind: so it is as deep as its
-/// terms need.
+/// The text of a machine's net holds each agent once and each variable twice, and no other agent or variable: so it is as deep as its terms need.
 pub fn texts_hold_all()
     ensures { TextsHoldAll }
 {}

@@ -7,7 +7,7 @@ use indexmap::IndexSet;
 use std::alloc::{AllocError, Global};
 use std::marker::Model;
 
-/// The wires that were met, each by the end at which it was, numbered from 1 in their order. Contracts see the points of these ends,
+/// The wires that were met, each by the end where it was met, numbered from 1 in their order. Contracts see the points of these ends,
 /// the last one first.
 #[derive(Drop)]
 pub(crate) struct Numbers {
@@ -33,7 +33,7 @@ impl Numbers {
         }
     }
 
-    /// The number of the wire between these ends, which is a new one where the wire was not met.
+    /// The number of the wire between these ends: a new one, if the wire was not met before.
     pub fn number(&mut self, end: End, partner: End) -> Result<usize, AllocError>
         ensures number { IfOk result (λ k. k ≡ number_at self.old (point_at end) (point_at partner)) }
         ensures met { IfOk result (λ k. self.new ≡ met_after self.old (point_at end) (point_at partner)) }

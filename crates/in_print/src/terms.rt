@@ -12,14 +12,14 @@ use in_arena::{CellNo, End};
 use in_machine::Machine;
 use std::alloc::{AllocError, Global};
 
-/// An agent whose terms up to this place have been begun.
+/// An agent, and the place up to which its terms have been begun.
 #[derive(Clone, Copy)]
 pub(crate) struct Frame {
     pub cell: CellNo,
     pub place: u8,
 }
 
-/// The agent whose principal port this is.
+/// The agent with this principal port.
 fn agent_at(end: End) -> Option<CellNo>
     ensures { IsPrincipalAt end result }
 {
@@ -29,7 +29,7 @@ fn agent_at(end: End) -> Option<CellNo>
     }
 }
 
-/// Writes the beginning of the term at an end. Returns the end whose term follows, if its agent has one.
+/// Writes the beginning of the term at an end. Returns the end of the term that follows, if its agent has one.
 fn begin(
     alloc: Global,
     machine: &Machine,
@@ -56,8 +56,8 @@ fn begin(
     Ok(Some(End::Cell(cell, 1)))
 }
 
-/// Writes on after the term at a place of this agent, while the agents below wait on the stack. Returns the end whose term follows, if another place
-/// has one.
+/// Writes on after the term at a place of this agent, while the agents below wait on the stack. Returns the end of the term that follows, if another
+/// place has one.
 fn go_on(
     machine: &Machine,
     sheet: &mut Sheet,
@@ -79,7 +79,7 @@ fn go_on(
     Ok(Some(End::Cell(cell, next)))
 }
 
-/// Writes the term at an end. It is no deeper in calls for a larger term.
+/// Writes the term at an end. The depth of calls doesn't depend on the term.
 pub(crate) fn term(
     alloc: Global,
     machine: &Machine,

@@ -34,8 +34,8 @@ fault_status = status 6
 abbrev pub memory_status : Status
 memory_status = status 5
 
--- the finding on an accepted program: its counts; the steps that build it; the machine at the end of its net's run, by how many interactions, and
--- how it stops; the same without the net; or that its net doesn't fit the cells
+-- the finding on an accepted program: its counts; the steps that build it; the machine at the end of its net's run, with the number of interactions
+-- and the stop; the same without the net; or that its net doesn't fit the cells
 pub data Finding : Type 0 where
   counted : Finding
   derived : Finding
@@ -43,7 +43,7 @@ pub data Finding : Type 0 where
   stopped : MachineParts → ℕ → Stop → Finding
   full : CellClass → ℕ → ℕ → Finding
 
--- it is what this action asks for, and it is so
+-- the finding is of the kind that this action asks for, and it is true
 abbrev pub IsFinding : Action → Program → Finding → Type 0
 IsFinding Check p counted = Unit {0}
 IsFinding Derive p derived = Unit {0}
@@ -53,7 +53,7 @@ IsFinding (Count l) p (stopped m k s) = RunsTo p l (Ok (record { machine = m; in
 IsFinding (Count l) p (full c need free) = DoesNotFit p l.cells c need free
 IsFinding _ p _ = ⊥
 
--- its lines: for a run the net, where it is shown, and then the count and the stop
+-- its lines: for a run the net, if it is shown, and then the count and the stop
 abbrev pub finding_lines : Program → Finding → List ℕ
 finding_lines p counted = accepted_line (counts_of p)
 finding_lines p derived = derivation_lines p
@@ -91,14 +91,13 @@ abbrev pub status_of : Report → Status
 status_of (accepted p f) = finding_status f
 status_of (refused r) = status 1
 
--- where a run ends normally, its lines are those of each run of the program that ends, whatever the order of its interactions: its text and
--- its count
+-- if a run ends normally, its lines are those of each run of the program that ends, with interactions in any order: its text and its count
 abbrev pub IsOfEachEnd : Action → List ℕ → List ℕ → Status → Type 0
 IsOfEachEnd (Run l) text lines s = s ≡ status 0 → (p : Program) → IsAccepted text p → (k : ℕ) (written : List ℕ) → Ends p k written → lines ≡ written ++ run_lines k Normal
 IsOfEachEnd (Count l) text lines s = s ≡ status 0 → (p : Program) → IsAccepted text p → (k : ℕ) (written : List ℕ) → Ends p k written → lines ≡ run_lines k Normal
 IsOfEachEnd a text lines s = Unit {0}
 
--- the lines and the status are those of what is said of the text
+-- the lines and the status are those of the output on the text
 pub record IsReply (a : Action) (text lines : List ℕ) (s : Status) : Type 0 where
   pub report : Report
   pub so : IsReport a text report
@@ -110,21 +109,21 @@ pub record IsReply (a : Action) (text lines : List ℕ) (s : Status) : Type 0 wh
 abbrev pub WantsMemory : List ℕ → Status → Type 0
 WantsMemory lines s = (lines ≡ memory_line) × (s ≡ memory_status)
 
--- what may be said once these bytes are read: what is so of them, if they are enough, or that memory ran out
+-- a possible output once these bytes are read: that on them, if they are enough, or that memory ran out
 abbrev pub Says : Action → Bool → List ℕ → List ℕ → Status → Type 0
 Says a ended text lines s = (IsEnoughText ended text × IsReply a text lines s) ⊎ WantsMemory lines s
 
--- what `report` is called for
+-- the action of `report`: `derive` or `check`
 abbrev pub report_action : Bool → Action
 report_action true = Derive
 report_action false = Check
 
--- a run whose net is shown, or isn't
+-- a run, with its net or without
 abbrev pub run_action : Bool → Limits → Action
 run_action true l = Run l
 run_action false l = Count l
 
--- what a call for this action did, from a reader r and a writer w to what they are after it
+-- the effect of a call for this action: from a reader r and a writer w to their states after it
 pub data Acts (a : Action) (r r' : Reader) (w w' : Device) (s : Status) : Type 0 where
   -- bytes were read, and the lines on them written
   told : (text lines : List ℕ) → Gives r r' text → Says a r'.ended text lines s → Moves w w' lines → Acts a r r' w w' s
@@ -138,7 +137,7 @@ pub data Acts (a : Action) (r r' : Reader) (w w' : Device) (s : Status) : Type 0
 abbrev pub Tells : Device → Device → List ℕ → Status → Status → Type 0
 Tells w w' line s answer = (Moves w w' line × (answer ≡ s)) ⊎ (BreaksWithin w w' line × (answer ≡ fault_status))
 
--- help and running out of memory go to the output w, what is wrong with the words to the errors e, and the version to neither
+-- help and running out of memory go to the output w, the fault of wrong words to the errors e, and the version to neither
 abbrev pub TellsUsage : Device → Device → Device → Device → Usage → Status → Type 0
 TellsUsage w w' e e' (Help text) answer = Tells w w' (string_bytes text) (status 0) answer × (e' ≡ e)
 TellsUsage w w' e e' Version answer = (w' ≡ w) × (e' ≡ e) × (answer ≡ status 0)
@@ -147,7 +146,7 @@ TellsUsage w w' e e' Memory answer = Tells w w' memory_line memory_status answer
 
 -- ---- words of the inner contracts
 
--- such lines and such a status are written, or that memory ran out
+-- such lines are written, with such a status; or that memory ran out
 abbrev pub TellsOne : (List ℕ → Status → Type 0) → Device → Device → Status → Type 0
 TellsOne So w w' answer = (lines : List ℕ) × (s : Status) × (So lines s ⊎ WantsMemory lines s) × Tells w w' lines s answer
 
@@ -155,11 +154,11 @@ TellsOne So w w' answer = (lines : List ℕ) × (s : Status) × (So lines s ⊎ 
 abbrev pub AreThese : List ℕ → Status → List ℕ → Status → Type 0
 AreThese these this lines s = (lines ≡ these) × (s ≡ this)
 
--- those of what is found of a program
+-- those of the finding on a program
 abbrev pub AreFound : Action → Program → List ℕ → Status → Type 0
 AreFound a p lines s = (f : Finding) × IsFinding a p f × (lines ≡ finding_lines p f) × (s ≡ finding_status f)
 
--- the net's text, where it is shown
+-- the net's text, if it is shown
 abbrev pub net_shown : Bool → List ℕ → List ℕ
 net_shown true t = t
 net_shown false t = []

@@ -1,4 +1,4 @@
--- What a call did to a reader, and to a writer: see `in_print`'s definitions of devices.
+-- The effect of a call on a reader, and on a writer: see `in_print`'s definitions of devices.
 use Rattle.std.specs.Prelude.{◌⊎◌, ℕ, ◌+◌, ◌<◌, ◌≤◌, Bool, IsTrue, List, length}
 use Rattle.in_syntax.specs.Streams.{Device, Reader, one_more}
 use Rattle.in_syntax.specs.Tokens.{text_limit}
@@ -8,11 +8,11 @@ use Rattle.in_program.specs.declared.reading.Input.TheVariants as input
 
 -- ---- a reader
 
--- as many reads are enough for a text: one for each of its bytes, and one that finds its end
+-- the number of reads that suffice for a text: one for each of its bytes, and one that finds its end
 abbrev pub most_reads : ℕ
 most_reads = text_limit + 1
 
--- there was a read, there was at most one more than there are bytes, and no more than a text needs
+-- there was at least one read, at most one more than bytes, and no more than suffice for a text
 pub record AreFewReads (old new : Reader) (bytes : List ℕ) : Type 0 where
   pub some : one_more old.reads ≤ new.reads
   pub each : new.reads ≤ old.reads + length bytes + 1
@@ -30,11 +30,11 @@ pub record Fails (old new : Reader) (bytes : List ℕ) : Type 0 where
 
 -- ---- reading and writing
 
--- what calls with these bytes do to a device
+-- the effect of calls with these bytes on a device
 abbrev pub DeviceLaw : Type 1
 DeviceLaw = Device → Device → List ℕ → Type 0
 
--- a front of the bytes was moved, but not all, and then a call failed
+-- a prefix of the bytes was moved, but not all, and then a call failed
 abbrev pub BreaksWithin : DeviceLaw
 BreaksWithin old new bytes = (count : ℕ) × BreaksAt old new bytes count
 
@@ -42,7 +42,7 @@ BreaksWithin old new bytes = (count : ℕ) × BreaksAt old new bytes count
 abbrev pub IsEnoughText : Bool → List ℕ → Type 0
 IsEnoughText ended bytes = IsTrue ended ⊎ (text_limit < length bytes)
 
--- how reading a text ended
+-- the result of reading a text
 abbrev pub IsInput : Reader → Reader → Input → Type 0
 IsInput old new (input.Text text) = Gives old new text.items × IsEnoughText new.ended text.items
 IsInput old new input.Failed = (bytes : List ℕ) × Fails old new bytes

@@ -37,7 +37,7 @@ code_name code.E13 = codes "E13"
 code_name code.E14 = codes "E14"
 code_name code.E15 = codes "E15"
 
--- a colon and the text at the place; nothing where the place is empty
+-- a colon and the text at the place; nothing if the place is empty
 abbrev pub text_at : List ℕ → Place → List ℕ
 text_at text p = if p.from == p.to then [] else (codes ": " ++ slice_range text p.from p.to)
 
@@ -62,7 +62,7 @@ class_name Small = codes "small"
 class_name Large = codes "large"
 class_name Wide = codes "wide"
 
--- the cells of a class, how many are needed, and how many are free
+-- the cells of a class, the number of needed ones, and the number of free ones
 abbrev pub cells_text : CellClass → ℕ → ℕ → List ℕ
 cells_text c need free = class_name c ++ (codes " need " ++ (decimal need ++ (codes " free " ++ (decimal free ++ line_end))))
 
@@ -71,7 +71,7 @@ stop_line Normal = codes "stop: normal" ++ line_end
 stop_line Limit = codes "stop: limit" ++ line_end
 stop_line (Full c need free) = codes "stop: full " ++ cells_text c need free
 
--- the lines that follow the net: how many interactions there were, and how the run stopped
+-- the lines after the net: the number of interactions, and the stop
 abbrev pub run_lines : ℕ → Stop → List ℕ
 run_lines k s = codes "interactions: " ++ (decimal k ++ (line_end ++ stop_line s))
 

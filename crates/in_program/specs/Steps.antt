@@ -1,4 +1,4 @@
--- The lines of derivations: for each rule its heads' names and its steps, and at last the net's steps. They are this project's own
+-- The lines of derivations: for each rule its heads' names and its steps, and then the net's steps. They are this project's own
 -- choice.
 use Rattle.std.specs.Prelude.{ℕ, suc, List, [], ◌∷◌, ◌++◌, codes, decimal, Option, Some, None}
 use Rattle.in_symbols.specs.Names.{name_in}

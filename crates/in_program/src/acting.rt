@@ -63,7 +63,7 @@ pub fn tell<W: TextOut>(writer: &mut W, text: &[u8], status: Status) -> Status
     }
 }
 
-/// Writes lines, where they could be had.
+/// Writes lines, or the line `memory` if making them ran out of memory.
 pub(crate) fn tell_lines<W: TextOut>(
     writer: &mut W,
     lines: Result<Vec<u8>, AllocError>,
@@ -115,7 +115,7 @@ pub(crate) fn tell_outcome<W: TextOut>(alloc: Global, writer: &mut W, outcome: &
     }
 }
 
-/// Writes how many interactions a run did, and how it stopped.
+/// Writes the number of a run's interactions, and its stop.
 fn tell_count<W: TextOut>(alloc: Global, writer: &mut W, outcome: &Outcome) -> Status
     requires { (W.device writer.old).failures < 2 ^ 64 - 1 }
     ensures { TellsOne (AreThese (run_lines outcome.now.interactions outcome.now.stop) (stop_status outcome.now.stop)) (W.device writer.old) (W.device writer.new) result }
@@ -181,7 +181,7 @@ fn tell_run<T: Threads, W: TextOut, H: Watch>(
     }
 }
 
-/// Writes what an accepted program has, or by which steps it is built.
+/// Writes the counts of an accepted program, or the steps that build it.
 fn tell_found<W: TextOut>(alloc: Global, writer: &mut W, derive: bool, checked: &Checked) -> Status
     requires { (W.device writer.old).failures < 2 ^ 64 - 1 }
     ensures { TellsOne (AreFound (report_action derive) checked.now) (W.device writer.old) (W.device writer.new) result }
@@ -251,9 +251,9 @@ fn tell_reply<T: Threads, W: TextOut, H: Watch>(
 }
 
 /// Reads a program's text, writes the lines of `check` on it, or those of `derive`, and returns the status. For `check` of an accepted
-/// program they are one line with its counts, for `derive` the steps that build its rules and its net; of a refused one they
-/// are the line of the refusal. Where memory runs out they are the line `memory` alone. It makes at most 1,048,577 reads, and at most one
-/// more than it is given bytes. It waits for nobody.
+/// program they are one line with its counts, for `derive` the steps that build its rules and its net; for a refused one they are the line of the
+/// refusal. If memory runs out, they are the line `memory` alone. It makes at most 1,048,577 reads, and at most one more than it gets bytes. It waits
+/// for no other thread.
 pub fn report<R: TextIn, W: TextOut>(
     alloc: Global,
     derive: bool,
@@ -314,8 +314,8 @@ pub fn act_watched<T: Threads, R: TextIn, W: TextOut, H: Watch>(
 }
 
 /// Does the action that the words name: `check` and `derive` as `report` does. For `run` the lines on an accepted program are the net that the
-/// run reaches, the count of its interactions and how it stopped, or the line of a net that doesn't fit the cells; without its net they are the
-/// same but for the net. The rest is as there.
+/// run reaches, the count of its interactions and how it stopped, or the line of a net that doesn't fit the cells; without its net they are the same
+/// but for the net. All else is as for `report`.
 pub fn act<T: Threads + Wait, R: TextIn, W: TextOut>(
     rt: &T,
     alloc: Global,

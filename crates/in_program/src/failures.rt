@@ -13,7 +13,7 @@ pub enum Device<'a> {
     File(&'a str),
 }
 
-/// A file's name for a message: each control character is shown as U+FFFD, so that it stays on its line.
+/// A file's name for a message: each control character is shown as U+FFFD, so the name stays on its line.
 pub fn shown(alloc: Global, file: &str) -> Result<String, AllocError> {
     let mut name = String::new(alloc);
     for character in file.chars() {
@@ -26,7 +26,7 @@ pub fn shown(alloc: Global, file: &str) -> Result<String, AllocError> {
     Ok(name)
 }
 
-/// The message that an action on a device failed, and why.
+/// The message that an action on a device failed, with the reason.
 fn failure(alloc: Global, device: Device, done: &str, why: Error) -> Result<String, AllocError> {
     match device {
         Device::Input => format!(in alloc; "error: standard input can't be {done}: {why}\n"),
@@ -38,7 +38,7 @@ fn failure(alloc: Global, device: Device, done: &str, why: Error) -> Result<Stri
     }
 }
 
-/// Writes which operation on a device failed, as `read`, and why. It writes nothing if memory runs out, and a failure to write is ignored.
+/// Writes which operation on a device failed, as `read`, and the reason. It writes nothing if memory runs out, and a failure to write is ignored.
 pub fn tell_failure<E: Write>(
     alloc: Global,
     device: Device,

@@ -43,7 +43,7 @@ fn code_name(code: Code) -> &'static str
     }
 }
 
-/// The bytes of the text at a place: those of the place that there are.
+/// The bytes of the text at a place, as far as the text goes.
 fn part(text: &[u8], place: Place) -> &[u8]
     ensures { result.now ≡ slice_range text.now place.from place.to }
 {

@@ -4,25 +4,25 @@ ghost use Rattle.in_program.specs.Devices.{IsInput};
 use in_syntax::{MAX_TEXT_BYTES, TextIn};
 use std::alloc::Global;
 
-/// How reading ended.
+/// The result of reading.
 #[derive(Drop)]
 pub enum Input {
-    /// The bytes up to the end, or the first of them, of which there are more than a text has.
+    /// The bytes up to the end; or a prefix that is longer than a text may be.
     Text(Vec<u8>),
     /// A read failed.
     Failed,
-    /// There is no memory for the bytes.
+    /// Memory for the bytes ran out.
     Memory,
 }
 
-/// Reads to the end, or until more bytes came than a text has.
+/// Reads to the end, or until more bytes came than a text may have.
 pub fn read_text<R: TextIn>(alloc: Global, reader: &mut R) -> Input
     requires { (R.reader reader.old).device.failures < 2 ^ 64 - 1 }
     ensures { IsInput (R.reader reader.old) (R.reader reader.new) result }
 {
     let mut text = Vec::new(alloc);
     let mut buffer = [0u8; 4096];
-    // Each turn but the last brings a byte or more, so these are enough.
+    // Each turn but the last brings at least one byte, so these are enough.
     for _turn in 0..MAX_TEXT_BYTES + 1 {
         match reader.read(&mut buffer) {
             Err(()) => return Input::Failed,

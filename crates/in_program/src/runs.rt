@@ -15,7 +15,7 @@ fn class_name(class: CellClass) -> &'static str
     }
 }
 
-/// The lines that follow the net of a run that stopped for lack of cells.
+/// The lines after the net of a run that stopped for lack of cells.
 fn full_lines(
     alloc: Global,
     interactions: u64,
@@ -32,7 +32,7 @@ fn full_lines(
     Ok(lines.into_bytes())
 }
 
-/// The lines that follow a printed net: how many interactions there were, and how the run stopped.
+/// The lines after a printed net: the number of interactions, and the stop.
 pub fn run_lines(alloc: Global, interactions: u64, stop: Stop) -> Result<Vec<u8>, AllocError>
     ensures { IfOk result (λ lines. lines.items ≡ run_lines interactions stop) }
 {
@@ -46,7 +46,7 @@ pub fn run_lines(alloc: Global, interactions: u64, stop: Stop) -> Result<Vec<u8>
     Ok(lines.into_bytes())
 }
 
-/// The line of a net that has more agents of a class than there are cells.
+/// The line of a net with more agents of a class than cells.
 pub fn start_line(
     alloc: Global,
     class: CellClass,

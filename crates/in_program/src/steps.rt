@@ -196,7 +196,7 @@ fn add_rules(bytes: &mut Vec<u8>, alloc: Global, checked: &Checked) -> Result<()
     Ok(())
 }
 
-/// The lines of the derivations of an accepted program: rule by rule, and the net at last.
+/// The lines of the derivations of an accepted program: rule by rule, and then the net.
 pub fn derivation_lines(alloc: Global, checked: &Checked) -> Result<Vec<u8>, AllocError>
     ensures { IfOk result (λ lines. lines.items ≡ derivation_lines checked.now) }
 {

@@ -14,7 +14,7 @@ pub struct StreamIn<R> {
 }
 
 impl<R> StreamIn<R> {
-    /// The stream, which was not read yet.
+    /// A stream that was not read yet.
     pub fn new(reader: R) -> StreamIn<R>
         ensures { (result.failures ≡ 0) × (result.reads ≡ 0) }
     {
@@ -27,7 +27,7 @@ impl<R> StreamIn<R> {
         }
     }
 
-    /// Why the last read that failed did.
+    /// The reason of the last failed read.
     pub fn failure(&self) -> Option<Error> {
         self.failure
     }
@@ -62,7 +62,7 @@ pub struct StreamOut<W> {
 }
 
 impl<W> StreamOut<W> {
-    /// The stream, which hasn't failed yet.
+    /// A stream that hasn't failed yet.
     pub fn new(writer: W) -> StreamOut<W>
         ensures { result.failures ≡ 0 }
     {
@@ -73,7 +73,7 @@ impl<W> StreamOut<W> {
         }
     }
 
-    /// Why the last write that failed did.
+    /// The reason of the last failed write.
     pub fn failure(&self) -> Option<Error> {
         self.failure
     }

@@ -12,12 +12,12 @@ pub record IsAside (n m : Net ℕ) (x : Redex ℕ ℕ) (f : ℕ → ℕ) : Type 
   pub renamed : IsRenamed f n m
   pub stays : (z : ℕ) → z ≢ x.one → z ≢ x.two → f z ≡ z
 
--- new agents have different numbers, which no agent has that stays; they may have those of the pair
+-- new agents have different numbers, which no staying agent has; they may have those of the pair
 pub record IsNamingInPlace (n : Net ℕ) (x : Redex ℕ ℕ) (name : ℕ → ℕ) : Type 0 where
   pub fresh : (k s : ℕ) → x.member.symbol k ≡ Some s → (n.symbol (name k) ≡ None) ⊎ ((name k ≡ x.one) ⊎ (name k ≡ x.two))
   pub apart : (k l s t : ℕ) → x.member.symbol k ≡ Some s → x.member.symbol l ≡ Some t → name k ≡ name l → k ≡ l
 
--- .. but not those that it has aside
+-- .. but not the pair's numbers aside
 pub record IsReusing (n : Net ℕ) (x : Redex ℕ ℕ) (f name : ℕ → ℕ) : Type 0 where
   pub in_place : IsNamingInPlace n x name
   pub aside : (k s : ℕ) → x.member.symbol k ≡ Some s → (name k ≢ f x.one) × (name k ≢ f x.two)
@@ -39,6 +39,6 @@ pub record AreAlikeAside (sig : Signature) (n m : Net ℕ) (x : Redex ℕ ℕ) (
   pub back : WiresAreOfBefore n m x f
   pub naming : NumbersAreNew n m x f
 
--- so it is where no wire leads back to the pair
+-- this holds if no wire leads back to the pair
 abbrev pub PairsAsideAreAlike : Type 0
 PairsAsideAreAlike = (sig : Signature) (n m : Net ℕ) (x : Redex ℕ ℕ) (f : ℕ → ℕ) → IsNet sig n → IsRedex sig n x → NoneLeadsBack n x → IsAside n m x f → AreAlikeAside sig n m x f

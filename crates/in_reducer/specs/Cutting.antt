@@ -29,11 +29,11 @@ pub record CutsAt (m : MachineParts) (c i : ℕ) (after : MachineParts) : Type 0
 
 -- ---- a joint
 
--- where the last two free ends are joined, the net is sound. (Two ends that come from a cut are joined to a sound net: see `in_order`.)
+-- once the last two free ends are joined, the net is sound. (Two ends that come from a cut are joined to a sound net: see `in_order`.)
 abbrev pub CanJoin : MachineParts → Type 0
 CanJoin m = (w : Net ℕ) → IsJoinedOnce (net_in m) w → IsSound (system_of m.program) w
 
--- the last two free ends are joined, and are gone. Where they were led to by principal ports, their agents are a new pair, which comes last
+-- the last two free ends are joined, and are gone. If both partners are principal ports, their agents are a new pair, which comes last
 pub record JoinsLast (m after : MachineParts) : Type 0 where
   pub program : after.program ≡ m.program
   pub joined : IsJoinedOnce (net_in m) (net_in after)
@@ -44,8 +44,8 @@ pub record JoinsLast (m after : MachineParts) : Type 0 where
 
 -- ---- the law
 
--- where a wire is cut, and only interactions are done since, the two ends can be joined, and the net before the cut leads to what that makes,
--- by as many interactions
+-- if a wire was cut, and only interactions were done since, the two ends can be joined, and the net before the cut leads to the joined net, by as
+-- many interactions
 abbrev pub JointsUndoCuts : Type 0
 JointsUndoCuts = (m n o : MachineParts) (c i k : ℕ) → IsReducer m → CutsAt m c i n → o.program ≡ m.program → Leads (system_of m.program) k (net_in n) (net_in o) →
     CanJoin o × ((after : MachineParts) → JoinsLast o after → Leads (system_of m.program) k (net_in m) (net_in after))

@@ -7,7 +7,7 @@ use Rattle.in_arena.specs.declared.content.End.TheVariants.{Cell, Free}
 use Rattle.in_compile.specs.Cells.{agents_of, count_of}
 use Rattle.in_reducer.specs.Machines.{MachineParts}
 
--- it is of the same program, and of each class as many cells are free as it has agents
+-- the part is of the same program, and each class has as many free cells as the part has agents
 pub record CanAppend (m other : MachineParts) : Type 0 where
   pub program : other.program ≡ m.program
   pub room : (c : CellClass) → agents_of m.program.tables c other.agents ≤ count_of m.vacant c
@@ -18,14 +18,14 @@ in_turn [] xs = []
 in_turn (y ∷ ys) [] = []
 in_turn (y ∷ ys) (x ∷ xs) = y ∷ x ∷ in_turn ys xs
 
--- what the rest had before the cuts, and then by turns what the part and the rest have of each cut
+-- the rest's elements from before the cuts, and then, for each cut, that of the part and that of the rest
 abbrev pub glued : {X : Type 0} → ℕ → List X → List X → List X
 glued own rest part = take own rest ++ in_turn part (drop own rest)
 
--- where the end leads to a free end, it is one of the first `many`
+-- if the end leads to a free end, that is one of the first `many`
 abbrev pub IsFreeWithin : ℕ → End → Type 0
 IsFreeWithin many e = (k : ℕ) → e ≡ Free k → k < many
 
--- .. and where it leads to a cell, that is one of them
+-- .. and if it leads to a cell, that is one of them
 abbrev pub IsCellWithin : ℕ → End → Type 0
 IsCellWithin many e = (c : CellNo) (i : ℕ) → e ≡ Cell c i → c.0 < many

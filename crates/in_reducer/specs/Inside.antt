@@ -27,7 +27,7 @@ use Rattle.in_reducer.specs.Templates.{IsTemplateAt}
 abbrev cut_end : PortType → FreeEnd
 cut_end kind = record { name = []; kind = kind; end = Free 0 }
 
--- the name and type of a free end; where it leads is said elsewhere
+-- the name and type of a free end, without its partner
 abbrev pub declared_as : Program → OwnEnd → FreeEnd
 declared_as p (Named k) = slice_index_or p.net.free k (cut_end (record { kind = 0; output = false }))
 declared_as p (Cut kind) = cut_end kind
@@ -35,12 +35,12 @@ declared_as p (Cut kind) = cut_end kind
 abbrev pub own_free : Body → List FreeEnd
 own_free r = map (declared_as r.checked.now) r.free.items
 
--- a free end of the program is there
+-- a free end of the program exists
 abbrev pub IsOwnEnd : Program → OwnEnd → Type 0
 IsOwnEnd p (Named k) = k < length p.net.free
 IsOwnEnd p (Cut kind) = Unit {0}
 
--- ---- what contracts see
+-- ---- the view in contracts
 
 -- a cell that is on lease counts as free
 abbrev pub reducer_view : Body → MachineParts
@@ -52,7 +52,7 @@ reducer_view r = record {
   vacant = vacant_in (at_rest r.arena);
 }
 
--- ---- what the fields keep
+-- ---- the invariant of the fields
 
 -- the most boundary ends that a rule has
 abbrev pub most_ends : ℕ
@@ -62,7 +62,7 @@ most_ends = 32
 abbrev pub most_free : ℕ
 most_free = 65536
 
--- how many points a right member has at most: a boundary end each, and an agent each
+-- the most points of a right member: one for each boundary end and each agent
 abbrev pub most_points : ℕ
 most_points = most_ends + max_member_agents
 
@@ -74,7 +74,7 @@ pub record AreTools (x : Tools) (a : ArenaView) : Type 0 where
   pub made_room : most_ends ≤ vec_capacity x.made
   pub points : most_points ≤ length x.points.items
 
--- what is kept of the net, of whatever tools
+-- the invariant of the net, for any tools
 pub record KeepsNet (r : Body) : Type 0 where
   pub reducer : IsReducer (reducer_view r)
   pub net : IsNetIn r.checked.now.tables (at_rest r.arena)
@@ -84,12 +84,12 @@ pub record KeepsNet (r : Body) : Type 0 where
   pub ends : length r.free.items + most_ends + most_ends ≤ length r.ends.items
   pub queue : length classes * r.arena.cells + 2 * most_ends ≤ 2 * deque_capacity r.queue + 1
 
--- .. while cells may be on lease
+-- .. which holds also while cells are on lease
 pub record KeepsAll (r : Body) : Type 0 where
   pub net : KeepsNet r
   pub tools : AreTools r.tools r.arena
 
--- .. and between two calls none is
+-- .. and between two calls no cell is on lease
 pub record IsKept (r : Body) : Type 0 where
   pub all : KeepsAll r
   pub none : NoneLeased r.arena
@@ -100,7 +100,7 @@ pub record IsKept (r : Body) : Type 0 where
 abbrev pub over : ArenaView → Body → Body
 over a r = record { checked = r.checked; arena = a; free = r.free; ends = r.ends; queue = r.queue; tools = r.tools }
 
--- over that arena it was a reducer, with room for this pair, of whose template the right member is beside it now
+-- over that arena it was a reducer, with room for this pair; now the right member of the pair's template is beside it
 pub record StandsBeside (r : Body) (a : ArenaView) (i : ℕ) (p : TemplateParts) : Type 0 where
   pub net : KeepsNet (over a r)
   pub at : IsTemplateAt (reducer_view (over a r)) i p

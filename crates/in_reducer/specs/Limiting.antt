@@ -1,2 +1,2 @@
--- How many cells of each class a reducer has. This project's own choice.
+-- The most cells of each class of a reducer. This project's own choice.
 pub use Rattle.in_limits.specs.Limiting.{least_cells, most_cells}

@@ -1,4 +1,4 @@
--- What contracts see of a reducer, and of the machine around it. Lafont 1990 reduces a net by interactions of its active pairs, in any
+-- The view of a reducer, and of the machine around it. Lafont 1990 reduces a net by interactions of its active pairs, in any
 -- order; the queue of pairs and the cells are this project's own choice.
 use Rattle.std.specs.Prelude.{◌≡◌, ◌<◌, ◌+◌, ℕ, List, Option, IsSome}
 use Rattle.in_arena.specs.declared.content.CellClass.{CellClass}
@@ -16,7 +16,7 @@ use Rattle.in_check.specs.Programs.{Program}
 use Rattle.in_compile.specs.declared.cells.Need.{Need}
 use Rattle.in_compile.specs.Cells.{agents_of, count_of}
 
--- its program, the agent of each cell by number, the free ends, the active pairs in their order, and how many cells of each class are free
+-- its program, the agent of each cell by number, the free ends, the active pairs in their order, and the number of free cells of each class
 pub record MachineParts : Type 0 where
   pub program : Program
   pub agents : List (Option Cell)
@@ -32,7 +32,7 @@ parts_of m = unlisted m.agents m.free
 abbrev pub plain_of : MachineParts → PlainParts
 plain_of m = record { program = m.program; net = parts_of m }
 
--- the point that an end stands for, a cell having the number of its agent
+-- the point of an end: a cell has the number of its agent
 abbrev pub point_at : End → points.Point
 point_at (end.Cell c i) = point.Port (record { 0 = c.0 }) i
 point_at (end.Free k) = point.Free k
@@ -41,11 +41,11 @@ point_at (end.Free k) = point.Free k
 abbrev pub HasItsPairs : MachineParts → Type 0
 HasItsPairs m = IsQueueOf m.program.tables (parts_of m) m.queue
 
--- of each class it has `cells` cells, free ones and those of its agents
+-- each class has `cells` cells, free ones and those of its agents
 abbrev pub HasCells : ℕ → MachineParts → Type 0
 HasCells cells m = (c : CellClass) → count_of m.vacant c + agents_of m.program.tables c m.agents ≡ cells
 
--- .. and the other one has as many of each
+-- .. and the other one has as many of each class
 abbrev pub KeepsCellCounts : MachineParts → MachineParts → Type 0
 KeepsCellCounts m after = (c : CellClass) → count_of after.vacant c + agents_of m.program.tables c after.agents ≡ count_of m.vacant c + agents_of m.program.tables c m.agents
 

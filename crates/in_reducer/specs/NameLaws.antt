@@ -34,11 +34,11 @@ abbrev pub ReducersCanBeRenamed : Type 0
 ReducersCanBeRenamed = (m : MachineParts) (f : ℕ → ℕ) → IsReducer m →
     ((x y : ℕ) → IsSome ((net_of (parts_of m)).symbol x) → IsSome ((net_of (parts_of m)).symbol y) → f x ≡ f y → x ≡ y) → (n : MachineParts) × IsSameMachine f m n
 
--- of two reducers that are the same up to numbers, so are those that an interaction of one pair leads to
+-- the same interaction of two reducers that are the same up to numbers leads to two that are
 abbrev pub StepsKeepSame : Type 0
 StepsKeepSame = (m n o u : MachineParts) (i : ℕ) → IsReducer m → IsReducer n → AreSame m n → StepsAt m i o → StepsAt n i u → AreSame o u
 
--- .. and that runs of as many interactions lead to
+-- .. and so do runs of as many interactions
 abbrev pub RunsKeepSame : Type 0
 RunsKeepSame = (m n o u : MachineParts) (k : ℕ) → IsReducer m → IsReducer n → AreSame m n → Runs m k o → Runs n k u → AreSame o u
 

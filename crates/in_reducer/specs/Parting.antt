@@ -54,7 +54,7 @@ abbrev pub IsInPart : List CellNo → ℕ → ℕ → Point ℕ → Type 0
 IsInPart agents own cuts (Port c i) = (k : ℕ) × (slice_get agents k ≡ Some (record { 0 = c }))
 IsInPart agents own cuts (Free f) = (j : ℕ) × (j < cuts) × (f ≡ own + (j + j))
 
--- these are agents of the net, each named once, and they and the first ends of the cuts lead to each other alone
+-- these are agents of the net, each named once; they and the first ends of the cuts lead only to each other
 pub record CanSplit (m : MachineParts) (agents : List CellNo) (own cuts : ℕ) : Type 0 where
   pub many : length m.free ≡ own + (cuts + cuts)
   pub there : (k : ℕ) (c : CellNo) → slice_get agents k ≡ Some c → IsSome ((net_in m).symbol c.0)
@@ -67,7 +67,7 @@ pub record HasOthers (m : MachineParts) (agents : List CellNo) (rest : MachinePa
   pub gone : (k : ℕ) (c : CellNo) → slice_get agents k ≡ Some c → (net_in rest).symbol c.0 ≡ None
   pub others : (y : ℕ) → ((k : ℕ) → slice_get agents k ≡ Some (record { 0 = y }) → ⊥) → (net_in rest).symbol y ≡ (net_in m).symbol y
 
--- these agents are the part, which has `size` cells of each class, and theirs are free in the rest; nothing is said of queues
+-- these agents are the part, which has `size` cells of each class, and their old cells are free in the rest; queues are open
 pub record IsSplitButQueues (m : MachineParts) (agents : List CellNo) (own cuts size : ℕ) (rest part : MachineParts) : Type 0 where
   pub of_rest : HasOthers m agents rest
   pub two : IsOfTwo m rest part own cuts
@@ -85,7 +85,7 @@ pub record IsSplitOff (m : MachineParts) (agents : List CellNo) (own cuts size :
 
 -- ---- glued on
 
--- the agents of the part have taken as many free cells of each class; nothing is said of queues
+-- the agents of the part have taken as many free cells of each class; queues are open
 pub record IsGluedButQueue (rest part : MachineParts) (own cuts : ℕ) (m : MachineParts) : Type 0 where
   pub two : IsOfTwo m rest part own cuts
   pub vacant : (c : CellClass) → count_of m.vacant c + agents_of m.program.tables c part.agents ≡ count_of rest.vacant c
@@ -98,8 +98,8 @@ pub record IsGluedOn (rest part : MachineParts) (own cuts : ℕ) (m : MachinePar
 
 -- ---- reduced
 
--- k interactions lead from the net of the one to that of the other, whatever numbers their agents have; program, names of free ends and
--- numbers of cells stay
+-- k interactions lead from the net of the one to that of the other, under any numbers of their agents; program, names of free ends and numbers of
+-- cells stay
 pub record ReducesTo (m : MachineParts) (k : ℕ) (after : MachineParts) : Type 0 where
   pub program : after.program ≡ m.program
   pub leads : Leads (system_of m.program) k (net_in m) (net_in after)

@@ -11,7 +11,7 @@ use Rattle.in_reducer.specs.Parting.{IsGluedButQueue, IsSplitButQueues, ReducesT
 use Rattle.in_reducer.specs.Reducers.{IsReducer}
 use Rattle.in_reducer.specs.Steps.{StepsAt}
 
--- no interaction leads to the same, and one interaction is one
+-- a net is reduced to itself by 0 interactions, and one interaction reduces it by one
 abbrev pub StaysReduce : Type 0
 StaysReduce = (m : MachineParts) → ReducesTo m 0 m
 
@@ -37,12 +37,12 @@ pub record IsReordered (IsSame : ℕ × ℕ → ℕ × ℕ → Type 0) (queue qu
   pub once : (j k : ℕ) → j < length queue → k < length queue → place j ≡ place k → j ≡ k
   pub all : (j : ℕ) → j < length queue_too → (k : ℕ) × (k < length queue) × (place k ≡ j)
 
--- the same two agents, whichever is first. (Of two constructors, or two destructors, the one with the lower number is; a sound net has
+-- the same two agents, in either order. (Of two constructors, or two destructors, the one with the lower number is first; a sound net has
 -- no such pair)
 abbrev pub AreSameTwo : ℕ × ℕ → ℕ × ℕ → Type 0
 AreSameTwo q r = (r ≡ q) ⊎ (r ≡ (q.1, q.0))
 
--- two reducers are the same but for the numbers of their agents, and the order of their queues, where these have the active pairs, each once
+-- two reducers are the same up to the numbers of their agents and the order of their queues, if these have the active pairs, each once
 pub record DifferInNumbers (m m_too : MachineParts) : Type 0 where
   pub number : ℕ → ℕ
   pub net : IsRenamed number (net_in m) (net_in m_too)
@@ -66,7 +66,7 @@ SplitsAreAlike = (m rest part rest_too part_too : MachineParts) (agents : List C
 abbrev pub GluingsAreAlike : Type 0
 GluingsAreAlike = (rest part m m_too : MachineParts) (own cuts : ℕ) → IsGluedButQueue rest part own cuts m → IsGluedButQueue rest part own cuts m_too → DifferInNumbers m m_too
 
--- once a wire is cut, and only interactions are done since, the two ends can be joined, and the net before the cut is reduced to the result
+-- if a wire was cut, and only interactions were done since, the two ends can be joined, and the net before the cut is reduced to the result
 abbrev pub CutsAreUndone : Type 0
 CutsAreUndone = (m n o : MachineParts) (c i k : ℕ) → IsReducer m → CutsAt m c i n → ReducesTo n k o →
     CanJoin o × (2 ≤ length o.free) × ((after : MachineParts) → JoinsLast o after → ReducesTo m k after)

@@ -1,4 +1,4 @@
--- Lists whose room is taken before it is used. This project's own choice.
+-- Lists with room that was taken before it is used. This project's own choice.
 use Rattle.std.specs.Prelude.{◌≡◌, ◌≤◌, ℕ, [], vec_capacity}
 use Rattle.std.specs.declared.vec.Vec.{Vec}
 

@@ -7,7 +7,7 @@ use Rattle.in_reducer.specs.Machines.{MachineParts, parts_of}
 use Rattle.in_reducer.specs.Runs.{Runs}
 use Rattle.in_reducer.specs.Steps.{StepsAt}
 
--- the second machine is the first one under these numbers of its agents: one program, one net, one queue, as many free cells
+-- the second machine is the first one under these numbers of its agents: the same program, net, queue and number of free cells
 pub record IsSameMachine (f : ℕ → ℕ) (m n : MachineParts) : Type 0 where
   pub program : n.program ≡ m.program
   pub net : IsRenamed f (net_of (parts_of m)) (net_of (parts_of n))

@@ -1,4 +1,4 @@
--- The sides of the boundary ends of an active pair, as they are set before these are joined.
+-- The sides of the boundary ends of an active pair, which are set before these are joined.
 use Rattle.std.specs.Prelude.{◌≡◌, ◌≢◌, ◌+◌, ◌-◌, ◌<◌, ℕ, suc, cond, nat_eq, nat_lt, List, length, take, Option, Some, option_map, slice_get, slice_index_or}
 use Rattle.in_arena.specs.Arenas.{ArenaView, state_at}
 use Rattle.in_arena.specs.States.{end_at}
@@ -22,19 +22,19 @@ abbrev pub outer_of : Pair → ℕ → End → End
 outer_of p from (Cell c i) = cond (nat_eq c.0 p.one.0) (Free (from + (i - 1))) (cond (nat_eq c.0 p.other.0) (Free (from + p.first_ends + (i - 1))) (Cell c i))
 outer_of p from (Free k) = Free k
 
--- where a joint of the right member leads, whose agents have these cells; a boundary end is its inner side
+-- the end for a joint of the right member, if its agents have these cells; a boundary end is its inner side
 abbrev pub inner_of : List CellNo → ℕ → Joint → End
 inner_of ns from (ToAgent k i) = Cell (slice_index_or ns k (record { 0 = 0 })) i
 inner_of ns from (ToBoundary e) = Free (from + e)
 
--- the sides of the first x boundary ends are set, and what the net's own free ends lead to is as it was
+-- the sides of the first x boundary ends are set, and the partners of the net's own free ends are as before
 pub record AreSetBelow (p : Pair) (a : ArenaView) (joints : List Joint) (ns : List CellNo) (own many x : ℕ) (old new : List End) : Type 0 where
   pub long : length new ≡ length old
   pub first : take own new ≡ take own old
   pub outer : (e : ℕ) → e < x → slice_get new (own + e) ≡ option_map (outer_of p own) (end_there a (port_at p e))
   pub inner : (e : ℕ) → e < x → slice_get new (own + many + e) ≡ option_map (inner_of ns (own + many)) (slice_get joints e)
 
--- the port is there, and leads to no principal port of the pair
+-- the port exists, and leads to no principal port of the pair
 pub record HasPort (a : ArenaView) (p : Pair) (e : ℕ) : Type 0 where
   pub end : End
   pub stands : end_there a (port_at p e) ≡ Some end

@@ -27,7 +27,7 @@ pub record ArePickedWithRoom {X Y : Type 0} (f : X → Y) (place : ℕ → ℕ) 
   pub sides : length room ≡ most_ends + most_ends
   pub list_is : list ≡ picked ++ room
 
--- the number that a free end of the whole has in the rest (part 0) or the part (part 1), where that has `many` of them
+-- the number of a free end of the whole in the rest (part 0) or the part (part 1), which has `many` of them
 pub record AreNumbersOfTwo (own cuts i many : ℕ) (numbers : List ℕ) : Type 0 where
   pub count : length numbers ≡ own + (cuts + cuts)
   pub each : (e : ℕ) → e < many → number_in numbers (place_of_two own i e) ≡ e

@@ -1,4 +1,4 @@
--- A net in cells: its agents are what live cells hold, and its free ends lead to the ends of a list.
+-- A net in cells: its agents are in live cells, and a list has the ends to which its free ends lead.
 use Rattle.std.specs.Prelude.{◌≡◌, ◌<◌, ℕ, suc, true, List, [], ◌∷◌, length, map, Option, Some, None}
 use Rattle.in_arena.specs.Arenas.{ArenaView, NoneLeased, free_of, state_at}
 use Rattle.in_arena.specs.Changes.{HasAllCells, LeasedStay}
@@ -14,7 +14,7 @@ use Rattle.in_compile.specs.declared.cells.Need.{Need}
 use Rattle.in_compile.specs.Cells.{is_of}
 use Rattle.in_reducer.specs.Machines.{point_at}
 
--- the agent that a cell holds
+-- the agent in a cell
 abbrev pub agent_in : State → Option Cell
 agent_in Vacant = None
 agent_in Leased = None
@@ -23,7 +23,7 @@ agent_in (Live word ends) = Some (record { symbol = record { 0 = word }; ends = 
 abbrev pub agents_in : ArenaView → List (Option Cell)
 agents_in a = map agent_in a.states
 
--- free ends with these names and types, that lead to the first of these ends in turn
+-- free ends with these names and types, which lead in turn to the first of these ends
 abbrev pub leading_to : List FreeEnd → List End → List FreeEnd
 leading_to [] es = []
 leading_to (f ∷ fs) [] = []

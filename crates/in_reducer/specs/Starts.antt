@@ -1,4 +1,4 @@
--- Where a program's net is in cells.
+-- The start: a program's net in cells.
 use Rattle.std.specs.Prelude.{◌≡◌, ℕ, List, map}
 use Rattle.in_net.specs.Built.{IsOver}
 use Rattle.in_net.specs.Nets.{net_of}

@@ -1,4 +1,4 @@
--- Symbols of pairs that are read ahead of their interactions, and cells that are left free. That they are is this project's own choice.
+-- Symbols of pairs that are read ahead of their interactions, and cells that stay free: both are this project's own choice.
 use Rattle.std.specs.Prelude.{◌≡◌, ◌⊎◌, ◌+◌, ◌-◌, ◌≤◌, ℕ, [], length, Some, slice_get}
 use Rattle.in_arena.specs.declared.content.CellClass.{CellClass}
 use Rattle.in_symbols.specs.declared.symbols.SymbolNo.{SymbolNo}
@@ -9,11 +9,11 @@ use Rattle.in_reducer.specs.Machines.{MachineParts}
 use Rattle.in_reducer.specs.Steps.{NeedsAt}
 use Rattle.in_reducer.specs.Templates.{HasHeadsAt}
 
--- how many are read together
+-- the number of pairs that are read together
 abbrev pub together : ℕ
 together = 8
 
--- those from number `next` on are the symbols of the first pairs, in turn
+-- the elements from number `next` on are the symbols of the first pairs, in turn
 pub record AreAhead (m : MachineParts) (a : Ahead) : Type 0 where
   pub next : a.next ≤ together
   pub heads : (k : ℕ) (h : SymbolNo × SymbolNo) → slice_get a.heads (a.next + k) ≡ Some h → HasHeadsAt m k h
@@ -22,6 +22,6 @@ pub record AreAhead (m : MachineParts) (a : Ahead) : Type 0 where
 abbrev pub HasRoomBesides : MachineParts → ℕ → ℕ → Type 0
 HasRoomBesides m i floor = (need : Need) × NeedsAt m i need × ((c : CellClass) → floor + count_of need c ≤ count_of m.vacant c)
 
--- no pair is left, or what the last one needs isn't free with `floor` cells of each class besides
+-- no pair is left, or the cells for the last one aren't free with `floor` cells of each class besides
 abbrev pub TakesNoLast : ℕ → MachineParts → Type 0
 TakesNoLast floor m = (m.queue ≡ []) ⊎ (HasRoomBesides m (length m.queue - 1) floor → ⊥)

@@ -1,6 +1,6 @@
 -- An interaction in place, over cells: new agents are begun in cells of their own, beside the pair, and the wires of the right member are
 -- written one after another, each at its two sides. Lafont 1990: the right member takes the place of the active pair on the same boundary
--- ends. That an interaction is done so where no wire leads back to its pair is this project's own choice.
+-- ends. That an interaction is done in this way, if no wire leads back to its pair, is this project's own choice.
 use Rattle.std.specs.Prelude.{◌≡◌, ◌≢◌, ◌⊎◌, IsTrue, ◌↔◌, ◌≤◌, ◌<◌, ◌+◌, ◌-◌, ◌++◌, ℕ, suc, Bool, cond, List, [], ◌∷◌, length, map, take, slice_get, slice_index_or, Some, None}
 use Rattle.in_arena.specs.Arenas.{ArenaView, changed, free_of, state_at}
 use Rattle.in_arena.specs.Changes.{AreListedOnce, HasAllCells, UnlistedStay}
@@ -37,8 +37,8 @@ use Rattle.in_reducer.specs.Interacting.{PairSetting, IsAbout, interaction_of}
 
 -- ---- the new agents
 
--- each agent has a cell of its own, one of its class that held none; it is live there with its symbol and its places, and what these lead to
--- is open. All other cells are as they were
+-- each agent has a cell of its own, of its class, which held no agent; it is live there with its symbol and its places, whose ends are open. All
+-- other cells are as they were
 pub record HasBegun (m : MemberParts) (ns : List CellNo) (old new : ArenaView) : Type 0 where
   pub count : length ns ≡ length m.agents
   pub each : (k : ℕ) (a : AgentParts) (n : CellNo) → slice_get m.agents k ≡ Some a → slice_get ns k ≡ Some n
@@ -49,7 +49,7 @@ pub record HasBegun (m : MemberParts) (ns : List CellNo) (old new : ArenaView) :
   pub cells : new.cells ≡ old.cells
   pub many : length new.states ≡ length old.states
 
--- of each class enough cells are free, and there are points for all agents, which are few
+-- each class has enough free cells, and there are points for all agents, which are few
 pub record CanBegin (m : MemberParts) (a : ArenaView) (points : List End) : Type 0 where
   pub all : HasAllCells a
   pub free : IsEnough (count_of m.need) (free_of a)
@@ -66,7 +66,7 @@ HasBegunBelow m old x now points = (ns : List CellNo) × AreBegunBelow m old x n
 
 -- ---- the wires that are written
 
--- where a wire of the right member that has this point ends in the net after the interaction
+-- the end, in the net after the interaction, of a wire of the right member with this point
 abbrev pub IsSideOf : Tables → Interaction → Point ℕ → Point ℕ → Type 0
 IsSideOf t x = IsSideAt (signature_of t) (before x) (redex_of x) x.name
 
@@ -74,8 +74,8 @@ IsSideOf t x = IsSideAt (signature_of t) (before x) (redex_of x) x.name
 abbrev pub IsSideAfter : Tables → Interaction → Point ℕ → Type 0
 IsSideAfter t x = IsSide (signature_of t) (before x) (redex_of x) x.name
 
--- the cells hold the net's agents but for the pair, and the new ones. Of the first k of these wires both sides lead to each other; each other
--- point of the net before leads where it led, but for the pair's ports and the sides of the other wires, of which nothing is said
+-- the cells hold the new agents and the net's agents without the pair. Both sides of each of the first k wires lead to each other. Each other point
+-- of the net before leads where it led; the pair's ports and the sides of the other wires are open
 pub record AreFirstWired (t : Tables) (x : Interaction) (own : ℕ) (wires : List (Point ℕ × Point ℕ)) (k : ℕ) (a : ArenaView) (ends : List End) : Type 0 where
   pub can : CanOverwriteAt t x.net x.rule x.one x.two x.name
   pub all : AreAllWiresOf (redex_of x).member wires
@@ -92,7 +92,7 @@ pub record AreFirstWired (t : Tables) (x : Interaction) (own : ℕ) (wires : Lis
 abbrev pub HasQueued : Tables → Interaction → List (ℕ × Point ℕ) → ℕ → List (ℕ × ℕ) → List (ℕ × ℕ) → Type 0
 HasQueued t x over k old new = (qs : List (AgentNo × AgentNo)) × MakeInTurn t x.net x.rule x.one x.two x.name (take k over) qs × (new ≡ old ++ map numbers_of qs)
 
--- ---- where the sides are read
+-- ---- reading the sides
 
 -- the wires of a member, by their points: those with boundary ends first
 abbrev pub wires_of : MemberParts → List (Point ℕ × Point ℕ)
@@ -102,7 +102,7 @@ wires_of m = in_two_parts (map over_point (over_of m)) (map both_points (within_
 abbrev pub IsAtPlace : End → ℕ → End → Type 0
 IsAtPlace x place y = ((place ≡ 0) × (y ≡ x)) ⊎ ((c : CellNo) × (x ≡ Cell c 0) × (y ≡ Cell c place))
 
--- both are live, and have as many auxiliary ports as these boundary ends are, those of the first one first; and there are points for them
+-- both are live, and their auxiliary ports are these boundary ends, those of the first one first; and there are points for them
 pub record CanRead (a : ArenaView) (p : Pair) (many : ℕ) (points : List End) : Type 0 where
   pub one : IsLive (state_at a p.one.0)
   pub other : IsLive (state_at a p.other.0)
@@ -119,13 +119,14 @@ pub record HasPortsFor (a : ArenaView) (c : CellNo) (first to points : ℕ) : Ty
   pub ports : to < first + places (state_at a c.0)
   pub room : to ≤ points
 
--- the points from `first` to before `to` have what the agent's auxiliary ports lead to, in their order. All other points are as they were
+-- the points from `first` to before `to` have the partners of the agent's auxiliary ports, in their order. All other points are as they were
 pub record HasPortsIn (a : ArenaView) (c : CellNo) (first to : ℕ) (old new : List End) : Type 0 where
   pub read : (e : ℕ) → first ≤ e → e < to → slice_get new e ≡ end_at (state_at a c.0) (suc (e - first))
   pub others : (k : ℕ) → (k < first) ⊎ (to ≤ k) → slice_get new k ≡ slice_get old k
   pub long : length new ≡ length old
 
--- the pair of two principal ports is added, the second one's agent first where the first one is an input. Nothing is added if one of them isn't one
+-- the pair of two principal ports is added, the second one's agent first if the first one is an input. Nothing is added if one of them is no
+-- principal port
 abbrev pub AddsInOrder : Bool → End → End → List (ℕ × ℕ) → List (ℕ × ℕ) → Type 0
 AddsInOrder input x y old new =
     (IsNoPair x y × (new ≡ old)) ⊎ ((c : ℕ) × (d : ℕ) × IsPrincipal c x × IsPrincipal d y × (new ≡ old ++ cond input (d, c) (c, d) ∷ []))
@@ -149,7 +150,7 @@ pub record IsWiring (t : Tables) (s : PairSetting) (p : TemplateParts) (own : �
 abbrev pub AreOwnPairs : List CellNo → MemberParts → Type 0
 AreOwnPairs ns m = (k : ℕ) (q : ℕ × ℕ) → slice_get m.pairs k ≡ Some q → (q.0 < length ns) × (q.1 < length ns)
 
--- the cells show a net of which this is a pair, of this template, and neither of its symbols is marked; and the agents can be begun
+-- the cells show a net with this pair, which is of this template; neither of its symbols is marked; and the agents can be begun
 pub record CanWireUp (t : Tables) (p : TemplateParts) (pair : Pair) (a : ArenaView) (ends points : List End) : Type 0 where
   pub about : (s : PairSetting) × (own : ℕ) × IsAbout t s p pair own a ends
   pub unmarked : IsTrue p.unmarked
@@ -164,7 +165,7 @@ retired p a = changed (changed a p.one.0 Vacant) p.other.0 Vacant
 abbrev pub AreLive : Pair → ArenaView → Type 0
 AreLive p a = IsLive (state_at a p.one.0) × IsLive (state_at (changed a p.one.0 Vacant) p.other.0)
 
--- the agents were begun beside the pair, which was retired then, and all wires are written, whatever net it is about
+-- the agents were begun beside the pair, the pair was retired, and all wires are written, for any net
 pub record IsWiredUp (t : Tables) (p : TemplateParts) (pair : Pair) (old : ArenaView) (old_ends : List End) (old_queue : List (ℕ × ℕ)) (new : ArenaView) (new_ends points : List End) (new_queue : List (ℕ × ℕ)) : Type 0 where
   pub cells : List CellNo
   pub middle : ArenaView
@@ -177,7 +178,7 @@ pub record IsWiredUp (t : Tables) (p : TemplateParts) (pair : Pair) (old : Arena
 
 -- ---- .. in the cells of the pair
 
--- a net with the same agents and wires, but for the numbers of the pair, which no cell has
+-- a net with the same agents and wires, in which the pair has numbers that no cell has
 pub record IsSetAside (t : Tables) (s : PairSetting) (a : ArenaView) (n : Parts) (f : ℕ → ℕ) : Type 0 where
   pub aside : IsAside (net_of s.net) (net_of n) (redex_at s.rule s.one.0 s.two.0) f
   pub net : IsNet (signature_of t) (net_of n)
@@ -190,8 +191,8 @@ pub record IsSetAside (t : Tables) (s : PairSetting) (a : ArenaView) (n : Parts)
 abbrev pub aside_of : PairSetting → Parts → (ℕ → ℕ) → PairSetting
 aside_of s n f = record { net = n; rule = s.rule; one = record { 0 = f s.one.0 }; two = record { 0 = f s.two.0 } }
 
--- the cells show a net of which this is a pair, of this template, and neither of its symbols is marked; the pair can be set aside; and the
--- agents can be begun
+-- the cells show a net with this pair, which is of this template; neither of its symbols is marked; the pair can be set aside; and the agents can be
+-- begun
 pub record CanWireAnew (t : Tables) (p : TemplateParts) (pair : Pair) (a : ArenaView) (ends points : List End) : Type 0 where
   pub setting : PairSetting
   pub own : ℕ
@@ -201,7 +202,7 @@ pub record CanWireAnew (t : Tables) (p : TemplateParts) (pair : Pair) (a : Arena
   pub begin : CanBegin p.member a points
   pub few : length p.member.joints ≤ most_ends
 
--- the pair was retired, the agents were begun then, and all wires are written, whatever net it is about and wherever the pair is set aside
+-- the pair was retired, then the agents were begun, and all wires are written, for any net and any numbers of the pair aside
 pub record IsWiredAnew (t : Tables) (p : TemplateParts) (pair : Pair) (old : ArenaView) (old_ends : List End) (old_queue : List (ℕ × ℕ)) (new : ArenaView) (new_ends points : List End) (new_queue : List (ℕ × ℕ)) : Type 0 where
   pub cells : List CellNo
   pub middle : ArenaView

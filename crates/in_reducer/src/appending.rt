@@ -11,7 +11,7 @@ use crate::limits::MOST_ENDS;
 use in_arena::{CellNo, EndWord};
 use std::collections::VecDeque;
 
-/// The pairs of a queue at the end of another, their agents under these numbers. No memory is taken.
+/// Adds the pairs of a queue to the end of another, their agents under these numbers. No memory is taken.
 pub(crate) fn add_pairs(
     pairs: &VecDeque<(u32, u32)>,
     names: &[CellNo],
@@ -28,7 +28,7 @@ pub(crate) fn add_pairs(
     }
 }
 
-/// Free ends at the end of others. No memory is taken.
+/// Adds free ends to the end of others. No memory is taken.
 pub(crate) fn add_free(more: &[OwnEnd], free: &mut Vec<OwnEnd>)
     requires room { vec_len free.old + length more.now ≤ vec_capacity free.old }
     ensures items { free.new.items ≡ free.old.items ++ more.now }
@@ -39,7 +39,7 @@ pub(crate) fn add_free(more: &[OwnEnd], free: &mut Vec<OwnEnd>)
     }
 }
 
-/// Room for the sides of boundary ends, after what the free ends lead to. No memory is taken.
+/// Adds room for the sides of boundary ends, after the partners of the free ends. No memory is taken.
 pub(crate) fn add_sides(ends: &mut Vec<EndWord>)
     requires room { vec_len ends.old + most_ends + most_ends ≤ vec_capacity ends.old }
     ensures items { (room : List Target) × (length room ≡ most_ends + most_ends) × (ends.new.items ≡ ends.old.items ++ room) }

@@ -13,7 +13,7 @@ pub(crate) enum OwnEnd {
 }
 
 /// The parts of a reducer. `ends` has the partner of each free end at its number, and then room for the sides of the boundary ends of a pair.
-/// Cells of the arena may be on lease, so it has no invariant: each call says what it requires and keeps.
+/// Cells of the arena may be on lease, so it has no invariant: the contract of each call has its own conditions.
 pub struct Body<'a> {
     pub(crate) checked: &'a Checked,
     pub arena: Arena,

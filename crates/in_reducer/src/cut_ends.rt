@@ -13,14 +13,14 @@ pub(crate) struct Cuts {
 }
 
 impl Cuts {
-    /// How many free ends the net has.
+    /// The number of the net's free ends.
     pub(crate) fn ends(self) -> u32
         ensures { result ≡ self.own + (self.count + self.count) }
     {
         self.own + 2 * self.count
     }
 
-    /// .. and how many the rest has.
+    /// .. and of the rest's.
     pub(crate) fn rest_ends(self) -> u32
         ensures { result ≡ self.own + self.count }
     {

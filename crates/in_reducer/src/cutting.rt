@@ -21,7 +21,7 @@ fn opposite_of(kind: PortType) -> PortType
     }
 }
 
-/// Room for two free ends more. Both lists stay as they are.
+/// Takes room for two free ends more. Both lists keep their elements.
 fn make_room(free: &mut Vec<OwnEnd>, ends: &mut Vec<EndWord>) -> Result<(), AllocError>
     ensures free { free.new.items ≡ free.old.items }
     ensures ends { ends.new.items ≡ ends.old.items }
@@ -33,9 +33,8 @@ fn make_room(free: &mut Vec<OwnEnd>, ends: &mut Vec<EndWord>) -> Result<(), Allo
 }
 
 impl<'a> Reducer<'a> {
-    /// Cuts the wire at a place of an agent, which is to be there and no active pair: its two points are at new free ends, which come last and
-    /// have no names, but types that fit. There are at most 65,536 free ends. Refused only when out of memory, and then the reducer is as it
-    /// was.
+    /// Cuts the wire at a place of an agent: it must exist, and its wire be no active pair. The two points are then at new free ends, which come last
+    /// and have no names, but types that fit. There are at most 65,536 free ends. Refused only when out of memory, and then the reducer is as it was.
     pub fn cut(&mut self, cell: CellNo, place: u8) -> Result<(), AllocError>
         requires can { CanCut self.old cell.0 place }
         requires few { length self.old.free + 2 ≤ most_free }

@@ -16,15 +16,15 @@ use in_net::MAX_MEMBER_AGENTS;
 use std::alloc::{AllocError, Global};
 use std::collections::VecDeque;
 
-/// Cells without agents, with what interactions use, and a queue with room for all pairs of agents in these cells and for those that an
-/// interaction makes.
+/// Cells without agents, the tools of interactions, and a queue with room for all pairs of agents in these cells and for those that an interaction
+/// makes.
 pub(crate) struct Fresh {
     pub(crate) arena: Arena,
     pub(crate) tools: Tools,
     pub(crate) queue: VecDeque<(u32, u32)>,
 }
 
-// By hand, since an arena may go only where none of its cells is on lease.
+// By hand, since an arena may be dropped only while none of its cells is on lease.
 impl Drop for Fresh {
     fn drop(self)
         requires { NoneLeased self.arena }

@@ -91,7 +91,7 @@ fn list_live(arena: &Arena, cells: &mut Vec<CellNo>)
     }
 }
 
-/// Free ends of the part and of the rest by turns, at the end of others. No memory is taken.
+/// Adds the free ends of the part and of the rest, by turns, to the end of others. No memory is taken.
 fn add_free_in_turn(part: &[OwnEnd], rest: &[OwnEnd], free: &mut Vec<OwnEnd>)
     requires many { length rest.now ≡ length part.now }
     requires room { vec_len free.old + length part.now + length rest.now ≤ vec_capacity free.old }
@@ -135,10 +135,10 @@ fn glue_ends(halves: &Halves, ends: &mut Vec<EndWord>)
 }
 
 impl<'a> Reducer<'a> {
-    /// Glues a part on, which has as many free ends as there were cuts when it was split off: these alternate with the rest's ends of the cuts,
-    /// so that the two ends of a cut are side by side again, the last ones last, and `join_last` undoes the cuts. Of each class as many cells
-    /// have to be free as the part has agents. The new numbers of the part's cells are written in `names`, which is as long as there are
-    /// numbers in an arena of as many cells as the seam is for. It takes no memory: the seam has all else.
+    /// Glues on a part that has as many free ends as there were cuts when it was split off. These alternate with the rest's ends of the cuts, so the
+    /// two ends of a cut are side by side again, the last ones last, and `join_last` undoes the cuts. Each class must have as many free cells as the
+    /// part has agents. The new numbers of the part's cells are written in `names`, which has a place for each number in an arena of as many cells as
+    /// the seam is for. It takes no memory: the seam has all else.
     pub fn glue_on(&mut self, part: &Reducer, seam: Seam, names: &mut [CellNo])
         requires can { CanAppend self.old part.now }
         requires fewer { length part.now.free ≤ length self.old.free }

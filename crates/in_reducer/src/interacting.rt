@@ -1,4 +1,4 @@
-// One interaction, over cells, of a pair whose right member is beside it.
+// One interaction, over cells, of a pair beside its right member.
 ghost use Rattle.std.specs.Prelude.{◌≡◌, ◌≤◌, ◌+◌, length, vec_capacity};
 ghost use Rattle.in_reducer.specs.Inside.{most_ends};
 ghost use Rattle.in_reducer.specs.Interacting.{PairSetting, HasBeside, IsInteracted};
@@ -9,7 +9,7 @@ use in_arena::{Arena, EndWord};
 use in_cells::join_all;
 use in_symbols::Symbols;
 
-/// The interaction of a pair whose right member is beside it. Wires may lead back to the pair. The sides of the boundary ends are set, the pair's
+/// Does the interaction of a pair beside its right member. Wires may lead back to the pair. The sides of the boundary ends are set, the pair's
 /// cells are freed, and the ends are joined one after another, by their present sides. It takes no memory, and other cells may be on lease.
 pub(crate) fn interact(
     symbols: &Symbols,

@@ -10,7 +10,7 @@ pub fn reducers_as_promised()
     ensures { ReducersAsPromised }
 {}
 
-/// An interaction of a reducer leaves a reducer, and makes a run one interaction longer, however the new agents are numbered.
+/// An interaction of a reducer leaves a reducer, and makes a run one interaction longer, under any numbers of the new agents.
 pub fn steps_keep_reducers()
     ensures { StepsKeepReducers }
 {}
@@ -20,13 +20,13 @@ pub fn starts_are_reducers()
     ensures { StartsAreReducers }
 {}
 
-/// Where a wire is cut, and only interactions are done since, the two ends can be joined again, and the net before the cut leads to what that
-/// makes, by as many interactions: so `join_last` may be called, and the count stays right.
+/// If a wire was cut, and only interactions were done since, the two ends can be joined again, and the net before the cut leads to the joined net, by
+/// as many interactions: so `join_last` may be called, and the count stays right.
 pub fn joints_undo_cuts()
     ensures { JointsUndoCuts }
 {}
 
-/// A net is reduced to itself by no interaction.
+/// A net is reduced to itself by 0 interactions.
 pub fn stays_reduce()
     ensures { StaysReduce }
 {}
@@ -41,24 +41,24 @@ pub fn reductions_go_on()
     ensures { ReductionsGoOn }
 {}
 
-/// Where a part is split off, both are reduced each by itself, and the part is glued on again, the whole is reduced by both counts together.
+/// If a part is split off, both are reduced by themselves, and the part is glued on again, the whole is reduced by both counts together.
 pub fn parts_reduce_the_whole()
     ensures { PartsReduceTheWhole }
 {}
 
-/// The net, the agents and the cuts determine the part that is split off and the rest, but for the numbers of the part's agents and the order
-/// of the queues.
+/// The net, the agents and the cuts determine the part that is split off and the rest, up to the numbers of the part's agents and the order of the
+/// queues.
 pub fn splits_are_alike()
     ensures { SplitsAreAlike }
 {}
 
-/// The rest, the part and the cuts determine the glued net, but for the numbers of its agents and the order of the queue.
+/// The rest, the part and the cuts determine the glued net, up to the numbers of its agents and the order of the queue.
 pub fn gluings_are_alike()
     ensures { GluingsAreAlike }
 {}
 
-/// Where a wire is cut, and only interactions are done since, the two ends can be joined again, and the net before the cut is reduced to what
-/// that makes, by as many interactions.
+/// If a wire was cut, and only interactions were done since, the two ends can be joined again, and the net before the cut is reduced to the joined
+/// net, by as many interactions.
 pub fn cuts_are_undone()
     ensures { CutsAreUndone }
 {}

@@ -22,7 +22,7 @@ impl<'a> Reducer<'a> {
         self.body.checked
     }
 
-    /// How many active pairs are left.
+    /// The number of active pairs left.
     pub fn pairs(&self) -> u32
         ensures count { result ≡ length self.now.queue }
         ensures reducer { IsReducer self.now }
@@ -40,14 +40,14 @@ impl<'a> Reducer<'a> {
         (CellNo(one), CellNo(other))
     }
 
-    /// How many cells of this class are free.
+    /// The number of free cells of this class.
     pub fn free(&self, class: CellClass) -> u32
         ensures { result ≡ count_of self.now.vacant class }
     {
         self.body.arena.free_count(class)
     }
 
-    /// How many cells of each class are free.
+    /// The number of free cells of each class.
     pub fn vacant(&self) -> Need
         ensures { result ≡ self.now.vacant }
     {
@@ -62,7 +62,7 @@ impl<'a> Reducer<'a> {
         self.vacant().least()
     }
 
-    /// How many numbers there are for agents: those of all cells, whether free or not.
+    /// The count of numbers for agents: those of all cells, free or not.
     pub fn numbers(&self) -> u32
         ensures { result ≡ length self.now.agents }
     {
@@ -77,7 +77,7 @@ impl<'a> Reducer<'a> {
         self.body.arena.bound()
     }
 
-    /// How many agents there are.
+    /// The number of agents.
     pub fn agents(&self) -> u32
         ensures { result ≡ count_by is_some self.now.agents }
     {
@@ -99,7 +99,7 @@ impl<'a> Reducer<'a> {
         }
     }
 
-    /// How many auxiliary ports an agent has.
+    /// The number of an agent's auxiliary ports.
     pub fn arity(&self, cell: CellNo) -> u8
         requires { IsSome (symbol_in (parts_of self.now) cell.0) }
         ensures { option_map (λ s. arity_of self.now.program.tables s.0) (symbol_in (parts_of self.now) cell.0) ≡ Some result }
@@ -115,7 +115,7 @@ impl<'a> Reducer<'a> {
         self.body.symbol(cell)
     }
 
-    /// How many free ends the net has.
+    /// The number of the net's free ends.
     pub fn free_ends(&self) -> u32
         ensures { result ≡ length self.now.free }
     {

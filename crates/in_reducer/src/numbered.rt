@@ -5,7 +5,7 @@ ghost use Rattle.in_cells.specs.Copying.{moved_end, number_in};
 
 use in_arena::{End, EndWord};
 
-/// The end that leads to what this one does, where free ends have these numbers and cells keep theirs.
+/// The end that leads to the same point, if free ends have these numbers and cells keep theirs.
 pub(crate) fn numbered_end(numbers: &[u32], end: EndWord) -> EndWord
     requires { (k : ℕ) → end ≡ Free k → k < length numbers.now }
     ensures { result ≡ moved_end (λ z. z) (number_in numbers.now) end }

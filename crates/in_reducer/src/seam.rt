@@ -10,8 +10,8 @@ use crate::limits::MOST_ENDS;
 use in_arena::{CellClass, CellNo, EndWord};
 use std::alloc::{AllocError, Global};
 
-/// All memory that gluing a part on takes, besides the list of new numbers that is lent to it, so that it can't be refused then: for a net of at
-/// most `most` free ends afterwards, and a part with at most `cells` cells of each class.
+/// All memory for gluing a part on, besides the list of new numbers that is lent to it, so gluing can't be refused: for a net of at most `most` free
+/// ends afterwards, and a part with at most `cells` cells of each class.
 #[derive(Drop)]
 pub struct Seam {
     pub(crate) most: u32,

@@ -8,7 +8,7 @@ ghost use Rattle.in_reducer.specs.Sides.{port_at, end_there, outer_of, inner_of,
 use in_arena::{Arena, CellNo, End, EndWord};
 use in_compile::{Joint, Placed, Template};
 
-/// Two agents that interact, the one whose ports are the first boundary ends, and how many these are.
+/// Two agents that interact, the one with the first boundary ends, and the number of these.
 #[derive(Clone, Copy)]
 pub(crate) struct Pair {
     pub(crate) one: CellNo,
@@ -16,7 +16,7 @@ pub(crate) struct Pair {
     pub(crate) first_ends: u8,
 }
 
-/// The next interaction: the pair, the template of its rule, the cells of the right member beside it, and how many free ends the net has.
+/// The next interaction: the pair, the template of its rule, the cells of the right member beside it, and the number of the net's free ends.
 #[derive(Clone, Copy)]
 pub(crate) struct PlacedPair<'b> {
     pub(crate) pair: Pair,
@@ -62,7 +62,7 @@ impl Pair {
     }
 }
 
-/// Where a joint of the right member leads, whose agents have these cells.
+/// The end for a joint of the right member, if its agents have these cells.
 #[inline(always)]
 pub(crate) fn inner(placed: &Placed, from: u32, joint: Joint) -> End
     requires from { from < 2 ^ 31 }

@@ -112,7 +112,7 @@ fn split_lists(alloc: Global, cuts: Cuts) -> Result<SplitLists, AllocError>
     Ok(SplitLists { rest, part })
 }
 
-/// All that is taken, for a part with `cells` cells of each class.
+/// Takes all memory for a part with `cells` cells of each class.
 fn take_room(alloc: Global, cuts: Cuts, cells: u32) -> Result<PartRoom, AllocError>
     requires { cells ≤ most_cells }
     ensures lists { IfOk result (λ r. AreListsFor cuts.own cuts.count r.lists) }
@@ -123,7 +123,7 @@ fn take_room(alloc: Global, cuts: Cuts, cells: u32) -> Result<PartRoom, AllocErr
     Ok(PartRoom { lists, fresh })
 }
 
-/// Fills the lists of the rest, whose agents keep their numbers. No memory is taken.
+/// Fills the lists of the rest: its agents keep their numbers. No memory is taken.
 fn fill_rest(whole: &Whole, rest: &mut EndLists)
     requires room { HasRoomForEnds (whole.now.cuts.own + whole.now.cuts.count) rest.old }
     requires within { (k n : ℕ) → slice_get whole.now.ends.now k ≡ Some (end.Free n) → n < length rest.old.numbers.items }
@@ -139,7 +139,7 @@ fn fill_rest(whole: &Whole, rest: &mut EndLists)
     add_sides(&mut rest.ends);
 }
 
-/// Fills those of the part, whose agents have these numbers. No memory is taken.
+/// Fills the lists of the part: its agents have these numbers. No memory is taken.
 fn fill_part(whole: &Whole, names: &[CellNo], part: &mut EndLists)
     requires room { HasRoomForEnds whole.now.cuts.count part.old }
     requires within { (k : ℕ) (e : Target) → slice_get whole.now.ends.now k ≡ Some e → IsEndWithin (length names.now) (length part.old.numbers.items) e }
@@ -154,7 +154,7 @@ fn fill_part(whole: &Whole, names: &[CellNo], part: &mut EndLists)
     add_sides(&mut part.ends);
 }
 
-/// The pairs whose agents were taken out of the arena go to the part's queue, under the numbers that these have there; both keep their order.
+/// Moves the pairs of agents that were taken out of the arena to the part's queue, under the new numbers of these agents; both queues keep their order.
 fn split_queue(
     arena: &Arena,
     names: &[CellNo],
@@ -183,10 +183,10 @@ fn split_queue(
 }
 
 impl<'a> Reducer<'a> {
-    /// Splits these agents off, as a reducer by itself with `cells` cells of each class, which shares nothing with the rest. They and the first
-    /// ends of `cuts` cuts, which came after `own` free ends, are to lead to each other alone, so that both agents of a pair go or stay. The
-    /// part has the first ends of the cuts, in their order, and the rest the others. The new numbers of the agents are written in `names`, which
-    /// is long enough for the number of each agent. Refused only when out of memory, and then the reducer is as it was.
+    /// Splits these agents off, as a reducer by itself with `cells` cells of each class, which shares nothing with the rest. They and the first ends
+    /// of `cuts` cuts, which came after `own` free ends, must lead only to each other, so both agents of a pair go or stay. The part has the first
+    /// ends of the cuts, in their order, and the rest the others. The new numbers of the agents are written in `names`, which is long enough for the
+    /// number of each agent. Refused only when out of memory, and then the reducer is as it was.
     pub fn split_off(
         &mut self,
         alloc: Global,

@@ -24,7 +24,7 @@ use in_compile::{Member, Placed, Templates};
 use in_net::Net;
 use std::alloc::{AllocError, Global};
 
-/// Places the program's net in an arena whose cells are free. Refused only when out of memory, and then the arena is as it was.
+/// Places the program's net in free cells of an arena. Refused only when out of memory, and then the arena is as it was.
 fn place_start(alloc: Global, start: &Member, arena: &mut Arena) -> Result<Placed, AllocError>
     requires { IsEnough (count_of start.now.need) (free_of arena.old) }
     ensures put { IfOk result (λ p. IsPut start.now p.cells arena.old arena.new) }
@@ -48,7 +48,7 @@ fn free_ends(alloc: Global, net: &Net) -> Result<Vec<OwnEnd>, AllocError>
     Ok(free)
 }
 
-/// Lays the program's net in fresh cells, and queues its pairs. Returns what its free ends lead to, and after that room for the sides of boundary
+/// Lays the program's net in fresh cells, and queues its pairs. Returns the partners of its free ends, and after them room for the sides of boundary
 /// ends. Refused only when out of memory, and then the arena is as it was.
 fn lay(alloc: Global, start: &Member, fresh: &mut Fresh) -> Result<Vec<EndWord>, AllocError>
     requires { CanLay start.now fresh.old }
@@ -66,7 +66,7 @@ fn lay(alloc: Global, start: &Member, fresh: &mut Fresh) -> Result<Vec<EndWord>,
 }
 
 impl<'a> Reducer<'a> {
-    /// A reducer with `cells` cells of each class, at the program's net, which has to fit: of each class it has no more agents than cells.
+    /// A reducer with `cells` cells of each class, at the program's net, which must fit: no class has more agents than cells.
     /// Its pairs are queued in the order of the places of their wires, which is this project's own choice, as are the sizes of cells. The
     /// templates are those of the program. Refused only when out of memory; no other call takes memory.
     pub fn new(

@@ -1,4 +1,4 @@
-// An interaction whose right member a worker placed.
+// An interaction with a right member that a worker placed.
 ghost use Rattle.std.specs.Prelude.{◌≡◌, ◌<◌, length};
 ghost use Rattle.in_arena.specs.Bags.{IsBagOf};
 ghost use Rattle.in_reducer.specs.Inside.{KeepsAll, reducer_view};
@@ -11,8 +11,8 @@ use in_compile::PlacedTemplate;
 use std::mem;
 
 impl<'a> Body<'a> {
-    /// The interaction of the first pair, whose template is placed in cells on lease from the arena: these are live from then on, and joined
-    /// to the present partners of the pair's ports. Other cells may be on lease, and stay so. It takes no memory.
+    /// Does the interaction of the first pair. Its template is placed in cells on lease from the arena: these are live from then on, and joined to
+    /// the present partners of the pair's ports. Other cells may be on lease, and stay so. It takes no memory.
     pub fn stitch(&mut self, done: PlacedTemplate)
         requires all { KeepsAll self.old }
         requires pair { 0 < length self.old.queue.items }

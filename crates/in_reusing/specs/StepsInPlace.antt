@@ -1,4 +1,4 @@
--- One interaction of a machine in place, word for word as it can be seen there, its new agents under numbers that may be the pair's.
+-- One interaction of a machine in place: its new agents may have the pair's numbers.
 use Rattle.std.specs.Prelude.{◌≡◌, ◌⊎◌, ◌+◌, ℕ, List, ◌++◌, map, Some, None, slice_get, remove}
 use Rattle.in_arena.specs.declared.content.CellClass.{CellClass}
 use Rattle.in_net.specs.declared.nets.AgentNo.{AgentNo}
@@ -18,8 +18,8 @@ use Rattle.in_reducer.specs.Same.{AreSame, StepsUpToNumbers}
 pub use Rattle.in_reducer.specs.Aside.{IsNamingInPlace}
 use Rattle.in_reusing.specs.InPlace.{IsOverwrittenInPlace}
 
--- the interaction of the active pair of that number by its rule, where no wire leads back to the pair: partners are overwritten, and the
--- right member's wires make the new pairs in turn
+-- the interaction of the active pair of that number by its rule, if no wire leads back to the pair: partners are overwritten, and the right member's
+-- wires make the new pairs in turn
 pub record StepsInPlace (m : MachineParts) (i : ℕ) (o : MachineParts) : Type 0 where
   pub pair : ℕ × ℕ
   pub stands : slice_get m.queue i ≡ Some pair

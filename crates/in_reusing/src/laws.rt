@@ -11,18 +11,18 @@ pub fn pairs_aside_are_alike()
     ensures { PairsAsideAreAlike }
 {}
 
-/// What overwrites partners in the net itself, its new agents under any numbers that no other agent has, those of the pair among them, is the
-/// interaction of the net in which the pair has other numbers.
+/// Overwriting partners in the net itself, with new agents under any numbers that no other agent has (the pair's are allowed), is an interaction of
+/// the net in which the pair has other numbers.
 pub fn reuse_is_a_step()
     ensures { InPlaceIsAStep }
 {}
 
-/// There is a net that is so overwritten.
+/// There is a net that is overwritten in this way.
 pub fn reuse_exists()
     ensures { InPlaceExists }
 {}
 
-/// There is one such net.
+/// There is only one such net.
 pub fn reuse_is_one()
     ensures { InPlaceIsOne }
 {}
@@ -37,12 +37,12 @@ pub fn steps_in_place_are_same()
     ensures { StepsInPlaceAreSame }
 {}
 
-/// In a sound net of a sound system no wire leads back to an active pair whose two symbols are both unmarked.
+/// In a sound net of a sound system no wire leads back to an active pair without a marked symbol.
 pub fn unmarked_pairs_of_sound_nets_are_apart()
     ensures { UnmarkedPairsOfSoundNetsAreApart }
 {}
 
-/// So none does to such a pair of a reducer.
+/// So none leads back to such a pair of a reducer.
 pub fn unmarked_lead_none_back()
     ensures { UnmarkedLeadNoneBack }
 {}

@@ -1,4 +1,4 @@
-//! Interactions in place, whose new agents may have the numbers that the pair had: laws on the definitions alone, for code that reduces a net in
+//! Interactions in place, in which new agents may have the numbers that the pair had: laws on the definitions alone, for code that reduces a net in
 //! cells without another copy of it.
 //!
 //! Such an interaction (`StepsInPlace` of `specs/`) is defined by the net before and the net after it alone. It is an interaction of the net in

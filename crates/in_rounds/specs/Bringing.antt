@@ -1,4 +1,4 @@
--- What the hands of a round have together, once they are back.
+-- The cells of all hands of a round, once they are back.
 use Rattle.std.specs.Prelude.{◌≡◌, ℕ, List, [], ◌∷◌, ◌++◌, Some, slice_get, All}
 use Rattle.in_arena.specs.Arenas.{ArenaView}
 use Rattle.in_compile.specs.Templates.{TemplatesParts}
@@ -16,7 +16,7 @@ abbrev pub in_hands : List Hand → List ArenaView
 in_hands [] = []
 in_hands (p ∷ ps) = in_hand p ++ in_hands ps
 
--- all that is kept was made with these templates
+-- each kept result was made with these templates
 abbrev pub AreMadeWith : TemplatesParts → List JobState → Type 0
 AreMadeWith ts slots = (k : ℕ) (d : DoneParts) → slice_get slots k ≡ Some (Kept d) → d.templates ≡ ts
 

@@ -1,17 +1,17 @@
--- What was done for a job: the template for its pair's symbols, placed.
+-- The result of a job: the placed template for its pair's symbols.
 use Rattle.std.specs.Prelude.{◌≡◌, ℕ, Some}
 use Rattle.in_symbols.specs.declared.symbols.SymbolNo.{SymbolNo}
 use Rattle.in_compile.specs.PlacedTemplates.{PlacedTemplateParts, IsOfTemplate}
 use Rattle.in_compile.specs.Templates.{TemplatesParts, template_at}
 
--- the number of the job, the symbols of its pair, the templates that it was made with, and what is placed
+-- the number of the job, the symbols of its pair, the templates of which it has one, and the placed member
 pub record DoneParts : Type 0 where
   pub job : ℕ
   pub heads : SymbolNo × SymbolNo
   pub templates : TemplatesParts
   pub placed : PlacedTemplateParts
 
--- what is placed is all of the template for these symbols, and nothing else
+-- the placed member is all of the template for these symbols, and nothing else
 pub record IsItsTemplate (d : DoneParts) : Type 0 where
   pub template : template_at d.templates d.heads.0.0 d.heads.1.0 ≡ Some d.placed.template
   pub placed : IsOfTemplate d.placed

@@ -4,13 +4,13 @@ use Rattle.in_arena.specs.Arenas.{ArenaView, state_at}
 use Rattle.in_arena.specs.Bags.{IsBagOf}
 use Rattle.in_arena.specs.States.{State, Vacant, Leased, Live, IsLeased}
 
--- a cell is in a bag unless it is another owner's there
+-- a cell is in a bag unless the bag has it as another owner's
 abbrev pub is_own : State → Bool
 is_own Vacant = true
 is_own Leased = false
 is_own (Live word ends) = true
 
--- how many of these bags have the cell of this number
+-- the number of these bags that have this cell
 abbrev pub holders : ℕ → List ArenaView → ℕ
 holders n bs = count_by (λ b. is_own (state_at b n)) bs
 
@@ -24,7 +24,7 @@ pub record HaveAllLeased (bs : List ArenaView) (a : ArenaView) : Type 0 where
   pub bags : AreBagsOf bs a
   pub all : (n : ℕ) → n < length a.states → IsLeased (state_at a n) → holders n bs ≡ 1
 
--- bags that had these cells have those, and the others are free again; nothing else of the arena changes
+-- the bags `after` have some of the cells of the bags `before`, and the others are free again; nothing else of the arena changes
 pub record Returns (before after : List ArenaView) (a a' : ArenaView) : Type 0 where
   pub memory : a'.memory ≡ a.memory
   pub cells : a'.cells ≡ a.cells

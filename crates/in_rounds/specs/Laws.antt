@@ -13,7 +13,7 @@ use Rattle.in_rounds.specs.declared.gather.Why.{Why}
 
 -- ---- no cell is lost
 
--- the cells of the one list of bags and those of the other are those of the third
+-- two lists of bags together have the cells of a third one
 abbrev pub Shares : List ArenaView → List ArenaView → List ArenaView → Type 0
 Shares bs cs both = (n : ℕ) → holders n both ≡ holders n bs + holders n cs
 

@@ -1,4 +1,4 @@
--- What the workers of a round are lent, and what is left with the owner after it.
+-- The cells that the workers of a round are lent, and the owner's rest.
 use Rattle.std.specs.Prelude.{◌≡◌, ◌≤◌, ◌*◌, ℕ, List, [], length}
 use Rattle.in_arena.specs.Arenas.{ArenaView, state_at}
 use Rattle.in_arena.specs.States.{Vacant}
@@ -12,13 +12,13 @@ use Rattle.in_rounds.specs.Plans.{PlanParts}
 use Rattle.in_rounds.specs.Works.{IsReady}
 use Rattle.in_rounds.specs.declared.hand.Hand.{Hand}
 
--- a worker that is ready, and has neither a cell nor anything done
+-- a worker that is ready, without a cell and without a result
 pub record IsFreshHand (plan : PlanParts) (board : BoardView) (a : ArenaView) (share : Need) (p : Hand) : Type 0 where
   pub stock : p.stock ≡ empty_stock a share
   pub done : p.done.items ≡ []
   pub ready : IsReady plan board p
 
--- `workers` workers with the cells of `share` each have no more than are free
+-- enough cells are free for `workers` workers with the cells of `share` each
 abbrev pub IsShare : ℕ → Need → (CellClass → ℕ) → Type 0
 IsShare workers share free = (c : CellClass) → workers * count_of share c ≤ free c
 

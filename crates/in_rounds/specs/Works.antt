@@ -1,4 +1,4 @@
--- What a worker has when it begins and when it ends.
+-- The state of a worker when it begins and when it ends.
 use Rattle.std.specs.Prelude.{◌≡◌, ◌≤◌, ◌+◌, ◌⊎◌, true, ℕ, List, [], ◌∷◌, ◌++◌, map, length, All, Some, slice_get, vec_len, vec_capacity}
 use Rattle.in_arena.specs.Arenas.{ArenaView}
 use Rattle.in_arena.specs.Bags.{AreOfOne}
@@ -19,7 +19,7 @@ pub record IsDoneJob (plan : PlanParts) (d : DoneParts) : Type 0 where
   pub templates : d.templates ≡ plan.templates
   pub job : slice_get plan.jobs d.job ≡ Some d.heads
 
--- the bags of what was done
+-- the bags of the results
 abbrev pub bags : List DoneParts → List ArenaView
 bags ds = map (λ d. d.placed.placed.bag) ds
 
@@ -32,18 +32,18 @@ pub record IsEmptyRoom (s : StockParts) (p : PlacedParts) : Type 0 where
   pub none : HasNoCell p.bag
   pub room : max_member_agents ≤ p.room
 
--- a seat of this board, which in_hands out the numbers of the jobs, and room in the list for as many jobs as there are empty rooms
+-- a seat of this board, which hands out the numbers of the jobs, and room in the list for as many jobs as there are empty rooms
 pub record IsReady (plan : PlanParts) (board : BoardView) (p : Hand) : Type 0 where
   pub of_board : p.seat.board ≡ board
   pub limit : board.limit ≤ length plan.jobs
   pub rooms : All (IsEmptyRoom p.stock) p.rooms.items
   pub list : vec_len p.done + vec_len p.rooms ≤ vec_capacity p.done
 
--- it is done, or its stock doesn't hold the most that a job can need, or there is no more room
+-- its seat is done, or its stock doesn't hold the most that a job can need, or there is no more room
 abbrev pub StopsWorking : PlanParts → Hand → Type 0
 StopsWorking plan p = (p.seat.done ≡ true) ⊎ (((largest : Need) × IsLargestNeed plan.templates.templates largest × (IsEnough (count_of largest) (held p.stock) → ⊥)) ⊎ (vec_len p.rooms ≡ 0))
 
--- it has done these jobs besides, which its seat claimed; their cells and those of its stock are those that it had
+-- it did these jobs besides, which its seat claimed; their cells and those of its stock are together those that it had
 pub record Works (plan : PlanParts) (old new : Hand) : Type 0 where
   pub more : List DoneParts
   pub list : new.done.items ≡ old.done.items ++ more

@@ -9,7 +9,7 @@ use crate::hand::Hand;
 use in_arena::Arena;
 use in_compile::Templates;
 
-/// Frees the stock of a hand, and gathers what it placed. Cells of a job that can't be gathered are given back.
+/// Frees the stock of a hand, and gathers its results. Cells of a result that can't be gathered are given back.
 fn bring<'t>(hand: Hand<'t>, templates: &Templates, gather: &mut Gather<'t>, arena: &mut Arena)
     requires bags { AreBagsOf (in_hand hand ++ bags_of gather.old.slots) arena.old }
     requires made { IsHandMadeWith templates.now hand × AreMadeWith templates.now gather.old.slots }
@@ -32,7 +32,7 @@ fn bring<'t>(hand: Hand<'t>, templates: &Templates, gather: &mut Gather<'t>, are
     }
 }
 
-/// All hands are brought in.
+/// Brings in all hands.
 pub(crate) fn bring_all<'t>(
     mut hands: Vec<Hand<'t>>,
     templates: &Templates,

@@ -17,7 +17,7 @@ use std::marker::Model;
 /// The template of a job's active pair, placed in leased cells. It names the job and the symbols of its pair, the constructor first, and its
 /// invariant is that the placed template is the one for these symbols, of the templates that made it.
 ///
-/// It is to be spent, or taken apart and settled: its cells are leased until then.
+/// Spend it, or take it apart and settle it: its cells are leased until then.
 #[derive(Drop)]
 pub struct Done<'t> {
     job: u32,
@@ -37,9 +37,9 @@ impl<'t> Model for Done<'t> {
 }
 
 impl<'t> Done<'t> {
-    /// Places the template for a job whose pair has these symbols, the constructor first, in cells of the stock. There has to be a template
-    /// for the two; the stock has to hold its need; `room` has to have no cells, to be of the stock's arena, and to have room for the
-    /// template's agents. It takes no memory.
+    /// Places the template for a job whose pair has these symbols, the constructor first, in cells of the stock. There must be a template for the
+    /// two, and the stock must hold its need. `room` must have no cells, be of the stock's arena, and have room for the template's agents. It takes
+    /// no memory.
     pub fn make(
         job: u32,
         constructor: SymbolNo,
@@ -105,7 +105,7 @@ impl<'t> Done<'t> {
         placed
     }
 
-    /// Gives its cells back: they are free. It has to be of this arena. It takes no memory.
+    /// Gives its cells back: they are free. It must be of this arena. It takes no memory.
     pub fn spend(self, arena: &mut Arena)
         requires { IsBagOf self.placed.placed.bag arena.old }
         ensures { Regains (λ _. Vacant) arena.old self.entry.placed.placed.bag arena.new }

@@ -29,7 +29,7 @@ pub(crate) enum JobState<'t> {
 
 /// Keeps the result of each job of a list, by the job's number: which jobs a round has, and in which order, is this project's own choice.
 ///
-/// It has to be spent: the cells of its results are leased until then.
+/// Spend it: the cells of its results are leased until then.
 #[derive(Drop)]
 pub struct Gather<'t> {
     jobs: Vec<(SymbolNo, SymbolNo)>,
@@ -47,7 +47,7 @@ impl<'t> Model for Gather<'t> {
     ghost invariant = { λ g. length g.slots.items ≡ length g.jobs.items };
 }
 
-/// A slot for each job, for which nothing was put.
+/// A slot for each job, without a result.
 fn fresh<'t>(alloc: Global, count: usize) -> Result<Vec<JobState<'t>>, AllocError>
     ensures { IfOk result (λ v. v.items ≡ replicate count Fresh) }
 {
@@ -83,7 +83,7 @@ fn has_job(jobs: &[(SymbolNo, SymbolNo)], done: &Done) -> bool
     }
 }
 
-/// Whether nothing was put for the job, which is in the list.
+/// Whether no result was put for the job, which is in the list.
 fn is_fresh(slots: &[JobState], job: u32) -> bool
     requires { job < length slots.now }
     ensures yes { result ≡ true → slice_get slots.now job ≡ Some Fresh }
@@ -108,7 +108,7 @@ fn spend_all(mut slots: Vec<JobState>, arena: &mut Arena)
 }
 
 impl<'t> Gather<'t> {
-    /// Nothing was put yet. The list has for each job, by its number, the symbols of its pair, the constructor first. Refused only when out
+    /// A gather without results. The list has for each job, by its number, the symbols of its pair, the constructor first. Refused only when out
     /// of memory; no other call takes memory.
     pub fn new(alloc: Global, jobs: &[(SymbolNo, SymbolNo)]) -> Result<Gather<'t>, AllocError>
         ensures { IfOk result (λ g. g ≡ new_gather jobs.now) }
@@ -153,7 +153,7 @@ impl<'t> Gather<'t> {
         }
     }
 
-    /// Gives back the cells of all that was put and not taken: they are free. These have to be of this arena. It takes no memory.
+    /// Gives back the cells of all results that were put and not taken: they are free. They must be of this arena. It takes no memory.
     pub fn spend(self, arena: &mut Arena)
         requires { AreBagsOf (bags_of self.slots) arena.old }
         ensures { Returns (bags_of self.entry.slots) [] arena.old arena.new }

@@ -19,8 +19,8 @@ use std::alloc::{AllocError, Global};
 use std::sync::Wait;
 use std::thread::Threads;
 
-/// A worker for each seat places jobs of the plan, as many as it has rooms, and the results are gathered. Nothing was gathered before. Returns how
-/// many threads were started.
+/// Lets a worker for each seat place jobs of the plan, as many as it has rooms, and gathers the results. Nothing was gathered before. Returns the
+/// number of started threads.
 fn place_jobs<'t, R: Threads + Wait, G: Gate + Sync>(
     rt: &R,
     alloc: Global,
@@ -52,7 +52,7 @@ fn place_jobs<'t, R: Threads + Wait, G: Gate + Sync>(
     let Crew { hands, lent, back } = crew;
     let mut others = lend(hands, lent, plan, board, share, arena);
     let Some(mine) = others.pop() else {
-        // There is one worker at least, and each has its hand.
+        // There is at least one worker, and each has its hand.
         unreachable!()
     };
     let worker = Worker { plan, board, gate };
@@ -62,11 +62,11 @@ fn place_jobs<'t, R: Threads + Wait, G: Gate + Sync>(
 }
 
 /// Lets `workers` workers, 1 to 64, of which the caller is one, claim the plan's jobs and place their templates in cells of the arena, each
-/// with its share of the free ones; and gathers the results. Returns how many threads were started. Each worker claims while its stock holds
-/// the most that a job can need, and passes the gate after each claim. What isn't used is free again.
+/// with its share of the free ones; and gathers the results. Returns the number of started threads. Each worker claims while its stock holds the most
+/// that a job can need, and passes the gate after each claim. Unused cells are free again.
 ///
-/// All memory but what starting a thread takes is taken before the first cell is lent: refused only when out of memory, and then the arena
-/// is as it was. If a thread can't be started, the caller does its part. It waits for its threads.
+/// All memory except that for starting a thread is taken before the first cell is lent. Refused only when out of memory, and then the arena is as it
+/// was. If a thread can't be started, the caller does its part. It waits for its threads.
 pub fn gather_jobs<'t, R: Threads + Wait, G: Gate + Sync>(
     rt: &R,
     alloc: Global,

@@ -2,7 +2,7 @@
 
 ghost use Rattle.in_rounds.specs.Laws.{PuttingLosesNone, PutsAreOne, RoundsAreSame, RoundsEnd, RoundsRunOn, TakingLosesNone, TakesAreOne};
 
-/// After a `put` the kept results have the cells of the new one, and those that were kept before.
+/// After a `put` the kept results have the cells of the new one and of those that were kept before.
 pub fn putting_loses_none()
     ensures { PuttingLosesNone }
 {}
@@ -27,7 +27,7 @@ pub fn rounds_end()
     ensures { RoundsEnd }
 {}
 
-/// Rounds of machines that are the same up to the numbers of their agents, with one budget, have one count, and leave machines that are.
+/// Rounds of machines that are the same up to the numbers of their agents, with one budget, have one count, and leave machines that are the same again.
 pub fn rounds_are_same()
     ensures { RoundsAreSame }
 {}

@@ -34,7 +34,7 @@ fn rooms_for(
     Ok(rooms)
 }
 
-/// A worker with this seat, room for its jobs, and a stock that has room for its share of the cells and none of them yet.
+/// A worker with this seat, room for its jobs, and a stock without cells that has room for its share of them.
 fn hand<'t>(
     alloc: Global,
     plan: &Plan<'t>,
@@ -114,7 +114,7 @@ pub(crate) fn crew_of<'t>(
     Ok(Crew { hands, lent, back })
 }
 
-/// Each worker gets its share of the cells. The list for them is empty and has room for all, so that no memory is taken.
+/// Gives each worker its share of the cells. The list for them is empty and has room for all, so no memory is taken.
 pub(crate) fn lend<'t>(
     mut hands: Vec<Hand<'t>>,
     mut lent: Vec<Hand<'t>>,

@@ -7,14 +7,14 @@
 //! `Gather` (`gathering`).
 //!
 //! A `Done` is a placed template with its job and the templates that made it, and keeps that it is the template of the job's symbols; a `Gather`
-//! keeps one for each job of a list. One number says which cells are on lease, and in which bags they are: how many bags of a list have a cell
-//! (`holders` in `specs/Holding.antt`). Lending, placing, putting, taking and giving back only move cells from one list of bags to another, so sums
-//! say that none is lost.
+//! keeps one for each job of a list. The cells on lease are counted by one number: that of the bags of a list that have a cell (`holders` in
+//! `specs/Holding.antt`). Lending, placing, putting, taking and giving back only move cells from one list of bags to another, so sums show that none
+//! is lost.
 //!
 //! Then the owner (`rounding`) goes through the jobs in rising number: a gathered result is settled and stitched in (`stitching`), which is the
-//! second half of a step, by the present partners of the pair's ports. At the first job for which nothing is there, the rest of the gather goes
-//! back, and the jobs that are left are done by plain steps while what they need is free. So the jobs done are the first ones, whatever the
-//! schedule. `rounds` is the call over machines.
+//! second half of a step, by the present partners of the pair's ports. At the first job without a result the cells of the other results go back, and
+//! the remaining jobs are done by plain steps while their cells are free. So the jobs done are the first ones, on any schedule. `rounds` is the call
+//! over machines.
 #![tactic(auto)]
 
 mod bringing;

@@ -24,7 +24,7 @@ impl<'t> Model for Plan<'t> {
 }
 
 impl<'t> Plan<'t> {
-    /// A plan of these jobs. There has to be a template for each, and none may have more agents than a right member may.
+    /// A plan of these jobs. There must be a template for each, and none may have more agents than a right member may.
     pub fn new(templates: &'t Templates, jobs: &'t [(SymbolNo, SymbolNo)]) -> Plan<'t>
         requires { IsPlan (record { templates = templates.now; jobs = jobs.now }) }
         ensures { result ≡ record { templates = templates.now; jobs = jobs.now } }

@@ -20,7 +20,7 @@ use std::alloc::{AllocError, Global};
 use std::sync::Wait;
 use std::thread::Threads;
 
-/// The result of a round: how many interactions it did, and how many threads it started.
+/// The result of a round: the numbers of its interactions and of the threads that it started.
 #[derive(Clone, Copy, Debug, PartialEq, Eq)]
 pub struct Round {
     pub interactions: u32,
@@ -47,8 +47,8 @@ fn jobs(
     Ok(jobs)
 }
 
-/// Does the jobs that are left after the first `done`, each at the first pair of the queue, as `step` does; and ends at the first whose need
-/// isn't free. Says how many are done then.
+/// Does the jobs after the first `done`, each at the first pair of the queue, as `step` does, and ends at the first one whose cells aren't free.
+/// Returns the number of jobs done then.
 fn step_on(reducer: &mut Reducer, templates: &Templates, jobs: u32, done: u32) -> u32
     requires templates { AreTemplatesOf reducer.old.program templates.now }
     requires done { done ≤ jobs }
@@ -67,13 +67,13 @@ fn step_on(reducer: &mut Reducer, templates: &Templates, jobs: u32, done: u32) -
     count
 }
 
-/// A round: interactions of the first pairs of the queue, as many as the budget allows, whose templates several workers place at once, of which the
-/// caller is one; each worker passes the gate after it has claimed a job. They are done one after another, first in, first out, by each pair's
-/// partners at its turn; the last one is that of the last job, or the cells that the next pair needs aren't free.
+/// A round: interactions of the first pairs of the queue, as many as the budget allows. Several workers, one of them the caller, place their
+/// templates at once; each worker passes the gate after it has claimed a job. The interactions are done one after another, first in, first out, by
+/// each pair's partners at its turn, up to that of the last job, or until the cells that the next pair needs aren't free.
 ///
-/// There has to be a pair, and the cells that the first one needs have to be free; the budget is at least 1, the workers are 1 to 64, and the
-/// templates are those of the program. All memory but what starting a thread takes is taken before a cell is lent: refused only when out of memory,
-/// and then the reducer is as before. A thread that can't be started is no fault. It waits for its threads.
+/// There must be a pair, and the cells that the first one needs must be free; the budget is at least 1, the workers are 1 to 64, and the templates
+/// are those of the program. All memory except that for starting a thread is taken before a cell is lent. Refused only when out of memory, and then
+/// the reducer is as before. A thread that can't be started is no fault. It waits for its threads.
 pub(crate) fn reducer_round<R: Threads + Wait, G: Gate + Sync>(
     rt: &R,
     alloc: Global,

@@ -18,12 +18,12 @@ use std::thread::Threads;
 ///
 /// Each worker claims jobs, which are the first pairs by number, and places their templates, while its stock holds the most that one can need
 /// and it has room; after each claim it passes the gate. Then the caller does the interactions in turn, first in, first out, as `Machine::step`
-/// does: those whose templates were placed and the next ones, until there are no more jobs or the next pair's need isn't free. So a round does
-/// one interaction at least, and those of all jobs if the cells that they need together are free. Which worker does which job, and how many
-/// cells each is lent, is this project's own choice and open.
+/// does: those whose templates were placed and the next ones, until there are no more jobs or the next pair's need isn't free. So a round does at
+/// least one interaction, and those of all jobs if the cells that they need together are free. Which worker does which job, and how many cells each
+/// is lent, is open.
 ///
-/// All memory but what starting a thread takes is taken before the first claim: refused only when out of memory, and then the machine is as it
-/// was. If a thread can't be started, the caller does its part. It waits for its threads.
+/// All memory except that for starting a thread is taken before the first claim. Refused only when out of memory, and then the machine is as it was.
+/// If a thread can't be started, the caller does its part. It waits for its threads.
 pub fn round<R: Threads + Wait, G: Gate + Sync>(
     rt: &R,
     alloc: Global,

@@ -1,4 +1,4 @@
-// How many cells each worker of a round is lent.
+// The number of cells that each worker of a round is lent.
 ghost use Rattle.std.specs.Prelude.{◌≤◌, ◌*◌};
 ghost use Rattle.in_arena.specs.declared.content.CellClass.{CellClass as Class};
 ghost use Rattle.in_compile.specs.Cells.{count_of};
@@ -6,7 +6,7 @@ ghost use Rattle.in_rounds.specs.Lending.{IsShare};
 
 use in_compile::Need;
 
-/// As many cells as `jobs` jobs can need, or as there are.
+/// As many cells as `jobs` jobs can need, at most all.
 fn at_most(there: u32, largest: u32, jobs: u32) -> u32
     requires { 1 ≤ jobs }
     ensures most { result ≤ there }
@@ -20,8 +20,8 @@ fn at_most(there: u32, largest: u32, jobs: u32) -> u32
     }
 }
 
-/// How many of the free cells each of `workers` workers is lent: as many as `jobs` jobs can need, or its part of them; and none where that is
-/// less than one job can need. The sizes are this project's own choice.
+/// The number of free cells that each of `workers` workers is lent: as many as `jobs` jobs can need, or its part of them; 0 if that is less than one
+/// job can need. The sizes are this project's own choice.
 pub(crate) fn share_of(free: Need, workers: u32, largest: Need, jobs: u32) -> Need
     requires some { 1 ≤ workers }
     requires jobs { 1 ≤ jobs }

@@ -15,7 +15,7 @@ use crate::gather::Gather;
 use in_compile::Templates;
 use in_reducer::Body;
 
-/// Whether this was done for the symbols of the first pair.
+/// Whether this result is for the symbols of the first pair.
 fn is_for_first(body: &Body, done: &Done) -> bool
     requires net { KeepsNet body.now }
     requires pair { 0 < length body.now.queue.items }
@@ -40,7 +40,7 @@ fn put_back(body: &mut Body, done: Done)
 }
 
 /// Stitches in the results of the jobs in turn, from the first one on, each at the first pair of the queue, and ends at the first job without a
-/// result. Returns how many jobs had one.
+/// result. Returns the number of stitched jobs.
 pub(crate) fn stitch_all<'t>(
     body: &mut Body,
     templates: &Templates,

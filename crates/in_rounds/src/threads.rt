@@ -1,4 +1,4 @@
-// Parts that are worked on, each in a thread of its own.
+// Work on several parts, each in a thread of its own.
 ghost use Rattle.std.specs.Prelude.{◌≡◌, ◌≤◌, ◌<◌, ◌+◌, ◌∷◌, [], All, vec_len, vec_capacity};
 ghost use Rattle.std.specs.List.{AllZip};
 
@@ -18,7 +18,7 @@ pub(crate) trait Work<P> {
         ensures { is_worked self.now part result };
 }
 
-/// That what comes back is what this work makes of this part.
+/// The result is the one that this work makes of this part.
 #[derive(Drop)]
 pub(crate) struct Kept<P, W> {
     work: Snapshot<W>,
@@ -29,15 +29,15 @@ impl<P, W: Work<P>> Promise<P> for Kept<P, W> {
     ghost kept_by = { λ p r. W.is_worked p.work.value p.part.value r };
 }
 
-/// A part on which a thread works, or that was done here since no thread could be started.
+/// A part on which a thread works, or one that was done here, since no thread could be started.
 #[derive(Drop)]
 pub(crate) enum Begun<P, W: Work<P>> {
     There(PromisedHandle<P, Kept<P, W>>),
     Here(P),
 }
 
-/// Lets each of the others be worked on in a thread of its own, or here where none can be started, and works on one part here. Says how many
-/// threads there were. The two lists have the room that is asked for, so that no memory is taken once work has begun.
+/// Works on one part here, and on each other one in a thread of its own, or here if no thread can be started. Returns the number of threads. The two
+/// lists have the required room, so no memory is taken once work has begun.
 pub(crate) fn all<P: Send + Drop, W: Work<P> + Sync, R: Threads + Wait>(
     rt: &R,
     work: &W,

@@ -16,7 +16,7 @@ use Rattle.in_run.specs.Stops.{IsStop, IsOutcome}
 use Rattle.in_reducer.specs.Same.{AreSame}
 use Rattle.in_machine.specs.Texts.{text_of}
 
--- .. and the one stops as the other
+-- .. and both stop alike
 abbrev pub StopsAreSame : Type 0
 StopsAreSame = (m n : MachineParts) (limit k : ℕ) (s : Stop) → AreSame m n → IsStop limit m k s → IsStop limit n k s
 
@@ -37,7 +37,7 @@ OutcomesAreReached = (text : List ℕ) (p : Program) (l : Limits) (o : Outcome) 
 abbrev pub TurnsAreAllowed : Type 0
 TurnsAreAllowed = (text : List ℕ) (p : Program) (l : Limits) (r : Result Outcome RunFault) → IsAccepted text p → RunsInTurn p l r → RunsTo p l r
 
--- with one worker an accepted program and limits have one outcome, up to the numbers of agents
+-- with one worker an accepted program within limits has one outcome, up to the numbers of agents
 abbrev pub ProgramsEndAlike : Type 0
 ProgramsEndAlike = (text : List ℕ) (p : Program) (l : Limits) (o u : Outcome) → IsAccepted text p → l.workers ≡ 1 → RunsTo p l (Ok o) → RunsTo p l (Ok u) →
     AreSame o.machine u.machine × (o.interactions ≡ u.interactions) × (o.stop ≡ u.stop)

@@ -24,11 +24,11 @@ pub record ReachesWith (p : Program) (cells k : ℕ) (m : MachineParts) : Type 0
   pub counted : HasCells cells m
   pub reached : IsReachedBy (plain_of m) k
 
--- what is said of a run of a program within limits, by how it ends
+-- a property of a run of a program within limits, for each way of ending
 abbrev pub RunLaw : Type 1
 RunLaw = Program → Limits → Result Outcome RunFault → Type 0
 
--- the outcome of a run within the limits. Or there is no start; no run is refused once it has one
+-- the outcome of a run within the limits, or no start; no run is refused after its start
 abbrev pub RunsInAnyOrder : RunLaw
 RunsInAnyOrder p l (Ok o) = ReachesWith p l.cells o.interactions o.machine × (o.interactions ≤ l.limit) × IsStop l.limit o.machine o.interactions o.stop
 RunsInAnyOrder p l (Err (Start f)) = IsNoStart p l.cells f
@@ -44,11 +44,11 @@ RunsInTurn p l (Err (Memory m k)) = ⊥
 
 -- ---- as the limits say
 
--- how several workers share the interactions, and so in which order these come, is open; one worker does them in turn
+-- how several workers share the interactions is open, and so is their order; one worker does them in turn
 abbrev pub RunsTo : RunLaw
 RunsTo p l r = RunsInAnyOrder p l r × (l.workers ≡ 1 → RunsInTurn p l r)
 
--- what is refused at its start alone
+-- the result of a run that is refused, if at all, at its start
 abbrev pub at_start : Result Outcome StartFault → Result Outcome RunFault
 at_start (Ok o) = Ok o
 at_start (Err f) = Err (Start f)

@@ -1,4 +1,4 @@
--- How a run stops. Which stops there are, and their order, is this project's own choice.
+-- The stops of a run. They, and their order, are this project's own choice.
 use Rattle.std.specs.Prelude.{◌≡◌, ◌≢◌, ◌<◌, ◌≤◌, ℕ, [], length}
 use Rattle.in_reducer.specs.Machines.{MachineParts}
 use Rattle.in_reducer.specs.Steps.{HasRoomAt, IsShortAt}
@@ -6,14 +6,14 @@ use Rattle.in_reducer.specs.Runs.{Runs}
 use Rattle.in_run.specs.declared.stops.Stop.{Stop}
 use Rattle.in_run.specs.declared.stops.Stop.TheVariants.{Normal, Limit, Full}
 
--- no pair is left; else as many interactions were done as are allowed; else the first pair needs more cells than are free. Each of these
--- stops holds only where none before it in this order does
+-- no pair is left; else as many interactions were done as are allowed; else the first pair needs more cells than are free. Each of these stops holds
+-- only if none before it does
 abbrev pub IsStop : ℕ → MachineParts → ℕ → Stop → Type 0
 IsStop limit m k Normal = m.queue ≡ []
 IsStop limit m k Limit = (m.queue ≢ []) × (k ≡ limit)
 IsStop limit m k (Full c need free) = (m.queue ≢ []) × (k < limit) × IsShortAt m 0 c need free
 
--- none of them is true
+-- none of them holds
 abbrev pub GoesOn : ℕ → MachineParts → ℕ → Type 0
 GoesOn limit m k = (0 < length m.queue) × (k < limit) × HasRoomAt m 0
 

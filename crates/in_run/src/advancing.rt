@@ -11,11 +11,11 @@ use in_machine::{Machine, phase};
 use std::alloc::Global;
 use std::thread::Threads;
 
-/// How many pairs are taken before it is looked again whether a phase pays.
+/// The number of pairs that are taken before the next test whether a phase pays.
 const TURN: u64 = 1_024;
 
-/// Some interactions by this thread, at most `most`: of the newest pairs while half of the cells are free, else of the oldest ones. Returns how many
-/// they were.
+/// Does some interactions on this thread, at most `most`: of the newest pairs while half of the cells are free, else of the oldest ones. Returns
+/// their number.
 fn take_alone(machine: &mut Machine, limits: Limits, most: u64) -> u64
     ensures goes { (m : MachineParts) (k : ℕ) → RunsAnyhow m k machine.old → RunsAnyhow m (result + k) machine.new }
     ensures most { result ≤ most }
@@ -27,8 +27,8 @@ fn take_alone(machine: &mut Machine, limits: Limits, most: u64) -> u64
     count + machine.take_first(most)
 }
 
-/// Interactions of a long run by several workers, at most `left`: a phase if one should pay, else some interactions on this thread, the newest pairs
-/// first while no phase is tried. Returns how many there were.
+/// Does interactions of a long run by several workers, at most `left`: a phase if one should pay, else some interactions on this thread, the newest
+/// pairs first while no phase is tried. Returns their number.
 fn by_parts<R: Threads>(
     rt: &R,
     alloc: Global,
@@ -58,9 +58,9 @@ fn by_parts<R: Threads>(
     worked.interactions
 }
 
-/// Interactions of the oldest pairs, as many as there are up to the limit, by one worker, who does at most `turn`, and at the beginning of several
-/// workers' run. Later that of the oldest pair, which has to have room, and some more after it, at most up to the limit: a phase where it pays,
-/// else those of some pairs one after another. Returns how many they were.
+/// With one worker, or at the beginning of a run of several, does interactions of the oldest pairs, up to the limit; one worker does at most `turn`.
+/// Later it does that of the oldest pair, which must have room, and some more after it, up to the limit: a phase if it pays, else those of some pairs
+/// one after another. Returns their number.
 #[inline(always)]
 pub(crate) fn advance<R: Threads>(
     rt: &R,

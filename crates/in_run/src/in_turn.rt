@@ -12,8 +12,8 @@ use in_limits::Limits;
 use in_machine::{Machine, StartFault};
 use std::alloc::Global;
 
-/// Runs a program first in, first out, as `run` does with one worker, whatever number of workers the limits have: for who has no runtime to
-/// start threads with. It stops as `run` does. Refused only where no machine starts, since an interaction takes no memory.
+/// Runs a program first in, first out, as `run` does with one worker, for any number of workers in the limits: for callers without a runtime to start
+/// threads. It stops as `run` does. Refused only if no machine starts, since an interaction takes no memory.
 pub fn run_in_turn<'a>(
     alloc: Global,
     checked: &'a Checked,

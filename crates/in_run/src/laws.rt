@@ -28,7 +28,7 @@ pub fn turns_are_allowed()
     ensures { TurnsAreAllowed }
 {}
 
-/// With one worker an accepted program and limits have one outcome, up to the numbers of agents.
+/// With one worker an accepted program within limits has one outcome, up to the numbers of agents.
 pub fn programs_end_alike()
     ensures { ProgramsEndAlike }
 {}

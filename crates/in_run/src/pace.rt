@@ -8,30 +8,30 @@ use in_limits::Limits;
 use in_machine::{MOST_CELLS, Machine, Room, Sharing, Worked};
 use std::alloc::Global;
 
-/// From how many interactions on a phase is tried: a shorter run is over before it could pay, and the pairs are spread far by then.
+/// The number of interactions before a phase is tried: a shorter run is over before it could pay, and the pairs are spread far by then.
 pub(crate) const PHASES_FROM: u64 = 16_384;
 
-/// From how many pairs on.
+/// The least number of pairs for a phase.
 const PHASE_PAIRS: u32 = 512;
 
-/// With fewer pairs than this, only from so many interactions on: most shorter runs end before a phase pays.
+/// With fewer pairs than this, a phase is tried only after `FEW_PAIRS_FROM` interactions: most shorter runs end before it pays.
 const MANY_PAIRS: u32 = 1_024;
 
 const FEW_PAIRS_FROM: u64 = 524_288;
 
-/// .. and how many for each part.
+/// The pairs for each part.
 const PART_PAIRS: u32 = 64;
 
-/// The most parts, the rest among them.
+/// The most parts, with the rest.
 const MOST_PARTS: u32 = 16;
 
-/// The least interactions that are left for a phase.
+/// The least number of interactions left for a phase.
 const LEAST_LEFT: u64 = 27_200;
 
-/// A part of the cells: less than this part of the half that is not kept back is too little for a phase.
+/// No phase is tried if the free cells above the floor are fewer than this part of the floor.
 const LEAST_SPARE: u32 = 16;
 
-/// How many interactions a part does at most, for each agent of the net, and besides: one that runs on alone is stopped then.
+/// The most interactions of a part, for each agent of the net, and besides: a part that would run on alone is stopped then.
 const MOST_FOR_EACH_AGENT: u64 = 16;
 
 const MOST_BESIDES: u64 = 32_768;
@@ -45,8 +45,8 @@ const COST_OF_A_THREAD: u64 = 4_000;
 /// The wait after a phase that hasn't paid, in multiples of its cost; twice as long after each further one.
 const FIRST_WAIT: u64 = 4;
 
-/// The state of a run of several workers between two looks at its machine: from how many interactions on a phase is considered, how many times its
-/// cost is the wait after the next phase that doesn't pay, and the room for phases; and how many phases there were, and the most threads of one.
+/// The state of a run of several workers between two tests: the number of interactions from which on a phase is considered, the wait after the next
+/// phase that doesn't pay, in multiples of its cost, and the room for phases; and the number of phases, and the most threads of one.
 #[derive(Drop)]
 pub(crate) struct Pace {
     phase_from: u64,
@@ -57,7 +57,7 @@ pub(crate) struct Pace {
 }
 
 impl Pace {
-    /// That of the beginning of a run.
+    /// The state at the beginning of a run.
     pub(crate) fn begin(alloc: Global) -> Pace {
         Pace {
             phase_from: PHASES_FROM,
@@ -68,7 +68,7 @@ impl Pace {
         }
     }
 
-    /// Whether it waits, after a phase that hasn't paid.
+    /// Whether the run waits, after a phase that hasn't paid.
     pub(crate) fn waits(&self, interactions: u64) -> bool {
         interactions < self.phase_from
     }
@@ -90,8 +90,8 @@ impl Pace {
     }
 }
 
-/// How a machine's net is shared out among the workers, where `interactions` interactions are done and `left` are left; nothing where a phase can't
-/// pay. Half of the cells are kept back, so that the order in which pairs are taken is no reason to stop.
+/// The sharing of a machine's net among the workers, after `interactions` interactions, with `left` left; `None` if a phase can't pay. Half of the
+/// cells are kept back, so the order in which pairs are taken is no reason to stop.
 pub(crate) fn sharing(
     machine: &Machine,
     limits: Limits,

@@ -18,7 +18,7 @@ use std::alloc::Global;
 use std::sync::Wait;
 use std::thread::Threads;
 
-/// The outcome of a run: its machine, how many interactions it did, and how it stopped.
+/// The outcome of a run: its machine, the number of its interactions, and its stop.
 #[derive(Drop)]
 pub struct Outcome<'a> {
     pub machine: Machine<'a>,
@@ -37,7 +37,7 @@ pub enum RunFault<'a> {
     },
 }
 
-/// How far a watched run is.
+/// The progress of a watched run.
 fn progress_of(machine: &Machine, cells: u32, interactions: u64, pace: &Pace) -> Progress {
     let free = machine.vacant();
     Progress {
@@ -52,7 +52,7 @@ fn progress_of(machine: &Machine, cells: u32, interactions: u64, pace: &Pace) ->
     }
 }
 
-/// The same as `run`, with a watch that sees how far the run is and doesn't change it.
+/// The same as `run`, with a watch that sees the progress of the run and doesn't change it.
 pub fn run_watched<'a, R: Threads, W: Watch>(
     rt: &R,
     alloc: Global,
@@ -103,8 +103,7 @@ pub fn run_watched<'a, R: Threads, W: Watch>(
 /// `Limit`; if the first pair needs more cells of a class than are free, tested in the order of the classes, as `Full`. Refused if no machine
 /// starts.
 ///
-/// If it stops as `Normal`, it has reached the one end of its program: each run that ends, its interactions in any order, has as many
-/// interactions and the same text.
+/// If it stops as `Normal`, it has reached the one end of its program: each run that ends, in any order, has as many interactions and the same text.
 pub fn run<'a, R: Threads + Wait, G: Gate + Sync>(
     rt: &R,
     alloc: Global,

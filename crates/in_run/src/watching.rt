@@ -1,25 +1,25 @@
 // Watchers of a run.
 use in_machine::Need;
 
-/// How far a run is.
+/// The progress of a run.
 #[derive(Clone, Copy, Debug, PartialEq, Eq)]
 pub struct Progress {
     /// The interactions that were done.
     pub interactions: u64,
     /// The phases, in which several threads reduced the net in parts.
     pub phases: u64,
-    /// The most threads of a phase; 1 where there was none.
+    /// The most threads of a phase; 1 if there was none.
     pub threads: u32,
     /// The cells of each class that agents have now.
     pub used: Need,
 }
 
-/// A watcher of a run. It changes nothing of the run.
+/// A watcher of a run, which it doesn't change.
 pub trait Watch {
     /// A run begins: its program is checked.
     fn begin(&mut self);
 
-    /// How many interactions one worker does at most before the watch looks again; 0 is as 1.
+    /// The most interactions of one worker before the watch looks again; 0 means 1.
     fn turn(&self) -> u64;
 
     /// Gets the progress of a run that continues.

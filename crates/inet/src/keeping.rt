@@ -23,12 +23,12 @@ impl<R> KeepingIn<R> {
         }
     }
 
-    /// The reader whose text it is.
+    /// The reader of the text.
     pub fn reader(&self) -> &R {
         &self.reader
     }
 
-    /// All that was read; nothing where a copy of it could not be had.
+    /// All bytes read; `None` if memory for a copy ran out.
     pub fn kept(&self) -> Option<&[u8]> {
         if self.whole {
             Some(self.kept.as_slice())

@@ -1,9 +1,9 @@
-//! The program `inet`: checks a program of interaction nets (Lafont 1990) that comes on standard input or in a file, and writes one line on
-//! what it found; the steps that build its rules and its net; or the net at the end of its run.
+//! The program `inet`: checks a program of interaction nets (Lafont 1990) that comes on standard input or in a file, and writes one line with its
+//! verdict; the steps that build its rules and its net; or the net at the end of its run.
 //!
 //! It reads the words and calls `in_program::act_watched` over the standard streams, or a file. A reader that keeps a copy of its bytes (`keeping`)
-//! gives the text again after a refusal, for the diagnosis (`words`). A watch (`watching`) shows at a terminal how far a long run is, and counts for
-//! figures. The streams keep why a read or a write failed, and `serve` writes it.
+//! gives the text again after a refusal, for the diagnosis (`words`). A watch (`watching`) shows the progress of a long run at a terminal, and counts
+//! for figures. The streams keep the reason of a failed read or write, and `serve` writes it.
 #![tactic(auto)]
 
 ghost use Rattle.std.specs.Prelude.{◌≡◌, ◌⊎◌, ◌-◌, ◌<◌, ◌^◌, None};
@@ -42,18 +42,18 @@ const UNREAD: Status = Status(6);
 const AT_TERMINAL: &[u8] =
     b"inet: reads the program from the terminal; end it with Ctrl-D on a line of its own\n";
 
-/// Which streams are a terminal's.
+/// Whether streams are a terminal's, and whether messages have colours.
 #[derive(Clone, Copy)]
 struct Console {
     /// Standard input.
     reads: bool,
     /// Standard error.
     tells: bool,
-    /// Whether messages there are in colours.
+    /// Messages on standard error.
     colours: bool,
 }
 
-/// Why the program's words can't be had: running out of memory, or a word that is not valid UTF-8.
+/// Why the program's words can't be read: running out of memory, or a word that is not valid UTF-8.
 fn unreadable(alloc: Global, error: Error) -> Usage {
     let told = match error.kind() {
         ErrorKind::OutOfMemory => return Usage::Memory,
@@ -77,8 +77,8 @@ fn words_read(alloc: Global, words: io::Result<Args>) -> Result<Vec<String>, Usa
     }
 }
 
-/// Answers the request on the text of this reader, and writes why a text is refused or can't be read, what helps after a run that stopped early, and
-/// the wanted figures.
+/// Answers the request on the text of this reader, and writes the diagnosis of a refused text, the reason of a failed read, help after a run that
+/// stopped early, and the requested figures.
 fn answer_text<T: Threads + Clock, R: Read + Drop, W: TextOut, E: Write>(
     rt: &T,
     alloc: Global,
@@ -119,8 +119,7 @@ fn tell_memory<W: TextOut>(output: &mut W) -> Status
     tell(output, b"memory\n", Status(5))
 }
 
-/// The same with the text of the file that is named, or of standard input. Where the file can't be opened, nothing is written, or that memory ran
-/// out.
+/// The same with the text of the named file, or of standard input. If the file can't be opened, it writes no line, or that memory ran out.
 fn answer<T: Threads + Clock + Files, R: Read + Drop, W: TextOut, E: Write>(
     rt: &T,
     alloc: Global,
@@ -161,7 +160,7 @@ fn tell_version<W: TextOut>(alloc: Global, output: &mut W) -> Status
     }
 }
 
-/// Writes the help, the version, or why the words are wrong.
+/// Writes the help, the version, or the fault of wrong words.
 fn tell_nothing_asked<W: TextOut, E: Write>(
     alloc: Global,
     usage: &Usage,
@@ -176,7 +175,7 @@ fn tell_nothing_asked<W: TextOut, E: Write>(
     }
 }
 
-/// Answers the request of these words, or writes why they make none.
+/// Answers the request of these words, or writes the reason why they make none.
 fn answer_words<T: Threads + Clock + Files, R: Read + Drop, W: TextOut, E: Write>(
     rt: &T,
     alloc: Global,
@@ -194,7 +193,7 @@ fn answer_words<T: Threads + Clock + Files, R: Read + Drop, W: TextOut, E: Write
     }
 }
 
-/// Answers the program's words, or writes why they can't be read.
+/// Answers the program's words, or writes the reason why they can't be read.
 fn answer_program<T: Threads + Clock + Files, R: Read + Drop, W: TextOut, E: Write>(
     rt: &T,
     alloc: Global,
@@ -220,7 +219,7 @@ fn answer_program<T: Threads + Clock + Files, R: Read + Drop, W: TextOut, E: Wri
     }
 }
 
-/// The same, and writes why its output can't be written, unless its reader closed the stream.
+/// The same, and writes the reason if its output can't be written, unless its reader closed the stream.
 fn serve<T: Threads + Clock + Files, R: Read + Drop, W: Write + Drop, E: Write>(
     rt: &T,
     alloc: Global,

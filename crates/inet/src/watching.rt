@@ -4,24 +4,24 @@ use std::cmp::max;
 use std::io::Write;
 use std::time::{Clock, Duration, Instant};
 
-/// How many interactions are done before it is looked whether a second is over.
+/// The number of interactions between two tests whether a second is over.
 const SHOWN_TURN: u64 = 1 << 20;
 
-/// .. and, for figures, how many cells are in use.
+/// .. and, for figures, between two counts of the cells in use.
 const COUNTED_TURN: u64 = 1 << 10;
 
-/// How a line of a terminal is taken back.
+/// The characters that take back a line of a terminal.
 const TAKEN_BACK: &str = "\r\x1b[K";
 
-/// Watches a run for who sits at a terminal, or wants figures of it.
+/// Watches a run, for progress at a terminal or for figures.
 #[derive(Drop)]
 pub struct Watching<'a, T, E> {
     clock: &'a T,
     alloc: Global,
     errors: E,
-    /// Whether it shows each second how many interactions were done.
+    /// Whether it shows the number of interactions each second.
     shows: bool,
-    /// Whether figures are wanted.
+    /// Whether figures are requested.
     counts: bool,
     /// When the program was started, its run began, a line was shown, and the run stopped.
     started: Option<Instant>,
@@ -44,7 +44,7 @@ fn with_most(seen: Option<Progress>, progress: Progress) -> Progress {
     most
 }
 
-/// How long it was from one time to the other, where both are known.
+/// The time between the two, if both are known.
 fn between(from: Option<Instant>, to: Option<Instant>) -> Option<Duration> {
     Some(to?.duration_since(from?))
 }
@@ -73,12 +73,12 @@ impl<'a, T: Clock, E: Write> Watching<'a, T, E> {
         }
     }
 
-    /// Writes a line to standard error; where it can't be written, nothing changes.
+    /// Writes a line to standard error; a failure changes nothing.
     fn say(&mut self, line: &str) {
         let _ = self.errors.write_all(line.as_bytes());
     }
 
-    /// Shows how many interactions were done, where a second is over.
+    /// Shows the number of interactions, if a second is over.
     fn show(&mut self, interactions: u64) {
         let now = Instant::now(self.clock).ok();
         let is_due = match between(self.shown, now) {
@@ -96,7 +96,7 @@ impl<'a, T: Clock, E: Write> Watching<'a, T, E> {
         }
     }
 
-    /// Writes how long something took.
+    /// Writes the time that something took.
     fn tell_time(&mut self, what: &str, time: Duration) {
         let seconds = time.as_secs();
         let thousandths = time.subsec_millis();
@@ -105,7 +105,7 @@ impl<'a, T: Clock, E: Write> Watching<'a, T, E> {
         }
     }
 
-    /// Writes how many interactions there were in a second.
+    /// Writes the interactions a second.
     fn tell_rate(&mut self, interactions: u64, time: Duration) {
         let micros = time.as_micros();
         if micros == 0 {
@@ -117,7 +117,7 @@ impl<'a, T: Clock, E: Write> Watching<'a, T, E> {
         }
     }
 
-    /// Writes how many cells, threads and phases a run had.
+    /// Writes the numbers of cells, threads and phases of a run.
     fn tell_seen(&mut self, seen: Progress) {
         let Progress {
             used,
@@ -133,7 +133,7 @@ impl<'a, T: Clock, E: Write> Watching<'a, T, E> {
         }
     }
 
-    /// Writes the figures, if they are wanted and there was a run.
+    /// Writes the figures, if they are requested and there was a run.
     pub fn tell(&mut self) {
         if !self.counts {
             return;

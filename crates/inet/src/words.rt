@@ -16,10 +16,10 @@ enum Colour {
     Cyan,
 }
 
-/// How a terminal goes back from a colour.
+/// The characters that end a colour.
 const PLAIN: &str = "\x1b[0m";
 
-/// How a terminal goes to a colour.
+/// The characters that begin a colour.
 fn code(colour: Colour) -> &'static str {
     match colour {
         Colour::Red => "\x1b[1;31m",
@@ -29,7 +29,7 @@ fn code(colour: Colour) -> &'static str {
     }
 }
 
-/// Where the text is refused.
+/// The place at which the text is refused.
 fn place_of(alloc: Global, text: &[u8]) -> Result<Option<Place>, AllocError> {
     match check(alloc, text) {
         Err(Fault::Refused(refusal)) => Ok(Some(refusal.place)),
@@ -41,7 +41,7 @@ fn place_of(alloc: Global, text: &[u8]) -> Result<Option<Place>, AllocError> {
     }
 }
 
-/// The line that says in which file, and where there, a text is refused.
+/// The line with the file of a refused text, and the place there.
 fn head(alloc: Global, file: &str, text: &[u8]) -> Result<String, AllocError> {
     match place_of(alloc, text)? {
         Some(Place { line, col, .. }) => {
@@ -52,7 +52,7 @@ fn head(alloc: Global, file: &str, text: &[u8]) -> Result<String, AllocError> {
     }
 }
 
-/// The colour of a line's first part, and where that part ends, where it has one; `mark` is the colour of marks below an excerpt.
+/// The colour of a line's first part and the end of that part, if it has one; `mark` is the colour of marks below an excerpt.
 fn coloured_part(line: &str, mark: Colour) -> Option<(Colour, usize)> {
     if line.starts_with("error:") {
         Some((Colour::Red, 6))
