@@ -81,7 +81,7 @@ impl<'a> Body<'a> {
 impl<'a> Reducer<'a> {
     /// The template of the pair of that number, by its symbols: they match, and match one rule. The templates are those of the program.
     #[inline(always)]
-    fn template_by<'b>(
+    pub(crate) fn template_by<'b>(
         &self,
         templates: &'b Templates,
         number: u32,
@@ -242,7 +242,7 @@ impl<'a> Reducer<'a> {
 
     /// The interaction of the first pair, up to numbers.
     #[inline(always)]
-    fn step_here(&mut self, template: &Template)
+    pub(crate) fn step_here(&mut self, template: &Template)
         requires at { IsTemplateAt self.old 0 template.now }
         requires room { HasRoomAt self.old 0 }
         ensures { StepsUpToNumbers self.old 0 self.new }
@@ -252,20 +252,5 @@ impl<'a> Reducer<'a> {
         } else {
             self.step_beside(template, 0);
         }
-    }
-
-    /// The interaction of the first pair, which has these symbols, up to numbers, if the cells that it needs are free. Returns whether it was done.
-    #[inline(always)]
-    pub(crate) fn step_known(&mut self, templates: &Templates, heads: (SymbolNo, SymbolNo)) -> bool
-        requires { AreTemplatesOf self.old.program templates.now × HasHeadsAt self.old 0 heads }
-        ensures done { result ≡ true → StepsUpToNumbers self.old 0 self.new }
-        ensures none { result ≡ false → (self.new ≡ self.old) × (HasRoomAt self.old 0 → ⊥) }
-    {
-        let template = self.template_by(templates, 0, heads);
-        if !self.fits(template, 0) {
-            return false;
-        }
-        self.step_here(template);
-        true
     }
 }

@@ -1,5 +1,5 @@
 // Interactions of the first pairs, or of the last ones, one after another.
-ghost use Rattle.std.specs.Prelude.{◌≡◌, ◌⊎◌, ◌↔◌, ◌≤◌, ◌<◌, ◌+◌, ◌-◌, ℕ, IsTrue, true, false, [], length, Some, slice_get};
+ghost use Rattle.std.specs.Prelude.{◌≡◌, ◌⊎◌, ◌↔◌, ◌≤◌, ◌<◌, ◌+◌, ◌-◌, ◌*◌, ℕ, IsTrue, true, false, [], length, Some, slice_get};
 ghost use Rattle.in_arena.specs.declared.content.CellClass.{CellClass};
 ghost use Rattle.in_symbols.specs.declared.symbols.SymbolNo.{SymbolNo as Symbol};
 ghost use Rattle.in_compile.specs.Cells.{count_of};
@@ -7,7 +7,7 @@ ghost use Rattle.in_compile.specs.Templates.{AreTemplatesOf};
 ghost use Rattle.in_reducer.specs.Parting.{ReducesTo};
 ghost use Rattle.in_reducer.specs.Same.{RunsUpToNumbers, StepsUpToNumbers};
 ghost use Rattle.in_reducer.specs.Steps.{HasRoomAt, StepsAt};
-ghost use Rattle.in_reducer.specs.Taking.{AreAhead, HasRoomBesides, TakesNoLast, together};
+ghost use Rattle.in_reducer.specs.Taking.{AreAhead, HasRoomBesides, HasRoomOn, TakesNoLast, together};
 ghost use Rattle.in_reducer.specs.Templates.{HasHeadsAt, IsTemplateAt};
 
 use crate::reducer::Reducer;
@@ -18,6 +18,17 @@ use in_symbols::SymbolNo;
 /// The symbols of how many pairs are read together, so that their cells are fetched at once: more than eight gain nothing. This project's own
 /// choice.
 const TOGETHER: usize = 8;
+
+/// How often so many cells, which are needed, are in those that are free: without end where none is needed.
+fn times_in(need: u32, free: u32) -> u64
+    ensures { result * need ≤ free }
+{
+    if need == 0 {
+        u64::MAX
+    } else {
+        u64::from(free / need)
+    }
+}
 
 /// The symbols of pairs of the queue, read ahead: those from number `next` on are of the queue's first pairs.
 #[derive(Drop)]
@@ -88,23 +99,74 @@ impl<'a> Reducer<'a> {
         }
     }
 
-    /// The interaction of the first pair, up to numbers, if there is a pair and the cells that it needs are free. Returns whether it was done. The
-    /// templates are those of the program. It takes no memory.
+    /// The interaction of the first pair, up to numbers. There is a pair, and the cells that it needs are free. The templates are those of the program.
+    /// It takes no memory.
     #[inline(always)]
-    fn step_next(&mut self, templates: &Templates, ahead: &mut Ahead) -> bool
-        requires { AreTemplatesOf self.old.program templates.now × AreAhead self.old ahead.old }
-        ensures done { result ≡ true → StepsUpToNumbers self.old 0 self.new × AreAhead self.new ahead.new }
-        ensures none { result ≡ false → (self.new ≡ self.old) × ((self.old.queue ≡ []) ⊎ (HasRoomAt self.old 0 → ⊥)) }
+    fn step_first(&mut self, templates: &Templates, ahead: &mut Ahead)
+        requires ahead { AreTemplatesOf self.old.program templates.now × AreAhead self.old ahead.old }
+        requires pair { 0 < length self.old.queue }
+        requires room { HasRoomAt self.old 0 }
+        ensures { StepsUpToNumbers self.old 0 self.new × AreAhead self.new ahead.new }
     {
-        if self.pairs() == 0 {
-            return false;
-        }
+        use_promise!(self.pairs());
         let heads = self.first_heads(ahead);
-        if !self.step_known(templates, heads) {
-            return false;
-        }
+        let template = self.template_by(templates, 0, heads);
+        self.step_here(template);
         ahead.go_on();
-        true
+    }
+
+    /// How many interactions have the cells that they need, whichever of the templates they are of: as often as the largest need of a template is in
+    /// the free cells.
+    fn room_for_any(&self, templates: &Templates) -> u64
+        requires { AreTemplatesOf self.now.program templates.now }
+        ensures { HasRoomOn result self.now }
+    {
+        use_promise!(self.pairs());
+        let need = templates.largest_need();
+        let free = self.vacant();
+        times_in(need.small, free.small)
+            .min(times_in(need.large, free.large))
+            .min(times_in(need.wide, free.wide))
+    }
+
+    /// How many of the next interactions have the cells that they need, as far as that can be said without doing them: at most `most`. None only if no pair
+    /// is left, or the cells that the first one needs aren't free. So what is free isn't tested at each interaction. The templates are those of the program.
+    fn sure_steps(&self, templates: &Templates, most: u64) -> u64
+        requires { AreTemplatesOf self.now.program templates.now }
+        ensures room { HasRoomOn result self.now }
+        ensures most { result ≤ most }
+        ensures none { result ≡ 0 → (most ≡ 0) ⊎ ((self.now.queue ≡ []) ⊎ (HasRoomAt self.now 0 → ⊥)) }
+    {
+        let any = self.room_for_any(templates);
+        if any > 0 {
+            return any.min(most);
+        }
+        if most == 0 || self.pairs() == 0 || !self.has_room(templates, 0) {
+            return 0;
+        }
+        1
+    }
+
+    /// Interactions of the first pair of the queue, one after another, up to numbers, `sure` of them, which have the cells that they need. Fewer only if no
+    /// pair is left. Returns how many there were. The templates are those of the program. It takes no memory.
+    fn take_sure(&mut self, templates: &Templates, sure: u64) -> u64
+        requires { AreTemplatesOf self.old.program templates.now × HasRoomOn sure self.old }
+        ensures runs { RunsUpToNumbers self.old result self.new }
+        ensures most { result ≤ sure }
+        ensures fewer { result < sure → self.new.queue ≡ [] }
+    {
+        use_promise!(self.pairs());
+        let mut ahead = Ahead::none();
+        let mut count = 0;
+        while count < sure {
+            if self.pairs() == 0 {
+                return count;
+            }
+            self.look_ahead(&mut ahead);
+            self.step_first(templates, &mut ahead);
+            count += 1;
+        }
+        count
     }
 
     /// Interactions of the first pair of the queue, one after another, at most `most`, first in, first out. Fewer only if no pair is left, or the
@@ -117,14 +179,17 @@ impl<'a> Reducer<'a> {
         ensures fewer { result < most → (self.new.queue ≡ []) ⊎ (HasRoomAt self.new 0 → ⊥) }
     {
         use_promise!(self.pairs());
-        let mut ahead = Ahead::none();
         let mut count = 0;
         while count < most {
-            self.look_ahead(&mut ahead);
-            if !self.step_next(templates, &mut ahead) {
+            let sure = self.sure_steps(templates, most - count);
+            if sure == 0 {
                 return count;
             }
-            count += 1;
+            let more = self.take_sure(templates, sure);
+            count += more;
+            if more < sure {
+                return count;
+            }
         }
         count
     }
