@@ -18,7 +18,14 @@ together = 8
 -- those from number `next` on are the symbols of the first pairs, in turn
 pub record AreAhead (m : MachineParts) (a : Ahead) : Type 0 where
   pub next : a.next ≤ together
+  pub long : length a.heads ≡ together
   pub heads : (k : ℕ) (h : SymbolNo × SymbolNo) → slice_get a.heads (a.next + k) ≡ Some h → HasHeadsAt m k h
+
+-- .. of the pairs behind the first one
+pub record AreBehind (m : MachineParts) (a : Ahead) : Type 0 where
+  pub next : a.next ≤ together
+  pub long : length a.heads ≡ together
+  pub heads : (k : ℕ) (h : SymbolNo × SymbolNo) → slice_get a.heads (a.next + k) ≡ Some h → HasHeadsAt m (k + 1) h
 
 -- the cells that the pair needs are free, and `floor` cells of each class besides
 abbrev pub HasRoomBesides : MachineParts → ℕ → ℕ → Type 0

@@ -1,16 +1,19 @@
 // Interactions of the first pairs, or of the last ones, one after another.
-ghost use Rattle.std.specs.Prelude.{◌≡◌, ◌⊎◌, ◌↔◌, ◌≤◌, ◌<◌, ◌+◌, ◌-◌, ◌*◌, ℕ, IsTrue, true, false, [], length, Some, slice_get};
+ghost use Rattle.std.specs.Prelude.{◌≡◌, ◌⊎◌, ◌↔◌, ◌≤◌, ◌<◌, ◌+◌, ◌-◌, ◌*◌, ℕ, IsTrue, true, false, [], length, Some, IsSome, slice_get};
 ghost use Rattle.in_arena.specs.declared.content.CellClass.{CellClass};
 ghost use Rattle.in_symbols.specs.declared.symbols.SymbolNo.{SymbolNo as Symbol};
 ghost use Rattle.in_compile.specs.Cells.{count_of};
 ghost use Rattle.in_compile.specs.Templates.{AreTemplatesOf};
+ghost use Rattle.in_net.specs.Parts.{symbol_in};
+ghost use Rattle.in_reducer.specs.Machines.{parts_of};
 ghost use Rattle.in_reducer.specs.Parting.{ReducesTo};
 ghost use Rattle.in_reducer.specs.Same.{RunsUpToNumbers, StepsUpToNumbers};
 ghost use Rattle.in_reducer.specs.Steps.{HasRoomAt, StepsAt};
-ghost use Rattle.in_reducer.specs.Taking.{AreAhead, HasRoomBesides, HasRoomOn, TakesNoLast, together};
+ghost use Rattle.in_reducer.specs.Taking.{AreAhead, AreBehind, HasRoomBesides, HasRoomOn, TakesNoLast, together};
 ghost use Rattle.in_reducer.specs.Templates.{HasHeadsAt, IsTemplateAt};
 
 use crate::reducer::Reducer;
+use in_arena::CellNo;
 use in_base::use_promise;
 use in_compile::{Need, Template, Templates};
 use in_symbols::SymbolNo;
@@ -48,55 +51,58 @@ impl Ahead {
         }
     }
 
-    /// The first pair is taken, whose symbols were read ahead if any were.
+    /// The symbols of the first pair, which were read: the others are of the pairs behind it then.
     #[inline(always)]
-    fn go_on(&mut self)
-        requires { self.old.next ≤ together }
-        ensures heads { (self.new.heads ≡ self.old.heads) × (length self.new.heads ≡ together) }
-        ensures none { self.old.next ≡ together → self.new.next ≡ together }
-        ensures some { (self.old.next ≡ together → ⊥) → self.new.next ≡ self.old.next + 1 }
+    fn take(&mut self) -> (SymbolNo, SymbolNo)
+        requires { self.old.next < together }
+        ensures { (slice_get self.old.heads self.old.next ≡ Some result) × (self.new.next ≡ self.old.next + 1) × (self.new.heads ≡ self.old.heads) }
     {
-        if self.next != TOGETHER {
-            self.next += 1;
-        }
+        let heads = self.heads[self.next];
+        self.next += 1;
+        heads
     }
 }
 
 impl<'a> Reducer<'a> {
-    /// Reads the symbols of the first pairs, if none is left that was read and there are so many pairs.
-    #[inline(always)]
-    fn look_ahead(&self, ahead: &mut Ahead)
-        requires { AreAhead self.now ahead.old }
-        ensures { AreAhead self.now ahead.new }
-    {
-        if ahead.next == TOGETHER && self.pairs() as usize >= TOGETHER {
-            self.read_heads(&mut ahead.heads);
-            ahead.next = 0;
-        }
-    }
-
     /// Reads the symbols of the first `TOGETHER` pairs. There are at least as many.
     #[inline(always)]
     fn read_heads(&self, heads: &mut [(SymbolNo, SymbolNo); TOGETHER])
         requires { together ≤ length self.now.queue }
-        ensures { (k : ℕ) (h : Symbol × Symbol) → slice_get heads.new k ≡ Some h → HasHeadsAt self.now k h }
+        ensures read { (k : ℕ) (h : Symbol × Symbol) → slice_get heads.new k ≡ Some h → HasHeadsAt self.now k h }
+        ensures long { length heads.new ≡ together }
     {
         for number in 0..TOGETHER {
             heads[number] = self.body.heads(number as u32);
         }
     }
 
-    /// The symbols of the first pair, which were read ahead if any were.
-    #[inline(always)]
-    fn first_heads(&self, ahead: &Ahead) -> (SymbolNo, SymbolNo)
-        requires { AreAhead self.now ahead.now × (0 < length self.now.queue) }
-        ensures { HasHeadsAt self.now 0 result }
+    /// Reads ahead from the first pair on. There are as many pairs. It stays a call, so that the loop of interactions keeps its registers.
+    #[inline(never)]
+    fn read_ahead(&self, ahead: &mut Ahead)
+        requires { together ≤ length self.now.queue }
+        ensures { AreAhead self.now ahead.new × (ahead.new.next ≡ 0) }
     {
-        if ahead.next == TOGETHER {
-            self.body.heads(0)
-        } else {
-            ahead.heads[ahead.next]
+        self.read_heads(&mut ahead.heads);
+        ahead.next = 0;
+    }
+
+    /// The symbols of the first pair. Where enough pairs wait, those of the pairs behind it are read ahead with them, if none is left that was read.
+    #[inline(always)]
+    fn first_heads(&self, pair: (CellNo, CellNo), ahead: &mut Ahead) -> (SymbolNo, SymbolNo)
+        requires ahead { AreAhead self.now ahead.old }
+        requires pair { slice_get self.now.queue 0 ≡ Some (pair.0.0, pair.1.0) }
+        requires agents { IsSome (symbol_in (parts_of self.now) pair.0.0) × IsSome (symbol_in (parts_of self.now) pair.1.0) }
+        ensures heads { HasHeadsAt self.now 0 result }
+        ensures behind { AreBehind self.now ahead.new }
+    {
+        if ahead.next != TOGETHER {
+            return ahead.take();
         }
+        if self.pairs() as usize >= TOGETHER {
+            self.read_ahead(ahead);
+            return ahead.take();
+        }
+        (self.symbol(pair.0), self.symbol(pair.1))
     }
 
     /// The interaction of the first pair, up to numbers. There is a pair, and the cells that it needs are free. The templates are those of the program.
@@ -109,10 +115,10 @@ impl<'a> Reducer<'a> {
         ensures { StepsUpToNumbers self.old 0 self.new × AreAhead self.new ahead.new }
     {
         use_promise!(self.pairs());
-        let heads = self.first_heads(ahead);
+        let pair = self.pair(0);
+        let heads = self.first_heads(pair, ahead);
         let template = self.template_by(templates, 0, heads);
-        self.step_here(template);
-        ahead.go_on();
+        self.step_here(template, pair);
     }
 
     /// How many interactions have the cells that they need, whichever of the templates they are of: as often as the largest need of a template is in
@@ -131,6 +137,7 @@ impl<'a> Reducer<'a> {
 
     /// How many of the next interactions have the cells that they need, as far as that can be said without doing them: at most `most`. None only if no pair
     /// is left, or the cells that the first one needs aren't free. So what is free isn't tested at each interaction. The templates are those of the program.
+    #[inline(never)]
     fn sure_steps(&self, templates: &Templates, most: u64) -> u64
         requires { AreTemplatesOf self.now.program templates.now }
         ensures room { HasRoomOn result self.now }
@@ -149,6 +156,7 @@ impl<'a> Reducer<'a> {
 
     /// Interactions of the first pair of the queue, one after another, up to numbers, `sure` of them, which have the cells that they need. Fewer only if no
     /// pair is left. Returns how many there were. The templates are those of the program. It takes no memory.
+    #[inline(never)]
     fn take_sure(&mut self, templates: &Templates, sure: u64) -> u64
         requires { AreTemplatesOf self.old.program templates.now × HasRoomOn sure self.old }
         ensures runs { RunsUpToNumbers self.old result self.new }
@@ -157,16 +165,15 @@ impl<'a> Reducer<'a> {
     {
         use_promise!(self.pairs());
         let mut ahead = Ahead::none();
-        let mut count = 0;
-        while count < sure {
+        let mut left = sure;
+        while left > 0 {
             if self.pairs() == 0 {
-                return count;
+                return sure - left;
             }
-            self.look_ahead(&mut ahead);
             self.step_first(templates, &mut ahead);
-            count += 1;
+            left -= 1;
         }
-        count
+        sure
     }
 
     /// Interactions of the first pair of the queue, one after another, at most `most`, first in, first out. Fewer only if no pair is left, or the
