@@ -14,6 +14,7 @@ pub mod Ordered
 pub mod Points
 pub mod Reading
 pub mod Reused
+pub mod RoomOn
 pub mod SetUp
 pub mod Settled
 pub mod Sided

@@ -1,12 +1,13 @@
--- Symbols of pairs that are read ahead of their interactions, and cells that stay free: both are this project's own choice.
-use Rattle.std.specs.Prelude.{◌≡◌, ◌⊎◌, ◌+◌, ◌-◌, ◌≤◌, ℕ, [], length, Some, slice_get}
+-- Symbols of pairs that are read ahead of their interactions, and cells that are left free, or are known to be free. Both are this project's own choice.
+use Rattle.std.specs.Prelude.{◌≡◌, ◌⊎◌, ◌+◌, ◌-◌, ◌≤◌, ◌<◌, ℕ, [], length, Some, slice_get}
 use Rattle.in_arena.specs.declared.content.CellClass.{CellClass}
 use Rattle.in_symbols.specs.declared.symbols.SymbolNo.{SymbolNo}
 use Rattle.in_reducer.specs.declared.taking.Ahead.{Ahead}
 use Rattle.in_compile.specs.declared.cells.Need.{Need}
 use Rattle.in_compile.specs.Cells.{count_of}
 use Rattle.in_reducer.specs.Machines.{MachineParts}
-use Rattle.in_reducer.specs.Steps.{NeedsAt}
+use Rattle.in_reducer.specs.Same.{RunsUpToNumbers}
+use Rattle.in_reducer.specs.Steps.{HasRoomAt, NeedsAt}
 use Rattle.in_reducer.specs.Templates.{HasHeadsAt}
 
 -- the number of pairs that are read together
@@ -16,7 +17,14 @@ together = 8
 -- the elements from number `next` on are the symbols of the first pairs, in turn
 pub record AreAhead (m : MachineParts) (a : Ahead) : Type 0 where
   pub next : a.next ≤ together
+  pub long : length a.heads ≡ together
   pub heads : (k : ℕ) (h : SymbolNo × SymbolNo) → slice_get a.heads (a.next + k) ≡ Some h → HasHeadsAt m k h
+
+-- .. of the pairs behind the first one
+pub record AreBehind (m : MachineParts) (a : Ahead) : Type 0 where
+  pub next : a.next ≤ together
+  pub long : length a.heads ≡ together
+  pub heads : (k : ℕ) (h : SymbolNo × SymbolNo) → slice_get a.heads (a.next + k) ≡ Some h → HasHeadsAt m (k + 1) h
 
 -- the cells that the pair needs are free, and `floor` cells of each class besides
 abbrev pub HasRoomBesides : MachineParts → ℕ → ℕ → Type 0
@@ -25,3 +33,7 @@ HasRoomBesides m i floor = (need : Need) × NeedsAt m i need × ((c : CellClass)
 -- no pair is left, or the cells for the last one aren't free with `floor` cells of each class besides
 abbrev pub TakesNoLast : ℕ → MachineParts → Type 0
 TakesNoLast floor m = (m.queue ≡ []) ⊎ (HasRoomBesides m (length m.queue - 1) floor → ⊥)
+
+-- each of the next `many` interactions of the first pair, up to numbers, finds the cells that it needs free
+abbrev pub HasRoomOn : ℕ → MachineParts → Type 0
+HasRoomOn many m = (k : ℕ) (n : MachineParts) → k < many → RunsUpToNumbers m k n → 0 < length n.queue → HasRoomAt n 0

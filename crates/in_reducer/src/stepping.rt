@@ -1,5 +1,5 @@
 // One interaction of a reducer.
-ghost use Rattle.std.specs.Prelude.{◌≡◌, ◌⊎◌, ◌<◌, ◌≤◌, ◌↔◌, true, false, IsTrue, [], length, IsSome, Some, vec_capacity};
+ghost use Rattle.std.specs.Prelude.{◌≡◌, ◌⊎◌, ◌<◌, ◌≤◌, ◌↔◌, true, false, IsTrue, [], length, IsSome, Some, slice_get, vec_capacity};
 ghost use Rattle.in_arena.specs.Arenas.{ArenaView};
 ghost use Rattle.in_compile.specs.Templates.{AreTemplatesOf};
 ghost use Rattle.in_net.specs.Parts.{symbol_in};
@@ -81,7 +81,7 @@ impl<'a> Body<'a> {
 impl<'a> Reducer<'a> {
     /// The template of the pair of that number, by its symbols: they match, and match one rule. The templates are those of the program.
     #[inline(always)]
-    fn template_by<'b>(
+    pub(crate) fn template_by<'b>(
         &self,
         templates: &'b Templates,
         number: u32,
@@ -207,20 +207,20 @@ impl<'a> Reducer<'a> {
         self.step_by(template, number);
     }
 
-    /// The interaction of the first pair, up to numbers, if neither symbol of the pair is marked. The pair's cells are freed before the agents of
+    /// The interaction of the first pair, this one, up to numbers, if neither symbol of the pair is marked. The pair's cells are freed before the agents of
     /// the right member are placed, which then reuse them where they can.
     #[inline(always)]
-    fn step_anew(&mut self, template: &Template)
+    fn step_anew(&mut self, template: &Template, first: (CellNo, CellNo))
+        requires first { slice_get self.old.queue 0 ≡ Some (first.0.0, first.1.0) }
         requires at { IsTemplateAt self.old 0 template.now }
         requires room { HasRoomAt self.old 0 }
         requires unmarked { IsTrue template.now.unmarked }
         ensures { StepsUpToNumbers self.old 0 self.new }
     {
         let body = &mut self.body;
-        let (one, other) = body.queue[0];
         let pair = Pair {
-            one: CellNo(one),
-            other: CellNo(other),
+            one: first.0,
+            other: first.1,
             first_ends: template.first_ends(),
         };
         use_promise!(body.arena.cells());
@@ -240,32 +240,18 @@ impl<'a> Reducer<'a> {
         );
     }
 
-    /// The interaction of the first pair, up to numbers.
+    /// The interaction of the first pair, this one, up to numbers.
     #[inline(always)]
-    fn step_here(&mut self, template: &Template)
+    pub(crate) fn step_here(&mut self, template: &Template, first: (CellNo, CellNo))
+        requires first { slice_get self.old.queue 0 ≡ Some (first.0.0, first.1.0) }
         requires at { IsTemplateAt self.old 0 template.now }
         requires room { HasRoomAt self.old 0 }
         ensures { StepsUpToNumbers self.old 0 self.new }
     {
         if template.is_unmarked() {
-            self.step_anew(template);
+            self.step_anew(template, first);
         } else {
             self.step_beside(template, 0);
         }
-    }
-
-    /// The interaction of the first pair, which has these symbols, up to numbers, if the cells that it needs are free. Returns whether it was done.
-    #[inline(always)]
-    pub(crate) fn step_known(&mut self, templates: &Templates, heads: (SymbolNo, SymbolNo)) -> bool
-        requires { AreTemplatesOf self.old.program templates.now × HasHeadsAt self.old 0 heads }
-        ensures done { result ≡ true → StepsUpToNumbers self.old 0 self.new }
-        ensures none { result ≡ false → (self.new ≡ self.old) × (HasRoomAt self.old 0 → ⊥) }
-    {
-        let template = self.template_by(templates, 0, heads);
-        if !self.fits(template, 0) {
-            return false;
-        }
-        self.step_here(template);
-        true
     }
 }

@@ -1,16 +1,19 @@
 // Interactions of the first pairs, or of the last ones, one after another.
-ghost use Rattle.std.specs.Prelude.{◌≡◌, ◌⊎◌, ◌↔◌, ◌≤◌, ◌<◌, ◌+◌, ◌-◌, ℕ, IsTrue, true, false, [], length, Some, slice_get};
+ghost use Rattle.std.specs.Prelude.{◌≡◌, ◌⊎◌, ◌↔◌, ◌≤◌, ◌<◌, ◌+◌, ◌-◌, ◌*◌, ℕ, IsTrue, true, false, [], length, Some, IsSome, slice_get};
 ghost use Rattle.in_arena.specs.declared.content.CellClass.{CellClass};
 ghost use Rattle.in_symbols.specs.declared.symbols.SymbolNo.{SymbolNo as Symbol};
 ghost use Rattle.in_compile.specs.Cells.{count_of};
 ghost use Rattle.in_compile.specs.Templates.{AreTemplatesOf};
+ghost use Rattle.in_net.specs.Parts.{symbol_in};
+ghost use Rattle.in_reducer.specs.Machines.{parts_of};
 ghost use Rattle.in_reducer.specs.Parting.{ReducesTo};
 ghost use Rattle.in_reducer.specs.Same.{RunsUpToNumbers, StepsUpToNumbers};
 ghost use Rattle.in_reducer.specs.Steps.{HasRoomAt, StepsAt};
-ghost use Rattle.in_reducer.specs.Taking.{AreAhead, HasRoomBesides, TakesNoLast, together};
+ghost use Rattle.in_reducer.specs.Taking.{AreAhead, AreBehind, HasRoomBesides, HasRoomOn, TakesNoLast, together};
 ghost use Rattle.in_reducer.specs.Templates.{HasHeadsAt, IsTemplateAt};
 
 use crate::reducer::Reducer;
+use in_arena::CellNo;
 use in_base::use_promise;
 use in_compile::{Need, Template, Templates};
 use in_symbols::SymbolNo;
@@ -18,6 +21,17 @@ use in_symbols::SymbolNo;
 /// The symbols of how many pairs are read together, so that their cells are fetched at once: more than eight gain nothing. This project's own
 /// choice.
 const TOGETHER: usize = 8;
+
+/// How often so many cells, which are needed, are in those that are free: without end where none is needed.
+fn times_in(need: u32, free: u32) -> u64
+    ensures { result * need ≤ free }
+{
+    if need == 0 {
+        u64::MAX
+    } else {
+        u64::from(free / need)
+    }
+}
 
 /// The symbols of pairs of the queue, read ahead: those from number `next` on are of the queue's first pairs.
 #[derive(Drop)]
@@ -37,74 +51,129 @@ impl Ahead {
         }
     }
 
-    /// The first pair is taken, whose symbols were read ahead if any were.
+    /// The symbols of the first pair, which were read: the others are of the pairs behind it then.
     #[inline(always)]
-    fn go_on(&mut self)
-        requires { self.old.next ≤ together }
-        ensures heads { (self.new.heads ≡ self.old.heads) × (length self.new.heads ≡ together) }
-        ensures none { self.old.next ≡ together → self.new.next ≡ together }
-        ensures some { (self.old.next ≡ together → ⊥) → self.new.next ≡ self.old.next + 1 }
+    fn take(&mut self) -> (SymbolNo, SymbolNo)
+        requires { self.old.next < together }
+        ensures { (slice_get self.old.heads self.old.next ≡ Some result) × (self.new.next ≡ self.old.next + 1) × (self.new.heads ≡ self.old.heads) }
     {
-        if self.next != TOGETHER {
-            self.next += 1;
-        }
+        let heads = self.heads[self.next];
+        self.next += 1;
+        heads
     }
 }
 
 impl<'a> Reducer<'a> {
-    /// Reads the symbols of the first pairs, if none is left that was read and there are so many pairs.
-    #[inline(always)]
-    fn look_ahead(&self, ahead: &mut Ahead)
-        requires { AreAhead self.now ahead.old }
-        ensures { AreAhead self.now ahead.new }
-    {
-        if ahead.next == TOGETHER && self.pairs() as usize >= TOGETHER {
-            self.read_heads(&mut ahead.heads);
-            ahead.next = 0;
-        }
-    }
-
     /// Reads the symbols of the first `TOGETHER` pairs. There are at least as many.
     #[inline(always)]
     fn read_heads(&self, heads: &mut [(SymbolNo, SymbolNo); TOGETHER])
         requires { together ≤ length self.now.queue }
-        ensures { (k : ℕ) (h : Symbol × Symbol) → slice_get heads.new k ≡ Some h → HasHeadsAt self.now k h }
+        ensures read { (k : ℕ) (h : Symbol × Symbol) → slice_get heads.new k ≡ Some h → HasHeadsAt self.now k h }
+        ensures long { length heads.new ≡ together }
     {
         for number in 0..TOGETHER {
             heads[number] = self.body.heads(number as u32);
         }
     }
 
-    /// The symbols of the first pair, which were read ahead if any were.
-    #[inline(always)]
-    fn first_heads(&self, ahead: &Ahead) -> (SymbolNo, SymbolNo)
-        requires { AreAhead self.now ahead.now × (0 < length self.now.queue) }
-        ensures { HasHeadsAt self.now 0 result }
+    /// Reads ahead from the first pair on. There are as many pairs. It stays a call, so that the loop of interactions keeps its registers.
+    #[inline(never)]
+    fn read_ahead(&self, ahead: &mut Ahead)
+        requires { together ≤ length self.now.queue }
+        ensures { AreAhead self.now ahead.new × (ahead.new.next ≡ 0) }
     {
-        if ahead.next == TOGETHER {
-            self.body.heads(0)
-        } else {
-            ahead.heads[ahead.next]
-        }
+        self.read_heads(&mut ahead.heads);
+        ahead.next = 0;
     }
 
-    /// The interaction of the first pair, up to numbers, if there is a pair and the cells that it needs are free. Returns whether it was done. The
-    /// templates are those of the program. It takes no memory.
+    /// The symbols of the first pair. Where enough pairs wait, those of the pairs behind it are read ahead with them, if none is left that was read.
     #[inline(always)]
-    fn step_next(&mut self, templates: &Templates, ahead: &mut Ahead) -> bool
-        requires { AreTemplatesOf self.old.program templates.now × AreAhead self.old ahead.old }
-        ensures done { result ≡ true → StepsUpToNumbers self.old 0 self.new × AreAhead self.new ahead.new }
-        ensures none { result ≡ false → (self.new ≡ self.old) × ((self.old.queue ≡ []) ⊎ (HasRoomAt self.old 0 → ⊥)) }
+    fn first_heads(&self, pair: (CellNo, CellNo), ahead: &mut Ahead) -> (SymbolNo, SymbolNo)
+        requires ahead { AreAhead self.now ahead.old }
+        requires pair { slice_get self.now.queue 0 ≡ Some (pair.0.0, pair.1.0) }
+        requires agents { IsSome (symbol_in (parts_of self.now) pair.0.0) × IsSome (symbol_in (parts_of self.now) pair.1.0) }
+        ensures heads { HasHeadsAt self.now 0 result }
+        ensures behind { AreBehind self.now ahead.new }
     {
-        if self.pairs() == 0 {
-            return false;
+        if ahead.next != TOGETHER {
+            return ahead.take();
         }
-        let heads = self.first_heads(ahead);
-        if !self.step_known(templates, heads) {
-            return false;
+        if self.pairs() as usize >= TOGETHER {
+            self.read_ahead(ahead);
+            return ahead.take();
         }
-        ahead.go_on();
-        true
+        (self.symbol(pair.0), self.symbol(pair.1))
+    }
+
+    /// The interaction of the first pair, up to numbers. There is a pair, and the cells that it needs are free. The templates are those of the program.
+    /// It takes no memory.
+    #[inline(always)]
+    fn step_first(&mut self, templates: &Templates, ahead: &mut Ahead)
+        requires ahead { AreTemplatesOf self.old.program templates.now × AreAhead self.old ahead.old }
+        requires pair { 0 < length self.old.queue }
+        requires room { HasRoomAt self.old 0 }
+        ensures { StepsUpToNumbers self.old 0 self.new × AreAhead self.new ahead.new }
+    {
+        use_promise!(self.pairs());
+        let pair = self.pair(0);
+        let heads = self.first_heads(pair, ahead);
+        let template = self.template_by(templates, 0, heads);
+        self.step_here(template, pair);
+    }
+
+    /// How many interactions have the cells that they need, whichever of the templates they are of: as often as the largest need of a template is in
+    /// the free cells.
+    fn room_for_any(&self, templates: &Templates) -> u64
+        requires { AreTemplatesOf self.now.program templates.now }
+        ensures { HasRoomOn result self.now }
+    {
+        use_promise!(self.pairs());
+        let need = templates.largest_need();
+        let free = self.vacant();
+        times_in(need.small, free.small)
+            .min(times_in(need.large, free.large))
+            .min(times_in(need.wide, free.wide))
+    }
+
+    /// How many of the next interactions have the cells that they need, as far as that can be said without doing them: at most `most`. None only if no pair
+    /// is left, or the cells that the first one needs aren't free. So what is free isn't tested at each interaction. The templates are those of the program.
+    #[inline(never)]
+    fn sure_steps(&self, templates: &Templates, most: u64) -> u64
+        requires { AreTemplatesOf self.now.program templates.now }
+        ensures room { HasRoomOn result self.now }
+        ensures most { result ≤ most }
+        ensures none { result ≡ 0 → (most ≡ 0) ⊎ ((self.now.queue ≡ []) ⊎ (HasRoomAt self.now 0 → ⊥)) }
+    {
+        let any = self.room_for_any(templates);
+        if any > 0 {
+            return any.min(most);
+        }
+        if most == 0 || self.pairs() == 0 || !self.has_room(templates, 0) {
+            return 0;
+        }
+        1
+    }
+
+    /// Interactions of the first pair of the queue, one after another, up to numbers, `sure` of them, which have the cells that they need. Fewer only if no
+    /// pair is left. Returns how many there were. The templates are those of the program. It takes no memory.
+    #[inline(never)]
+    fn take_sure(&mut self, templates: &Templates, sure: u64) -> u64
+        requires { AreTemplatesOf self.old.program templates.now × HasRoomOn sure self.old }
+        ensures runs { RunsUpToNumbers self.old result self.new }
+        ensures most { result ≤ sure }
+        ensures fewer { result < sure → self.new.queue ≡ [] }
+    {
+        use_promise!(self.pairs());
+        let mut ahead = Ahead::none();
+        let mut left = sure;
+        while left > 0 {
+            if self.pairs() == 0 {
+                return sure - left;
+            }
+            self.step_first(templates, &mut ahead);
+            left -= 1;
+        }
+        sure
     }
 
     /// Interactions of the first pair of the queue, one after another, at most `most`, first in, first out. Fewer only if no pair is left, or the
@@ -117,14 +186,17 @@ impl<'a> Reducer<'a> {
         ensures fewer { result < most → (self.new.queue ≡ []) ⊎ (HasRoomAt self.new 0 → ⊥) }
     {
         use_promise!(self.pairs());
-        let mut ahead = Ahead::none();
         let mut count = 0;
         while count < most {
-            self.look_ahead(&mut ahead);
-            if !self.step_next(templates, &mut ahead) {
+            let sure = self.sure_steps(templates, most - count);
+            if sure == 0 {
                 return count;
             }
-            count += 1;
+            let more = self.take_sure(templates, sure);
+            count += more;
+            if more < sure {
+                return count;
+            }
         }
         count
     }

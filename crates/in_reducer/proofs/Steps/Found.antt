@@ -1,6 +1,7 @@
 -- The template of an active pair is found by the symbols of its agents.
-use Rattle.std.proofs.Common.{◌≡◌, ℕ, Some, IsSome, slice_get, sym, ap, subst, ◌∙◌}
+use Rattle.std.proofs.Common.{◌≡◌, ◌≤◌, ℕ, Some, IsSome, slice_get, sym, ap, subst, ◌∙◌}
 use Rattle.std.proofs.lemmas.Option.{same_Some}
+use Rattle.in_arena.specs.declared.content.CellClass.{CellClass}
 use Rattle.in_symbols.specs.declared.symbols.SymbolNo.{SymbolNo}
 use Rattle.in_net.specs.Parts.{symbol_in}
 use Rattle.in_cover.specs.Cover.{IsPair, IsRuleOfSymbols}
@@ -9,11 +10,14 @@ use Rattle.in_check.specs.Plain.{IsPairAt, IsRuleAt}
 use Rattle.in_base.proofs.Places.{is_some as there}
 use Rattle.in_order.proofs.Public.{reducible_pairs_have_their_rule}
 use Rattle.in_interaction.specs.Queues.{agents_at}
+use Rattle.in_compile.specs.declared.cells.Need.{Need}
+use Rattle.in_compile.specs.Cells.{count_of}
 use Rattle.in_compile.specs.Laws.{HasOneTemplate}
-use Rattle.in_compile.specs.Templates.{TemplateParts, TemplatesParts, IsTemplateOf, AreTemplatesOf, template_at}
+use Rattle.in_compile.specs.Templates.{TemplateParts, TemplatesParts, IsLargestNeed, IsTemplateOf, AreTemplatesOf, template_at}
 use Rattle.in_compile.proofs.Public.{complete, one_for}
 use Rattle.in_reducer.specs.Machines.{MachineParts, parts_of, plain_of}
 use Rattle.in_reducer.specs.Reducers.{IsReducer}
+use Rattle.in_reducer.specs.Steps.{NeedsAt}
 use Rattle.in_reducer.specs.Templates.{IsTemplateAt}
 use Rattle.in_reducer.proofs.Steps.Ordered.{pair_at}
 use Rattle.in_reducer.proofs.Pairs.Queues.{reducer_promised}
@@ -51,3 +55,18 @@ module _ (m : MachineParts) (h : IsReducer m) (i : ℕ) (q : ℕ × ℕ) (stands
       is_rule = its.1 its_template.number its_template.is_rule.rule its_template.is_rule.stands its_template.is_rule.symbols;
       template = subst (IsTemplateOf m.program.tables its_template.is_rule.rule) (same_Some its_template.template p (sym found ∙ e)) its_template.of_rule;
     }
+
+    -- its template is one of those, so it needs no more of a class than the largest need says
+    pub its_need : (x : Need) × NeedsAt m i x × ((most : Need) → IsLargestNeed ts.templates most → (class : CellClass) → count_of x class ≤ count_of most class)
+    its_need = (
+      its_template.template.member.need,
+      record {
+        pair = q;
+        stands = stands;
+        number = its_template.number;
+        rule = its_template.is_rule.rule;
+        is_rule = its.1 its_template.number its_template.is_rule.rule its_template.is_rule.stands its_template.is_rule.symbols;
+        is_need = its_template.of_rule.member.need;
+      },
+      λ most is class. (is class).0 its_template.number its_template.template its_template.stands,
+    )

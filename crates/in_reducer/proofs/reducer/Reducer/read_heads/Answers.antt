@@ -16,8 +16,8 @@ loop-number-preserved c = record {
   many = length-set c.loop-number.heads c.loop-number.number c.heads.result ∙ c.loop-number.invariant.many;
 }
 
-pub returns : goal.returns
-returns c = λ k h at. c.loop-number.invariant.read k h
+pub returns-clause-read : goal.returns-clause-read
+returns-clause-read c = λ k h at. c.loop-number.invariant.read k h
     (let l = slice_get_within c.loop-number.heads k h at in
     let m = c.loop-number.invariant.many in
     let n = c.loop-number-test.false in

@@ -1,6 +1,7 @@
-use Rattle.std.proofs.Common.{◌≡◌, ◌<◌, ◌++◌, ℕ, Some, length, map, slice_get, refl, sym, ap, subst, ◌∙◌, arith}
+use Rattle.std.proofs.Common.{◌≡◌, ◌<◌, ◌++◌, ℕ, Some, List, length, map, get_or, slice_get, refl, sym, ap, subst, ◌∙◌, arith}
 use Rattle.std.specs.Vec.{with_items}
 use Rattle.std.proofs.lemmas.List.{with_items_is}
+use Rattle.std.proofs.lemmas.Option.{same_Some, slice_get-get_or, slice_get_within}
 use Rattle.in_interaction.specs.Queues.{both}
 use Rattle.in_compile.specs.Members.{MemberParts}
 use Rattle.in_reducer.specs.Interacting.{named}
@@ -15,18 +16,22 @@ use Rattle.in_reducer.proofs.Steps.Stepped as stepped
 use Rattle.in_reducer.proofs.Steps.StillNet as still
 use Rattle.in_reducer.proofs.reducer.Reducer.step_anew.Goals as goal
 
+is_read : (xs : List (ℕ × ℕ)) (q : ℕ × ℕ) → slice_get xs 0 ≡ Some q → q ≡ get_or xs 0 q
+is_read xs q e = same_Some q (get_or xs 0 q) (sym e ∙ slice_get-get_or xs 0 q (slice_get_within xs 0 q e))
+
 pub wire_anew-requires-clause-ready : goal.wire_anew-requires-clause-ready
 wire_anew-requires-clause-ready c =
     let r = c.self.inside.body in
     let k = c.self.invariant.all.net in
     let p = c.args.template.now in
     let i : ℕ = 0 in
+    let read = is_read r.queue.items (c.args.first.0.0, c.args.first.1.0) (ap (λ (m : MachineParts). slice_get m.queue 0) c.self.view_is ∙ c.requires.first) in
     let at = subst (λ (m : MachineParts). IsTemplateAt m i p) (sym c.self.view_is) c.requires.at in
     let room = subst (λ (m : MachineParts). HasRoomAt m i) (sym c.self.view_is) c.requires.room in
     let ends = c.as_mut_slice.result.now in
     let own = place.own_ends r k i p at in
-    let pair = place.pair_read r k i p at c.index.result.now c.index.ensures c.first_ends.result c.first_ends.ensures ends c.as_mut_slice.ensures.value in
-    let about = place.about_in r k i p at c.index.result.now c.index.ensures c.first_ends.result c.first_ends.ensures ends c.as_mut_slice.ensures.value r.checked.now.tables refl in (
+    let pair = place.pair_read r k i p at (c.args.first.0.0, c.args.first.1.0) read c.first_ends.result c.first_ends.ensures ends c.as_mut_slice.ensures.value in
+    let about = place.about_in r k i p at (c.args.first.0.0, c.args.first.1.0) read c.first_ends.result c.first_ends.ensures ends c.as_mut_slice.ensures.value r.checked.now.tables refl in (
       r.checked.now.tables,
       reuse.can_wire_anew r k i p at room c.self.invariant.none c.cells.ensures.1 pair own ends r.checked.now.tables refl about c.requires.unmarked c.as_mut_slice-2.result.now
           (let l = c.self.invariant.all.tools.points in let v = ap length c.as_mut_slice-2.ensures.value in omega (arith, l, v)),
@@ -45,6 +50,7 @@ queue_begun-requires-clause-there c =
     let k = c.self.invariant.all.net in
     let p = c.args.template.now in
     let i : ℕ = 0 in
+    let read = is_read r.queue.items (c.args.first.0.0, c.args.first.1.0) (ap (λ (m : MachineParts). slice_get m.queue 0) c.self.view_is ∙ c.requires.first) in
     let at = subst (λ (m : MachineParts). IsTemplateAt m i p) (sym c.self.view_is) c.requires.at in
     let room = subst (λ (m : MachineParts). HasRoomAt m i) (sym c.self.view_is) c.requires.room in
     let none = c.self.invariant.none in
@@ -55,8 +61,8 @@ queue_begun-requires-clause-there c =
     let points = c.wire_anew.new.points in
     let middle = c.wire_anew.new.queue.items in
     let own = place.own_ends r k i p at in
-    let pair = place.pair_read r k i p at c.index.result.now c.index.ensures c.first_ends.result c.first_ends.ensures ends c.as_mut_slice.ensures.value in
-    let about = place.about_in r k i p at c.index.result.now c.index.ensures c.first_ends.result c.first_ends.ensures ends c.as_mut_slice.ensures.value r.checked.now.tables refl in
+    let pair = place.pair_read r k i p at (c.args.first.0.0, c.args.first.1.0) read c.first_ends.result c.first_ends.ensures ends c.as_mut_slice.ensures.value in
+    let about = place.about_in r k i p at (c.args.first.0.0, c.args.first.1.0) read c.first_ends.result c.first_ends.ensures ends c.as_mut_slice.ensures.value r.checked.now.tables refl in
     let up = c.wire_anew.ensures.wired r.checked.now.tables
     (reuse.can_wire_anew r k i p at room none c.cells.ensures.1 pair own ends r.checked.now.tables refl about c.requires.unmarked
     c.as_mut_slice-2.result.now (let l = c.self.invariant.all.tools.points in let v = ap length c.as_mut_slice-2.ensures.value in omega (arith, l, v))) in
@@ -74,6 +80,7 @@ queue_begun-requires-clause-room c =
     let k = c.self.invariant.all.net in
     let p = c.args.template.now in
     let i : ℕ = 0 in
+    let read = is_read r.queue.items (c.args.first.0.0, c.args.first.1.0) (ap (λ (m : MachineParts). slice_get m.queue 0) c.self.view_is ∙ c.requires.first) in
     let at = subst (λ (m : MachineParts). IsTemplateAt m i p) (sym c.self.view_is) c.requires.at in
     let room = subst (λ (m : MachineParts). HasRoomAt m i) (sym c.self.view_is) c.requires.room in
     let none = c.self.invariant.none in
@@ -84,8 +91,8 @@ queue_begun-requires-clause-room c =
     let points = c.wire_anew.new.points in
     let middle = c.wire_anew.new.queue.items in
     let own = place.own_ends r k i p at in
-    let pair = place.pair_read r k i p at c.index.result.now c.index.ensures c.first_ends.result c.first_ends.ensures ends c.as_mut_slice.ensures.value in
-    let about = place.about_in r k i p at c.index.result.now c.index.ensures c.first_ends.result c.first_ends.ensures ends c.as_mut_slice.ensures.value r.checked.now.tables refl in
+    let pair = place.pair_read r k i p at (c.args.first.0.0, c.args.first.1.0) read c.first_ends.result c.first_ends.ensures ends c.as_mut_slice.ensures.value in
+    let about = place.about_in r k i p at (c.args.first.0.0, c.args.first.1.0) read c.first_ends.result c.first_ends.ensures ends c.as_mut_slice.ensures.value r.checked.now.tables refl in
     let up = c.wire_anew.ensures.wired r.checked.now.tables
     (reuse.can_wire_anew r k i p at room none c.cells.ensures.1 pair own ends r.checked.now.tables refl about c.requires.unmarked
     c.as_mut_slice-2.result.now (let l = c.self.invariant.all.tools.points in let v = ap length c.as_mut_slice-2.ensures.value in omega (arith, l, v))) in
@@ -102,6 +109,7 @@ invariant_of-self c =
     let k = c.self.invariant.all.net in
     let p = c.args.template.now in
     let i : ℕ = 0 in
+    let read = is_read r.queue.items (c.args.first.0.0, c.args.first.1.0) (ap (λ (m : MachineParts). slice_get m.queue 0) c.self.view_is ∙ c.requires.first) in
     let at = subst (λ (m : MachineParts). IsTemplateAt m i p) (sym c.self.view_is) c.requires.at in
     let room = subst (λ (m : MachineParts). HasRoomAt m i) (sym c.self.view_is) c.requires.room in
     let none = c.self.invariant.none in
@@ -112,8 +120,8 @@ invariant_of-self c =
     let points = c.wire_anew.new.points in
     let middle = c.wire_anew.new.queue.items in
     let own = place.own_ends r k i p at in
-    let pair = place.pair_read r k i p at c.index.result.now c.index.ensures c.first_ends.result c.first_ends.ensures ends c.as_mut_slice.ensures.value in
-    let about = place.about_in r k i p at c.index.result.now c.index.ensures c.first_ends.result c.first_ends.ensures ends c.as_mut_slice.ensures.value r.checked.now.tables refl in
+    let pair = place.pair_read r k i p at (c.args.first.0.0, c.args.first.1.0) read c.first_ends.result c.first_ends.ensures ends c.as_mut_slice.ensures.value in
+    let about = place.about_in r k i p at (c.args.first.0.0, c.args.first.1.0) read c.first_ends.result c.first_ends.ensures ends c.as_mut_slice.ensures.value r.checked.now.tables refl in
     let up = c.wire_anew.ensures.wired r.checked.now.tables
     (reuse.can_wire_anew r k i p at room none c.cells.ensures.1 pair own ends r.checked.now.tables refl about c.requires.unmarked
     c.as_mut_slice-2.result.now (let l = c.self.invariant.all.tools.points in let v = ap length c.as_mut_slice-2.ensures.value in omega (arith, l, v))) in
@@ -161,6 +169,7 @@ returns c =
     let k = c.self.invariant.all.net in
     let p = c.args.template.now in
     let i : ℕ = 0 in
+    let read = is_read r.queue.items (c.args.first.0.0, c.args.first.1.0) (ap (λ (m : MachineParts). slice_get m.queue 0) c.self.view_is ∙ c.requires.first) in
     let at = subst (λ (m : MachineParts). IsTemplateAt m i p) (sym c.self.view_is) c.requires.at in
     let room = subst (λ (m : MachineParts). HasRoomAt m i) (sym c.self.view_is) c.requires.room in
     let none = c.self.invariant.none in
@@ -171,8 +180,8 @@ returns c =
     let points = c.wire_anew.new.points in
     let middle = c.wire_anew.new.queue.items in
     let own = place.own_ends r k i p at in
-    let pair = place.pair_read r k i p at c.index.result.now c.index.ensures c.first_ends.result c.first_ends.ensures ends c.as_mut_slice.ensures.value in
-    let about = place.about_in r k i p at c.index.result.now c.index.ensures c.first_ends.result c.first_ends.ensures ends c.as_mut_slice.ensures.value r.checked.now.tables refl in
+    let pair = place.pair_read r k i p at (c.args.first.0.0, c.args.first.1.0) read c.first_ends.result c.first_ends.ensures ends c.as_mut_slice.ensures.value in
+    let about = place.about_in r k i p at (c.args.first.0.0, c.args.first.1.0) read c.first_ends.result c.first_ends.ensures ends c.as_mut_slice.ensures.value r.checked.now.tables refl in
     let up = c.wire_anew.ensures.wired r.checked.now.tables
     (reuse.can_wire_anew r k i p at room none c.cells.ensures.1 pair own ends r.checked.now.tables refl about c.requires.unmarked
     c.as_mut_slice-2.result.now (let l = c.self.invariant.all.tools.points in let v = ap length c.as_mut_slice-2.ensures.value in omega (arith, l, v))) in
