@@ -146,9 +146,9 @@ def early_ends(program):
 
 
 def long_text():
-    """The Ackermann function at three and ten, by the rules of the example: some 67 million interactions."""
+    """The Ackermann function at three and eleven, by the rules of the example: some 268 million interactions, which take more than two seconds."""
     rules = text_of("ackermann").decode().rpartition("net (")[0]
-    return f"{rules}net (all : nat+) {{ S(S(S(Z))) ~ Ack({'S(' * 10}Z{')' * 10}, all); }}\n".encode()
+    return f"{rules}net (all : nat+) {{ S(S(S(Z))) ~ Ack({'S(' * 11}Z{')' * 11}, all); }}\n".encode()
 
 
 def shown_at_terminal(program, words, text):
@@ -175,7 +175,7 @@ def shown_at_terminal(program, words, text):
 def wrong_progress(program):
     """What is wrong with what a long run shows at a terminal: how far it is, each line in the place of the one before, not before a second is over."""
     began = time.monotonic()
-    got = shown_at_terminal(program, ["run", "--no-net", "--limit", "100000000"], long_text())
+    got = shown_at_terminal(program, ["run", "--no-net", "--limit", "1000000000"], long_text())
     lasted = time.monotonic() - began
     shown = [int(number) for number in SHOWN.findall(got)]
     is_so_far = len(shown) == 2 and 0 < shown[0] < shown[1] and all(number % SHOWN_TURN == 0 for number in shown)
