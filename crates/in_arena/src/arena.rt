@@ -1,4 +1,4 @@
-// An arena: a row of words, in which each cell has its own, and a number.
+// An arena: cells in a row of words, each with a number.
 ghost use Rattle.std.specs.Prelude.{ℕ, ◌≡◌, ◌*◌, ◌<◌, ◌≤◌, ◌↔◌, IsTrue, true, false, MatchOption, Some, IfOk, length, replicate};
 ghost use Rattle.in_arena.specs.States.{State, Vacant, Leased, IsLive, IsLeased, IsBegun, HasEnds, word_of, end_at, places, with_end};
 ghost use Rattle.in_arena.specs.Arenas.{Leases, BeginsCell, IsOf, IsUsedOf, NoneLeased, state_at, changed, free_of};

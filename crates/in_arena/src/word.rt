@@ -81,7 +81,7 @@ impl EndWord {
 
     // The number of the cell of which it is a place, or of the free end.
     #[inline(always)]
-    pub fn number(self) -> u32
+    pub(crate) fn number(self) -> u32
         ensures cell { (c : Number) (p : ℕ) → self ≡ Cell c p → result ≡ c.0 }
         ensures free { (k : ℕ) → self ≡ Free k → result ≡ k }
     {
@@ -90,7 +90,7 @@ impl EndWord {
 
     // The place, where it is one of a cell.
     #[inline(always)]
-    pub fn place(self) -> u8
+    pub(crate) fn place(self) -> u8
         ensures { (c : Number) (p : ℕ) → self ≡ Cell c p → result ≡ p }
     {
         let far = self.bits / ABOVE;
@@ -150,7 +150,7 @@ impl EndWord {
 
     // The number in the row of the place that it is, where that is one of the first three places of a cell.
     #[inline(always)]
-    pub fn near(self) -> Option<usize>
+    pub(crate) fn near(self) -> Option<usize>
         ensures { MatchOption result ((c : Number) (p : ℕ) → self ≡ Cell c p → p < 3 → ⊥) (λ x. (c : Number) × (p : ℕ) × (self ≡ Cell c p) × (p < 3) × (x ≡ 4 * c.0 + p)) }
     {
         if self.bits < ABOVE {
