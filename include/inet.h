@@ -16,11 +16,11 @@
  * Threads. The library has no state of its own: any number of threads may call at once, each with a room and a length of its own; they
  * may share a text that nobody writes. A call starts no thread, takes no lock and waits for nobody, and there is nothing to set up.
  *
- * Memory. What is lent stays the caller's. A call takes memory by the program's malloc, realloc and free, and gives all of it back before it
- * returns: that is tested, and no contract says it. So there is nothing to free. These three are
- * one allocator's, may be called by several threads at once where the calls are, and align a block of malloc and of realloc to each power
- * of two up to 16 that divides its size. Where one of them answers null the call ends with INET_MEMORY. No call comes from a signal
- * handler, nor from the child that a process with threads forked. A call needs 64 KiB of stack, however deep the text is.
+ * Memory. What is lent stays the caller's. A call takes memory by the program's malloc, realloc and free, and no contract says that it gives
+ * all of it back before it returns, but each call that is tested does. So there is nothing to free. These three are one allocator's, may be
+ * called by several threads at once where the calls are, and align a block of malloc and of realloc to each power of two up to 16 that
+ * divides its size. Where one of them answers null the call ends with INET_MEMORY. No call comes from a signal handler, nor from the child
+ * that a process with threads forked. A call needs 64 KiB of stack, however deep the text is.
  */
 #ifndef INET_H
 #define INET_H

@@ -75,6 +75,7 @@ pub(crate) fn advance<R: Threads>(
     requires turn { 1 ≤ turn }
     ensures goes { RunsAnyhow machine.old result machine.new }
     ensures turn { limits.workers ≡ 1 → RunsUpToNumbers machine.old result machine.new }
+    ensures few { limits.workers ≡ 1 → result ≤ turn }
     ensures some { 1 ≤ result }
     ensures most { result + interactions ≤ limits.limit }
 {
