@@ -1,6 +1,7 @@
 pub mod Cells
 pub mod Cuts
 pub mod Numbers
+pub mod PairQueues
 pub mod Pairs
 pub mod Parts
 pub mod Public

@@ -1,6 +1,5 @@
 -- The view of a reducer, and the invariant of its fields.
 use Rattle.std.specs.Prelude.{◌≡◌, ◌+◌, ◌*◌, ◌≤◌, ◌<◌, ℕ, false, List, [], length, map, Some, slice_get, slice_index_or, vec_capacity}
-use Rattle.std.specs.VecDeque.{deque_capacity}
 use Rattle.in_arena.specs.Arenas.{ArenaView, NoneLeased}
 use Rattle.in_arena.specs.Classes.{classes}
 use Rattle.in_symbols.specs.declared.symbols.PortType.{PortType}
@@ -82,7 +81,7 @@ pub record KeepsNet (r : Body) : Type 0 where
   pub few_free : length r.free.items ≤ most_free
   pub free : (k : ℕ) (e : OwnEnd) → slice_get r.free.items k ≡ Some e → IsOwnEnd r.checked.now e
   pub ends : length r.free.items + most_ends + most_ends ≤ length r.ends.items
-  pub queue : length classes * r.arena.cells + 2 * most_ends ≤ 2 * deque_capacity r.queue + 1
+  pub queue : length classes * r.arena.cells + 2 * most_ends ≤ 2 * r.queue.room + 1
 
 -- .. which holds also while cells are on lease
 pub record KeepsAll (r : Body) : Type 0 where

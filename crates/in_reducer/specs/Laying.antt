@@ -1,6 +1,5 @@
 -- Cells for a net to come, and a program's net that is laid in them. No contract of a public call speaks of it. This project's own choice.
 use Rattle.std.specs.Prelude.{◌≡◌, ◌+◌, ◌*◌, ◌<◌, ◌≤◌, ℕ, List, [], length, map, replicate, take, Some, slice_get}
-use Rattle.std.specs.VecDeque.{deque_capacity}
 use Rattle.in_arena.specs.Arenas.{free_of}
 use Rattle.in_arena.specs.Classes.{classes}
 use Rattle.in_arena.specs.States.{Vacant}
@@ -23,7 +22,7 @@ pub record IsFresh (size : ℕ) (f : Fresh) : Type 0 where
   pub empty : f.arena.states ≡ replicate (length classes * size) Vacant
   pub tools : AreTools f.tools f.arena
   pub queue : f.queue.items ≡ []
-  pub queue_room : length classes * size + 2 * most_ends ≤ 2 * deque_capacity f.queue + 1
+  pub queue_room : length classes * size + 2 * most_ends ≤ 2 * f.queue.room + 1
 
 -- there is room for the member, which has no more joints than a net has free ends, and whose joints and pairs are of its own agents
 pub record CanLay (m : MemberParts) (f : Fresh) : Type 0 where
@@ -32,7 +31,7 @@ pub record CanLay (m : MemberParts) (f : Fresh) : Type 0 where
   pub joints : (ns : List CellNo) → length ns ≡ length m.agents → (e : ℕ) (j : Joint) → slice_get m.joints e ≡ Some j → HasJoint ns j
   pub pairs : (ns : List CellNo) → length ns ≡ length m.agents → (k : ℕ) (q : ℕ × ℕ) → slice_get m.pairs k ≡ Some q → (q.0 < length ns) × (q.1 < length ns)
   pub queue : f.queue.items ≡ []
-  pub room : length m.pairs ≤ deque_capacity f.queue
+  pub room : length m.pairs ≤ f.queue.room
 
 -- the member is in cells that were free, its pairs are queued, and the first ends lead where its boundary ends do
 pub record IsLaid (m : MemberParts) (old new : Fresh) (ends : List End) : Type 0 where
@@ -41,5 +40,5 @@ pub record IsLaid (m : MemberParts) (old new : Fresh) (ends : List End) : Type 0
   pub first : take (length m.joints) ends ≡ map (inner_of names 0) m.joints
   pub long : length m.joints + most_ends + most_ends ≤ length ends
   pub queue : new.queue.items ≡ map (both (named names)) m.pairs
-  pub room : deque_capacity new.queue ≡ deque_capacity old.queue
+  pub room : new.queue.room ≡ old.queue.room
   pub tools : new.tools ≡ old.tools

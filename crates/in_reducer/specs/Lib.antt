@@ -10,6 +10,7 @@ pub mod Limiting
 pub mod Machines
 pub mod NameLaws
 pub mod Wiring
+pub mod PairQueues
 pub mod Parting
 pub mod PartingLaws
 pub mod Placed

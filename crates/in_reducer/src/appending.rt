@@ -1,6 +1,5 @@
 // Pairs, free ends and room for sides, at the end of others.
 ghost use Rattle.std.specs.Prelude.{◌≡◌, ◌≤◌, ◌<◌, ◌+◌, ℕ, List, ◌++◌, length, map, vec_len, vec_capacity, slice_get, Some};
-ghost use Rattle.std.specs.VecDeque.{deque_len, deque_capacity};
 ghost use Rattle.in_arena.specs.declared.content.End.{End as Target};
 ghost use Rattle.in_interaction.specs.Queues.{both};
 ghost use Rattle.in_cells.specs.Copying.{name_in};
@@ -8,22 +7,18 @@ ghost use Rattle.in_reducer.specs.Inside.{most_ends};
 
 use crate::body::OwnEnd;
 use crate::limits::MOST_ENDS;
+use crate::pair_queue::PairQueue;
 use in_arena::{CellNo, EndWord};
-use std::collections::VecDeque;
 
 /// Adds the pairs of a queue to the end of another, their agents under these numbers. No memory is taken.
-pub(crate) fn add_pairs(
-    pairs: &VecDeque<(u32, u32)>,
-    names: &[CellNo],
-    queue: &mut VecDeque<(u32, u32)>,
-)
+pub(crate) fn add_pairs(pairs: &PairQueue, names: &[CellNo], queue: &mut PairQueue)
     requires within { (k : ℕ) (q : ℕ × ℕ) → slice_get pairs.now.items k ≡ Some q → (q.0 < length names.now) × (q.1 < length names.now) }
-    requires room { deque_len queue.old + deque_len pairs.now ≤ deque_capacity queue.old }
+    requires room { length queue.old.items + length pairs.now.items ≤ queue.old.room }
     ensures items { queue.new.items ≡ queue.old.items ++ map (both (name_in names.now)) pairs.now.items }
-    ensures room { deque_capacity queue.new ≡ deque_capacity queue.old }
+    ensures room { queue.new.room ≡ queue.old.room }
 {
     for number in 0..pairs.len() {
-        let (one, other) = pairs[number];
+        let (one, other) = pairs.at(number);
         queue.push_back_reserved((names[one as usize].0, names[other as usize].0));
     }
 }

@@ -1,9 +1,9 @@
 // The parts of a reducer, also while cells of its arena are lent to the workers of a round.
+use crate::pair_queue::PairQueue;
 use crate::tools::Tools;
 use in_arena::{Arena, EndWord};
 use in_check::Checked;
 use in_symbols::PortType;
-use std::collections::VecDeque;
 
 /// A free end: the program's of this number, or an end of a wire that was cut, which has a type and no name.
 #[derive(Clone, Copy)]
@@ -19,6 +19,6 @@ pub struct Body<'a> {
     pub arena: Arena,
     pub(crate) free: Vec<OwnEnd>,
     pub(crate) ends: Vec<EndWord>,
-    pub(crate) queue: VecDeque<(u32, u32)>,
+    pub(crate) queue: PairQueue,
     pub(crate) tools: Tools,
 }

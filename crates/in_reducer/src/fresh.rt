@@ -7,6 +7,7 @@ ghost use Rattle.in_reducer.specs.Limiting.{most_cells};
 
 use crate::body::{Body, OwnEnd};
 use crate::limits::MOST_ENDS;
+use crate::pair_queue::PairQueue;
 use crate::tools::Tools;
 use crate::wiring::POINTS;
 use in_arena::{Arena, CellClass, EndWord};
@@ -14,14 +15,13 @@ use in_check::Checked;
 use in_compile::Placed;
 use in_net::MAX_MEMBER_AGENTS;
 use std::alloc::{AllocError, Global};
-use std::collections::VecDeque;
 
 /// Cells without agents, the tools of interactions, and a queue with room for all pairs of agents in these cells and for those that an interaction
 /// makes.
 pub(crate) struct Fresh {
     pub(crate) arena: Arena,
     pub(crate) tools: Tools,
-    pub(crate) queue: VecDeque<(u32, u32)>,
+    pub(crate) queue: PairQueue,
 }
 
 // By hand, since an arena may be dropped only while none of its cells is on lease.
@@ -80,7 +80,7 @@ pub(crate) fn fresh_cells(alloc: Global, cells: u32) -> Result<Fresh, AllocError
     ensures { IfOk result (IsFresh cells) }
 {
     let room = CellClass::ALL.len() * cells as usize / 2 + MOST_ENDS;
-    let queue = VecDeque::with_capacity(alloc, room)?;
+    let queue = PairQueue::with_room(alloc, room)?;
     let arena = Arena::new(alloc, cells)?;
     let tools = tools_of(alloc, &arena)?;
     Ok(Fresh {

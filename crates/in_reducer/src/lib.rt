@@ -13,6 +13,7 @@
 //! writes the ends at both sides of each boundary end behind the free ends in the list, `interacting` joins them one by one by `in_cells`, and
 //! `queueing` adds the new pairs. Then the pair's cells are free. The room for all this (`tools`: a list of cells, a list of pairs, the points at
 //! which wires are joined; the queue; the list of ends) is taken at the start, so that an interaction takes no memory and can't be refused.
+//! Pairs wait in a row (`pair_queue`), of which only a first part is used while they are few.
 //!
 //! No cell is on lease between two calls, so that the arena can be dropped. A round (`in_rounds`) lends cells to workers, and reduces the reducer's
 //! parts (`body`) meanwhile: for contracts a leased cell counts as free (`at_rest` in `specs/Standing.antt`), so the view doesn't depend on which
@@ -36,6 +37,7 @@ mod limits;
 mod looking;
 pub mod names;
 mod numbered;
+mod pair_queue;
 mod queueing;
 mod reducer;
 mod rejoining;

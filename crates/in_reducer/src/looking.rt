@@ -36,7 +36,7 @@ impl<'a> Reducer<'a> {
         ensures pair { slice_get self.now.queue number ≡ Some (result.0.0, result.1.0) }
         ensures agents { IsSome (symbol_in (parts_of self.now) result.0.0) × IsSome (symbol_in (parts_of self.now) result.1.0) }
     {
-        let (one, other) = self.body.queue[number as usize];
+        let (one, other) = self.body.queue.at(number as usize);
         (CellNo(one), CellNo(other))
     }
 

@@ -1,7 +1,6 @@
 // A part of a reducer's net is split off.
 ghost use Rattle.std.specs.Prelude.{◌≡◌, ◌≤◌, ◌<◌, ◌+◌, ℕ, [], length, map, Some, IfOk, OnErr, slice_get};
 ghost use Rattle.std.specs.List.{filter};
-ghost use Rattle.std.specs.VecDeque.{deque_capacity};
 ghost use Rattle.in_arena.specs.Arenas.{NoneLeased};
 ghost use Rattle.in_arena.specs.declared.content.End.{End as Target};
 ghost use Rattle.in_arena.specs.declared.content.End.TheVariants as end;
@@ -22,13 +21,13 @@ use crate::cut_ends::Cuts;
 use crate::fresh::{Fresh, fresh_cells};
 use crate::limits::MOST_ENDS;
 use crate::numbered::numbered_end;
+use crate::pair_queue::PairQueue;
 use crate::reducer::Reducer;
 use in_arena::{Arena, CellNo, EndWord};
 use in_base::use_invariant;
 use in_cells::{copy, moved_end, number_anew, retire_all};
 use in_compile::Templates;
 use std::alloc::{AllocError, Global};
-use std::collections::VecDeque;
 
 /// The numbers that free ends of the whole get in the rest or in the part, and lists for the free ends there and for their other ends.
 #[derive(Drop)]
@@ -155,25 +154,18 @@ fn fill_part(whole: &Whole, names: &[CellNo], part: &mut EndLists)
 }
 
 /// Moves the pairs of agents that were taken out of the arena to the part's queue, under the new numbers of these agents; both queues keep their order.
-fn split_queue(
-    arena: &Arena,
-    names: &[CellNo],
-    queue: &mut VecDeque<(u32, u32)>,
-    part: &mut VecDeque<(u32, u32)>,
-)
+fn split_queue(arena: &Arena, names: &[CellNo], queue: &mut PairQueue, part: &mut PairQueue)
     requires none { NoneLeased arena.now }
     requires there { (k : ℕ) (q : ℕ × ℕ) → slice_get queue.old.items k ≡ Some q → q.0 < length arena.now.states }
     requires names { (k : ℕ) (q : ℕ × ℕ) → slice_get queue.old.items k ≡ Some q → (q.0 < length names.now) × (q.1 < length names.now) }
-    requires part { (part.old.items ≡ []) × (length (filter (goes arena.now) queue.old.items) ≤ deque_capacity part.old) }
+    requires part { (part.old.items ≡ []) × (length (filter (goes arena.now) queue.old.items) ≤ part.old.room) }
     ensures rest { queue.new.items ≡ filter (stays arena.now) queue.old.items }
-    ensures rest_room { deque_capacity queue.new ≡ deque_capacity queue.old }
+    ensures rest_room { queue.new.room ≡ queue.old.room }
     ensures part { part.new.items ≡ map (both (name_in names.now)) (filter (goes arena.now) queue.old.items) }
-    ensures part_room { deque_capacity part.new ≡ deque_capacity part.old }
+    ensures part_room { part.new.room ≡ part.old.room }
 {
     for _pair in 0..queue.len() {
-        let Some((one, other)) = queue.pop_front() else {
-            return;
-        };
+        let (one, other) = queue.pop_front();
         if arena.is_live(CellNo(one)) {
             queue.push_back_reserved((one, other));
         } else {

@@ -36,7 +36,7 @@ impl<'a> Body<'a> {
         requires pair { number < length self.now.queue.items }
         ensures { HasHeadsAt (reducer_view self.now) number result }
     {
-        let (one, other) = self.queue[number as usize];
+        let (one, other) = self.queue.at(number as usize);
         (self.symbol(CellNo(one)), self.symbol(CellNo(other)))
     }
 
@@ -53,7 +53,7 @@ impl<'a> Body<'a> {
         ensures tools { AreAsBefore self.old.tools self.new.tools }
         ensures program { self.new.checked ≡ self.old.checked }
     {
-        let (one, other) = self.queue[number as usize];
+        let (one, other) = self.queue.at(number as usize);
         let own = self.free.len() as u32;
         let next = PlacedPair {
             pair: Pair {
@@ -156,7 +156,7 @@ impl<'a> Reducer<'a> {
         ensures { StepsAt self.old number self.new }
     {
         let body = &mut self.body;
-        let (one, other) = body.queue[number as usize];
+        let (one, other) = body.queue.at(number as usize);
         let pair = Pair {
             one: CellNo(one),
             other: CellNo(other),

@@ -71,19 +71,9 @@ impl<'a> Reducer<'a> {
         ensures read { (k : ℕ) (h : Symbol × Symbol) → slice_get heads.new k ≡ Some h → HasHeadsAt self.now k h }
         ensures long { length heads.new ≡ together }
     {
-        for number in 0..TOGETHER {
-            heads[number] = self.body.heads(number as u32);
+        for number in 0..TOGETHER as u32 {
+            heads[number as usize] = self.body.heads(number);
         }
-    }
-
-    /// Reads ahead from the first pair on. There are as many pairs. It stays a call, so that the loop of interactions keeps its registers.
-    #[inline(never)]
-    fn read_ahead(&self, ahead: &mut Ahead)
-        requires { together ≤ length self.now.queue }
-        ensures { AreAhead self.now ahead.new × (ahead.new.next ≡ 0) }
-    {
-        self.read_heads(&mut ahead.heads);
-        ahead.next = 0;
     }
 
     /// The symbols of the first pair. Where enough pairs wait, those of the pairs behind it are read ahead with them, if none is left that was read.
@@ -99,7 +89,8 @@ impl<'a> Reducer<'a> {
             return ahead.take();
         }
         if self.pairs() as usize >= TOGETHER {
-            self.read_ahead(ahead);
+            self.read_heads(&mut ahead.heads);
+            ahead.next = 0;
             return ahead.take();
         }
         (self.symbol(pair.0), self.symbol(pair.1))
@@ -156,7 +147,6 @@ impl<'a> Reducer<'a> {
 
     /// Interactions of the first pair of the queue, one after another, up to numbers, `sure` of them, which have the cells that they need. Fewer only if no
     /// pair is left. Returns how many there were. The templates are those of the program. It takes no memory.
-    #[inline(never)]
     fn take_sure(&mut self, templates: &Templates, sure: u64) -> u64
         requires { AreTemplatesOf self.old.program templates.now × HasRoomOn sure self.old }
         ensures runs { RunsUpToNumbers self.old result self.new }

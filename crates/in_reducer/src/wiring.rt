@@ -1,6 +1,5 @@
 // One interaction in place: new agents are begun beside the pair, and the wires of the right member are written.
 ghost use Rattle.std.specs.Prelude.{◌≡◌, ◌≤◌, ◌<◌, ◌+◌, ◌++◌, ℕ, Bool, List, length, map, Some, slice_get};
-ghost use Rattle.std.specs.VecDeque.{deque_len, deque_capacity};
 ghost use Rattle.in_arena.specs.Arenas.{ArenaView, state_at};
 ghost use Rattle.in_arena.specs.States.{IsLive, places};
 ghost use Rattle.in_arena.specs.declared.content.CellNo.{CellNo as Number};
@@ -16,12 +15,12 @@ ghost use Rattle.in_reducer.specs.Sides.{end_there, port_at};
 ghost use Rattle.in_reducer.specs.Wiring.{AddsInOrder, AreAtAgents, AreLive, AreOwnPairs, CanBegin, CanRead, CanWireAnew, CanWireUp, HasBegun, HasBegunBelow, HasPortsFor, HasPortsIn, HasQueued, IsAtPlace, IsWiredAnew, IsWiredUp, IsWiring, retired, wires_of};
 
 use crate::limits::MOST_ENDS;
+use crate::pair_queue::PairQueue;
 use crate::sides::Pair;
 use in_arena::{Arena, CellNo, EndWord};
 use in_cells::exchange;
 use in_compile::{Member, Template};
 use in_net::MAX_MEMBER_AGENTS;
-use std::collections::VecDeque;
 
 /// How many points a right member has at most: a boundary end each, and an agent each.
 pub(crate) const POINTS: usize = MOST_ENDS + MAX_MEMBER_AGENTS;
@@ -113,18 +112,12 @@ fn side(points: &[EndWord], slot: u8, place: u8) -> EndWord
 /// Queues the pair that a wire with this lowest boundary end makes, if both its sides are principal ports. Where the boundary end is an output, its
 /// side is an input, and the agent of the other side comes first.
 #[inline(always)]
-fn queue_pair(
-    template: &Template,
-    end: u8,
-    outer: EndWord,
-    inner: EndWord,
-    queue: &mut VecDeque<(u32, u32)>,
-)
+fn queue_pair(template: &Template, end: u8, outer: EndWord, inner: EndWord, queue: &mut PairQueue)
     requires there { end < length template.now.outputs }
-    requires room { deque_len queue.old < deque_capacity queue.old }
+    requires room { length queue.old.items < queue.old.room }
     ensures added { (input : Bool) → slice_get template.now.outputs end ≡ Some input → AddsInOrder input outer inner queue.old.items queue.new.items }
-    ensures longer { deque_len queue.new ≤ deque_len queue.old + 1 }
-    ensures capacity { deque_capacity queue.new ≡ deque_capacity queue.old }
+    ensures longer { length queue.new.items ≤ length queue.old.items + 1 }
+    ensures capacity { queue.new.room ≡ queue.old.room }
 {
     if let (Some(one), Some(other)) = (outer.principal(), inner.principal()) {
         let pair = if template.is_output(end) {
@@ -143,15 +136,15 @@ fn write_over(
     points: &[EndWord],
     arena: &mut Arena,
     ends: &mut [EndWord],
-    queue: &mut VecDeque<(u32, u32)>,
+    queue: &mut PairQueue,
 )
     requires ready { (t : Tables) × (s : PairSetting) × (own : ℕ) × (ns : List Number) × IsWiring t s template.now own ns points.now 0 arena.old ends.old }
-    requires room { deque_len queue.old + length (over_of template.now.member) ≤ deque_capacity queue.old }
+    requires room { length queue.old.items + length (over_of template.now.member) ≤ queue.old.room }
     ensures written { (t : Tables) (s : PairSetting) (own : ℕ) (ns : List Number) → IsWiring t s template.now own ns points.now 0 arena.old ends.old → IsWiring t s template.now own ns points.now (length (over_of template.now.member)) arena.new ends.new }
     ensures queued { (t : Tables) (s : PairSetting) (own : ℕ) (ns : List Number) → IsWiring t s template.now own ns points.now 0 arena.old ends.old → HasQueued t (interaction_of s ns) (map over_point (over_of template.now.member)) (length (over_of template.now.member)) queue.old.items queue.new.items }
     ensures kept { KeepsCells arena.old arena.new }
     ensures long { length ends.new ≡ length ends.old }
-    ensures capacity { deque_capacity queue.new ≡ deque_capacity queue.old }
+    ensures capacity { queue.new.room ≡ queue.old.room }
 {
     let wires = template.over();
     for number in 0..wires.len() {
@@ -189,14 +182,14 @@ pub(crate) fn wire_up(
     arena: &mut Arena,
     ends: &mut [EndWord],
     points: &mut [EndWord],
-    queue: &mut VecDeque<(u32, u32)>,
+    queue: &mut PairQueue,
 )
     requires ready { (t : Tables) × CanWireUp t template.now pair arena.old ends.old points.old }
-    requires room { deque_len queue.old + most_ends ≤ deque_capacity queue.old }
+    requires room { length queue.old.items + most_ends ≤ queue.old.room }
     ensures wired { (t : Tables) → CanWireUp t template.now pair arena.old ends.old points.old → IsWiredUp t template.now pair arena.old ends.old queue.old.items arena.new ends.new points.new queue.new.items }
     ensures points { length points.new ≡ length points.old }
     ensures long { length ends.new ≡ length ends.old }
-    ensures capacity { deque_capacity queue.new ≡ deque_capacity queue.old }
+    ensures capacity { queue.new.room ≡ queue.old.room }
 {
     begin_agents(template.member(), arena, points);
     read_ports(arena, pair, template.boundary_ends(), points);
@@ -243,14 +236,14 @@ pub(crate) fn wire_anew(
     arena: &mut Arena,
     ends: &mut [EndWord],
     points: &mut [EndWord],
-    queue: &mut VecDeque<(u32, u32)>,
+    queue: &mut PairQueue,
 )
     requires ready { (t : Tables) × CanWireAnew t template.now pair arena.old ends.old points.old }
-    requires room { deque_len queue.old + most_ends ≤ deque_capacity queue.old }
+    requires room { length queue.old.items + most_ends ≤ queue.old.room }
     ensures wired { (t : Tables) → CanWireAnew t template.now pair arena.old ends.old points.old → IsWiredAnew t template.now pair arena.old ends.old queue.old.items arena.new ends.new points.new queue.new.items }
     ensures points { length points.new ≡ length points.old }
     ensures long { length ends.new ≡ length ends.old }
-    ensures capacity { deque_capacity queue.new ≡ deque_capacity queue.old }
+    ensures capacity { queue.new.room ≡ queue.old.room }
 {
     read_ports(arena, pair, template.boundary_ends(), points);
     begin_in(template.member(), pair, arena, points);
@@ -273,11 +266,11 @@ fn agent_at(points: &[EndWord], agent: u32) -> CellNo
 
 /// Queues the active pairs that a member's agents are, whose principal ports are at their points.
 #[inline(always)]
-pub(crate) fn queue_begun(member: &Member, points: &[EndWord], queue: &mut VecDeque<(u32, u32)>)
+pub(crate) fn queue_begun(member: &Member, points: &[EndWord], queue: &mut PairQueue)
     requires there { (ns : List Number) × AreAtAgents ns points.now × AreOwnPairs ns member.now }
-    requires room { deque_len queue.old + length member.now.pairs ≤ deque_capacity queue.old }
+    requires room { length queue.old.items + length member.now.pairs ≤ queue.old.room }
     ensures items { (ns : List Number) → AreAtAgents ns points.now → AreOwnPairs ns member.now → queue.new.items ≡ queue.old.items ++ map (both (named ns)) member.now.pairs }
-    ensures room { deque_capacity queue.new ≡ deque_capacity queue.old }
+    ensures room { queue.new.room ≡ queue.old.room }
 {
     for number in 0..member.pairs() {
         let (one, other) = member.pair(number);

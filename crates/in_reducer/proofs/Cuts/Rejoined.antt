@@ -1,7 +1,6 @@
 -- A reducer after its last two free ends are joined.
 use Rattle.std.proofs.Common.{◌≡◌, ◌⊎◌, ◌<◌, ◌≤◌, ◌+◌, ℕ, zero, suc, Some, List, [], ◌∷◌, ◌++◌, length, length-append, map, take, reverse, slice_get, refl, sym, ap, subst, ◌∙◌, inl, inr, arith}
 use Rattle.std.specs.Prelude.{option_map}
-use Rattle.std.specs.VecDeque.{deque_capacity}
 use Rattle.std.proofs.lemmas.List.{append-nil, length-map, map-append, take-map}
 use Rattle.std.proofs.lemmas.Option.{same_Some}
 use Rattle.in_arena.specs.Arenas.{ArenaView, NoneLeased, state_at}
@@ -340,7 +339,7 @@ module _ (r : Body) (k : KeepsNet r) (two : 2 ≤ length r.free.items) (own : �
     }
 
     -- the queue has room for as many pairs as `queue` has
-    pub few_pairs : (queue : List (ℕ × ℕ)) → IsQueueOf t (seen b gs es) queue → length queue ≤ deque_capacity r.queue
+    pub few_pairs : (queue : List (ℕ × ℕ)) → IsQueueOf t (seen b gs es) queue → length queue ≤ r.queue.room
     few_pairs queue h =
         let reducer = is_reducer queue h in
         let short = short_queue (after queue) reducer in

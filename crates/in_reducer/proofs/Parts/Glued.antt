@@ -1,6 +1,5 @@
 -- A reducer after a part was glued on: the free ends of its own, and then by turns one of the part and one of the rest.
 use Rattle.std.proofs.Common.{◌≡◌, ◌<◌, ◌≤◌, ◌+◌, ℕ, zero, suc, Option, Some, List, ◌++◌, length, length-append, map, take, slice_get, refl, sym, ap, subst, ◌∙◌, arith}
-use Rattle.std.specs.VecDeque.{deque_capacity}
 use Rattle.std.proofs.lemmas.List.{length-map, length-take-le}
 use Rattle.std.proofs.lemmas.Option.{slice_get-map, slice_get_within}
 use Rattle.in_base.proofs.Each.{at_index}
@@ -182,7 +181,7 @@ module _ (r o : Body) (k : KeepsNet r) (l : KeepsNet o) (can : CanAppend (reduce
       pub is_reducer : IsReducer after
       is_reducer = together.is_reducer r o k l can agents live (number_in rest_numbers) a anew part_numbers names b copied (ends_of_two own cuts) new list queue is_queue stand
 
-      pub few_pairs : length r.queue.items + length o.queue.items ≤ deque_capacity r.queue
+      pub few_pairs : length r.queue.items + length o.queue.items ≤ r.queue.room
       few_pairs = together.few_pairs r o k l can agents live (number_in rest_numbers) a anew part_numbers names b copied (ends_of_two own cuts) new list queue is_queue stand
 
       pub few_free : own + cuts + cuts ≤ most_free → length new ≤ most_free

@@ -1,7 +1,6 @@
 -- The nets of two reducers in the cells of one of them, side by side, in any order of their free ends.
 use Rattle.std.proofs.Common.{◌≡◌, ◌⊎◌, inl, inr, ◌<◌, ◌≤◌, ◌+◌, ℕ, zero, suc, true, Some, List, [], ◌∷◌, ◌++◌, length, map, take, drop, get_or, count_by, slice_get, refl, sym, ap, subst, ◌∙◌, length-append, arith}
 use Rattle.std.specs.Prelude.{All, option_map}
-use Rattle.std.specs.VecDeque.{deque_capacity}
 use Rattle.std.proofs.Math.Seq.{take-append_seam}
 use Rattle.std.proofs.lemmas.List.{length-map, length-take-le}
 use Rattle.std.proofs.lemmas.Option.{same_Some}
@@ -316,7 +315,7 @@ module _ (r o : Body) (k : KeepsNet r) (l : KeepsNet o) (can : CanAppend (reduce
         }
 
         -- the queue has room for all pairs
-        pub few_pairs : length r.queue.items + length o.queue.items ≤ deque_capacity r.queue
+        pub few_pairs : length r.queue.items + length o.queue.items ≤ r.queue.room
         unfolding is_reducer
         few_pairs =
             let short = short_queue after is_reducer in

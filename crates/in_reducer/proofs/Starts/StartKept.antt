@@ -1,6 +1,5 @@
 -- The invariant of a reducer's fields, at its program's net.
 use Rattle.std.proofs.Common.{◌≡◌, ◌≤◌, ◌+◌, ◌*◌, ℕ, Some, List, length, map, take, replicate, slice_get, sym, ap, subst, ◌∙◌, arith}
-use Rattle.std.specs.VecDeque.{deque_capacity}
 use Rattle.std.proofs.lemmas.List.{length-map}
 use Rattle.in_arena.specs.Arenas.{ArenaView}
 use Rattle.in_arena.specs.Classes.{classes}
@@ -39,7 +38,7 @@ module _ (text : List ℕ) (x : Body) (accepted : IsAccepted text x.checked.now)
   starts = subst (λ (fs : List FreeEnd). IsStart x.checked.now cells (record { program = x.checked.now; agents = agents_in x.arena; free = leading_to fs x.ends.items; queue = x.queue.items; vacant = vacant_in (at_rest x.arena) })) (sym free)
       (is_start text x.checked.now accepted m member ns a x.arena cells same empty put x.ends.items first long x.queue.items queue)
 
-  module _ (room : length classes * cells + 2 * most_ends ≤ 2 * deque_capacity x.queue + 1) (tools : AreTools x.tools a) where
+  module _ (room : length classes * cells + 2 * most_ends ≤ 2 * x.queue.room + 1) (tools : AreTools x.tools a) where
     still_none : (b : ArenaView) → IsNoneOf b a → IsNoneOf b x.arena
     still_none b h = (
       record {

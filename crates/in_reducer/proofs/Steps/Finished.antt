@@ -1,6 +1,5 @@
 -- An interaction whose right member is beside its pair: the goals of its last steps, and its result.
 use Rattle.std.proofs.Common.{◌≡◌, ◌<◌, ◌≤◌, ◌+◌, ℕ, List, [], ◌++◌, map, remove, reverse, length, get_or, sym, ap, subst, ◌∙◌, arith, refl}
-use Rattle.std.specs.VecDeque.{deque_capacity}
 use Rattle.std.proofs.lemmas.Option.{same_Some, slice_get_within, slice_get_read}
 use Rattle.in_arena.specs.Arenas.{ArenaView}
 use Rattle.in_arena.specs.declared.content.CellNo.{CellNo}
@@ -71,7 +70,7 @@ module _ (r : Body) (a : ArenaView) (i : ℕ) (p : TemplateParts) (sb : StandsBe
     is_all_own = own_is own is_own
 
     -- what is left of the queue, the pairs made and those of the member fit the queue
-    pub lengths : length (remove r.queue.items i) + length made + length p.member.pairs ≤ deque_capacity r.queue
+    pub lengths : length (remove r.queue.items i) + length made + length p.member.pairs ≤ r.queue.room
     lengths = stepped.lengths (over a r) sb.net i p sb.at sb.room own is_all_own ns b es made did net all_cells long
 
     module _ (removed middle queue : List (ℕ × ℕ)) (e : removed ≡ remove r.queue.items i) (f : middle ≡ removed ++ reverse made) (g : queue ≡ middle ++ map (both (named r.tools.placed.cells)) p.member.pairs) where

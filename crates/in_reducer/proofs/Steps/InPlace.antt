@@ -1,6 +1,5 @@
 -- An interaction in place, of a pair of a reducer: the goals of its steps, and its result.
 use Rattle.std.proofs.Common.{◌≡◌, ◌≤◌, ◌+◌, ℕ, List, [], ◌++◌, map, remove, reverse, length, length-append, get_or, refl, sym, ap, subst, ◌∙◌, arith}
-use Rattle.std.specs.VecDeque.{deque_capacity}
 use Rattle.std.proofs.lemmas.List.{length-map, length-reverse, length-set, take_all}
 use Rattle.std.proofs.lemmas.List.Edits.{length-remove}
 use Rattle.std.specs.Prelude.{IsTrue}
@@ -69,7 +68,7 @@ module _ (r : Body) (k : KeepsNet r) (i : ℕ) (p : TemplateParts) (at : IsTempl
     }
 
   -- one pair fewer and those that an interaction makes fit the queue
-  pub over_room : (rest : List (ℕ × ℕ)) → rest ≡ remove r.queue.items i → length rest + most_ends ≤ deque_capacity r.queue
+  pub over_room : (rest : List (ℕ × ℕ)) → rest ≡ remove r.queue.items i → length rest + most_ends ≤ r.queue.room
   over_room rest same =
       let short = short_queue (reducer_view r) k.reducer in
       let one = k.reducer.cells.2 Small in
@@ -152,7 +151,7 @@ module _ (r : Body) (k : KeepsNet r) (i : ℕ) (p : TemplateParts) (at : IsTempl
         is_middle = (up.queued setting own about).2 ∙ ap (λ (z : List (ℕ × ℕ)). old ++ z) (sym (stepped.turned_back numbers_of qs))
 
         -- there is room for the pairs of the right member
-        pub own_room : length middle + length p.member.pairs ≤ deque_capacity r.queue
+        pub own_room : length middle + length p.member.pairs ≤ r.queue.room
         own_room =
             let few = stepped.lengths r k i p at room own is_own ns a es made did net cells long in
             let m = ap length is_middle ∙ length-append old (reverse made) in

@@ -1,7 +1,6 @@
 -- An interaction of a reducer whose new agents may be in the cells of the pair: the goals of its steps, and its result. It is one of the reducer in
 -- which the pair has numbers of no cell.
 use Rattle.std.proofs.Common.{◌≡◌, ◌≢◌, ◌≤◌, ◌+◌, ℕ, suc, List, ◌++◌, map, take, remove, length, length-append, Option, Some, None, refl, sym, ap, subst, ◌∙◌, append_assoc, arith}
-use Rattle.std.specs.VecDeque.{deque_capacity}
 use Rattle.std.proofs.lemmas.List.{length-map, length-set, take_all}
 use Rattle.std.specs.Prelude.{option_map, IsTrue}
 use Rattle.in_base.proofs.Places.{to_mapped, is_some as there}
@@ -320,7 +319,7 @@ module _ (r : Body) (k : KeepsNet r) (i : ℕ) (p : TemplateParts) (at : IsTempl
             ∙ ap (λ (z : List (ℕ × ℕ)). remove r.queue.items i ++ z) (sym (made_numbers t (parts_of s) at.rule fa fb (named ns) news are_made))
 
         -- there is room for the pairs of the right member
-        pub own_room : length middle + length p.member.pairs ≤ deque_capacity r.queue
+        pub own_room : length middle + length p.member.pairs ≤ r.queue.room
         own_room =
             let short = short_queue (after final) reducer_after in
             let one = reducer_after.cells.2 Small in

@@ -1,6 +1,5 @@
 -- One interaction of a reducer: the goals of its call, and its result.
 use Rattle.std.proofs.Common.{◌≡◌, ◌<◌, ◌≤◌, ◌+◌, ℕ, List, [], ◌∷◌, ◌++◌, append_assoc, length, length-append, map, remove, take, reverse, slice_get, Option, Some, None, refl, sym, ap, subst, ◌∙◌, arith}
-use Rattle.std.specs.VecDeque.{deque_capacity}
 use Rattle.std.specs.Prelude.{option_map}
 use Rattle.std.proofs.lemmas.List.{length-map, length-reverse, map-append, reverse-append, reverse-reverse}
 use Rattle.std.proofs.lemmas.Option.{same_Some, slice_get_within}
@@ -244,7 +243,7 @@ module _ (r : Body) (k : KeepsNet r) (i : ℕ) (p : TemplateParts) (at : IsTempl
         ∙ append_assoc (remove r.queue.items i) (map numbers_of did.1.0) (map (both (named ns)) p.member.pairs)
         ∙ ap (λ (z : List (ℕ × ℕ)). remove r.queue.items i ++ z) (sym (made_numbers t (parts_of (reducer_view r)) at.rule one two (named ns) news are_made))
 
-    pub few_pairs : length final ≤ deque_capacity r.queue
+    pub few_pairs : length final ≤ r.queue.room
     few_pairs =
         let short = short_queue (after final) reducer_after in
         let one = reducer_after.cells.2 Small in
@@ -253,7 +252,7 @@ module _ (r : Body) (k : KeepsNet r) (i : ℕ) (p : TemplateParts) (at : IsTempl
         omega (arith, short, one, other, cells, room)
 
     -- no more pairs in all than the queue has room for
-    pub lengths : length (remove r.queue.items i) + length made + length p.member.pairs ≤ deque_capacity r.queue
+    pub lengths : length (remove r.queue.items i) + length made + length p.member.pairs ≤ r.queue.room
     lengths =
         let rest = remove r.queue.items i in
         let own_pairs = map (both (named ns)) p.member.pairs in

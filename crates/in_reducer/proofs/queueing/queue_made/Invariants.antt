@@ -1,10 +1,9 @@
-use Rattle.std.proofs.Common.{◌≡◌, ◌≤◌, ◌+◌, ◌++◌, drop, reverse}
-use Rattle.std.specs.VecDeque.{deque_len, deque_capacity}
+use Rattle.std.proofs.Common.{◌≡◌, ◌≤◌, ◌+◌, ◌++◌, drop, reverse, length}
 use Rattle.in_reducer.proofs.queueing.queue_made.Given as goal
 
 abbrev pub invariant-loop-number : goal.invariant-loop-number
 invariant-loop-number l = record {
   items : l.queue.items ≡ l.fn.queue.items ++ reverse (drop l.number l.made.items);
-  room : deque_len l.queue + l.number ≤ deque_capacity l.fn.queue;
-  capacity : deque_capacity l.queue ≡ deque_capacity l.fn.queue;
+  room : length l.queue.items + l.number ≤ l.fn.queue.room;
+  capacity : l.queue.room ≡ l.fn.queue.room;
 }

@@ -1,6 +1,6 @@
 use Rattle.std.proofs.Common.{◌≡◌, ◌<◌, ◌+◌, ℕ, suc, Bool, true, false, cond, List, [], ◌∷◌, ◌++◌, length, map, take, drop, refl, sym, ap, ◌∙◌, append_assoc, arith}
+use Rattle.in_reducer.specs.PairQueues.{QueueParts}
 use Rattle.std.specs.List.{filter}
-use Rattle.std.specs.VecDeque.{deque_capacity}
 use Rattle.std.proofs.lemmas.List.{append-nil, length-map, map-append}
 use Rattle.in_arena.specs.Arenas.{state_at}
 use Rattle.in_arena.specs.States.{State, Vacant, Leased, Live, IsLive}
@@ -21,15 +21,55 @@ other_goes Vacant h = (refl, refl)
 other_goes Leased h = (refl, refl)
 other_goes (Live w es) h = absurd (h tt)
 
+pub is_live-requires-clause-there : goal.is_live-requires-clause-there
+is_live-requires-clause-there c =
+    let q = c.pop_front-one.result in
+    let x = c.loop-pair._pair in
+    let old = c.args.queue.now.items in
+    let r = c.loop-pair.invariant in
+    let low : x < length old = (let t = c.loop-pair-test.true in let e = c.len-pair-end.ensures in omega (arith, t, e)) in
+    let next = next_of old (filter (stays c.args.arena.now) (take x old)) c.pop_front-one.new.self.items x q low (sym r.rest ∙ c.pop_front-one.ensures.items) in
+    c.requires.there x q next.0
+
+pub is_live-requires-clause-not_leased : goal.is_live-requires-clause-not_leased
+is_live-requires-clause-not_leased c =
+    let q = c.pop_front-one.result in
+    let x = c.loop-pair._pair in
+    let old = c.args.queue.now.items in
+    let r = c.loop-pair.invariant in
+    let low : x < length old = (let t = c.loop-pair-test.true in let e = c.len-pair-end.ensures in omega (arith, t, e)) in
+    let next = next_of old (filter (stays c.args.arena.now) (take x old)) c.pop_front-one.new.self.items x q low (sym r.rest ∙ c.pop_front-one.ensures.items) in
+    c.requires.none q.0 (c.requires.there x q next.0)
+
+pub bounds-names-one : goal.bounds-names-one
+bounds-names-one c =
+    let q = c.pop_front-one.result in
+    let x = c.loop-pair._pair in
+    let old = c.args.queue.now.items in
+    let r = c.loop-pair.invariant in
+    let low : x < length old = (let t = c.loop-pair-test.true in let e = c.len-pair-end.ensures in omega (arith, t, e)) in
+    let next = next_of old (filter (stays c.args.arena.now) (take x old)) c.pop_front-one.new.self.items x q low (sym r.rest ∙ c.pop_front-one.ensures.items) in
+    (c.requires.names x q next.0).0
+
+pub bounds-names-other : goal.bounds-names-other
+bounds-names-other c =
+    let q = c.pop_front-one.result in
+    let x = c.loop-pair._pair in
+    let old = c.args.queue.now.items in
+    let r = c.loop-pair.invariant in
+    let low : x < length old = (let t = c.loop-pair-test.true in let e = c.len-pair-end.ensures in omega (arith, t, e)) in
+    let next = next_of old (filter (stays c.args.arena.now) (take x old)) c.pop_front-one.new.self.items x q low (sym r.rest ∙ c.pop_front-one.ensures.items) in
+    (c.requires.names x q next.0).1
+
 pub push_back_reserved-requires-else-is_live : goal.push_back_reserved-requires-else-is_live
 push_back_reserved-requires-else-is_live c =
-    let q : ℕ × ℕ = (c.in-Some.one, c.in-Some.other) in
+    let q : ℕ × ℕ = c.pop_front-one.result in
     let x = c.loop-pair._pair in
     let old = c.args.queue.now.items in
     let a = c.args.arena.now in
     let r = c.loop-pair.invariant in
     let low : x < length old = (let t = c.loop-pair-test.true in let e = c.len-pair-end.ensures in omega (arith, t, e)) in
-    let next = next_of old (filter (stays a) (take x old)) c.pop_front.new.self.items x q low (sym r.rest ∙ c.in-Some.ensures.items) in
+    let next = next_of old (filter (stays a) (take x old)) c.pop_front-one.new.self.items x q low (sym r.rest ∙ c.pop_front-one.ensures.items) in
     let other = other_goes (state_at a q.0) (λ live. (let f : false ≡ true = c.if-is_live.ensures.1 live in cc)) in
     let room = room_for (goes a) old x q next.0 other.1 in
     let long = ap length r.part ∙ length-map (filter (goes a) (take x old)) (both (name_in c.args.names.now)) in
@@ -39,7 +79,7 @@ push_back_reserved-requires-else-is_live c =
 
 pub loop-pair-preserved : goal.loop-pair-preserved
 loop-pair-preserved c =
-    let q : ℕ × ℕ = (c.in-Some.one, c.in-Some.other) in
+    let q : ℕ × ℕ = c.pop_front-one.result in
     let x = c.loop-pair._pair in
     let old = c.args.queue.now.items in
     let a = c.args.arena.now in
@@ -47,7 +87,7 @@ loop-pair-preserved c =
     let r = c.loop-pair.invariant in
     let low : x < length old = (let t = c.loop-pair-test.true in let e = c.len-pair-end.ensures in omega (arith, t, e)) in
     let more : x + 1 ≡ suc x = omega arith in
-    let next = next_of old (filter (stays a) (take x old)) c.pop_front.new.self.items x q low (sym r.rest ∙ c.in-Some.ensures.items) in
+    let next = next_of old (filter (stays a) (take x old)) c.pop_front-one.new.self.items x q low (sym r.rest ∙ c.pop_front-one.ensures.items) in
     let stay = filter_next (stays a) old x q next.0 in
     let go = filter_next (goes a) old x q next.0 in
     elim c.if-is_live.branch [
@@ -62,8 +102,8 @@ loop-pair-preserved c =
                 sym (append-nil (filter (goes a) (take x old))) ∙ ap (λ (b : Bool). filter (goes a) (take x old) ++ cond b (q ∷ []) []) (sym is.1) ∙ sym go
                 ∙ ap (λ (z : ℕ). filter (goes a) (take z old)) (sym more)
                 );
-            rest_room = ap deque_capacity w.queue-is ∙ w.push_back_reserved.ensures.capacity ∙ c.in-Some.ensures.capacity ∙ r.rest_room;
-            part_room = ap deque_capacity w.part-is ∙ r.part_room;
+            rest_room = ap (λ (z : QueueParts). z.room) w.queue-is ∙ w.push_back_reserved.ensures.capacity ∙ c.pop_front-one.ensures.capacity ∙ r.rest_room;
+            part_room = ap (λ (z : QueueParts). z.room) w.part-is ∙ r.part_room;
           }
           )
       | else-is_live w ↦ (
@@ -77,8 +117,8 @@ loop-pair-preserved c =
                 ∙ ap (map (both (name_in ns))) (
                 ap (λ (b : Bool). filter (goes a) (take x old) ++ cond b (q ∷ []) []) (sym is.1) ∙ sym go ∙ ap (λ (z : ℕ). filter (goes a) (take z old)) (sym more)
                 );
-            rest_room = ap deque_capacity w.queue-is ∙ c.in-Some.ensures.capacity ∙ r.rest_room;
-            part_room = ap deque_capacity w.part-is ∙ w.push_back_reserved-else-is_live.ensures.capacity ∙ r.part_room;
+            rest_room = ap (λ (z : QueueParts). z.room) w.queue-is ∙ c.pop_front-one.ensures.capacity ∙ r.rest_room;
+            part_room = ap (λ (z : QueueParts). z.room) w.part-is ∙ w.push_back_reserved-else-is_live.ensures.capacity ∙ r.part_room;
           }
           )
     ]

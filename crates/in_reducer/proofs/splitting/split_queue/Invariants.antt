@@ -1,6 +1,5 @@
 use Rattle.std.proofs.Common.{◌≡◌, ◌++◌, map, take, drop}
 use Rattle.std.specs.List.{filter}
-use Rattle.std.specs.VecDeque.{deque_capacity}
 use Rattle.in_interaction.specs.Queues.{both}
 use Rattle.in_cells.specs.Copying.{name_in}
 use Rattle.in_reducer.specs.Splitting.{goes, stays}
@@ -10,6 +9,6 @@ abbrev pub invariant-loop-pair : goal.invariant-loop-pair
 invariant-loop-pair l = record {
   rest : l.queue.items ≡ drop l._pair l.fn.queue.items ++ filter (stays l.arena) (take l._pair l.fn.queue.items);
   part : l.part.items ≡ map (both (name_in l.names)) (filter (goes l.arena) (take l._pair l.fn.queue.items));
-  rest_room : deque_capacity l.queue ≡ deque_capacity l.fn.queue;
-  part_room : deque_capacity l.part ≡ deque_capacity l.fn.part;
+  rest_room : l.queue.room ≡ l.fn.queue.room;
+  part_room : l.part.room ≡ l.fn.part.room;
 }

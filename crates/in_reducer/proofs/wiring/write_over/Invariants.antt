@@ -1,5 +1,4 @@
 use Rattle.std.proofs.Common.{◌≡◌, ◌≤◌, ◌+◌, ℕ, List, length, map}
-use Rattle.std.specs.VecDeque.{deque_len, deque_capacity}
 use Rattle.in_arena.specs.declared.content.CellNo.{CellNo}
 use Rattle.in_symbols.specs.Tables.{Tables}
 use Rattle.in_cells.specs.Cells.{KeepsCells}
@@ -15,6 +14,6 @@ invariant-loop-number l = record {
       → HasQueued t (interaction_of s ns) (map over_point (over_of l.template.member)) l.number l.fn.queue.items l.queue.items;
   kept : KeepsCells l.fn.arena l.arena;
   long : length l.ends ≡ length l.fn.ends;
-  room : deque_len l.queue ≤ deque_len l.fn.queue + l.number;
-  capacity : deque_capacity l.queue ≡ deque_capacity l.fn.queue;
+  room : length l.queue.items ≤ length l.fn.queue.items + l.number;
+  capacity : l.queue.room ≡ l.fn.queue.room;
 }

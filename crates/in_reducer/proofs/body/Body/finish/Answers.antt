@@ -18,7 +18,7 @@ interact-requires-clause-beside c =
     let sb = c.requires.beside.1 in
     let own : c.len-own.result ≡ length r.free.items = (let e = c.len-own.ensures in let ok = r.free.ok.0 in omega (arith, e, ok)) in (
       finished.setting r a c.args.number c.args.template.now sb,
-      finished.beside r a c.args.number c.args.template.now sb c.index.result.now c.index.ensures c.symbols.result.now c.symbols.ensures c.first_ends.result c.first_ends.ensures c.len-own.result own
+      finished.beside r a c.args.number c.args.template.now sb c.at-one.result c.at-one.ensures c.symbols.result.now c.symbols.ensures c.first_ends.result c.first_ends.ensures c.len-own.result own
           c.as_mut_slice.result.now c.as_mut_slice.ensures.value,
     )
 
@@ -41,7 +41,7 @@ queue_made-requires c =
     let p = c.args.template.now in
     let sb = c.requires.beside.1 in
     let own : c.len-own.result ≡ length r.free.items = (let e = c.len-own.ensures in let ok = r.free.ok.0 in omega (arith, e, ok)) in
-    let is_beside = finished.beside r a c.args.number p sb c.index.result.now c.index.ensures c.symbols.result.now c.symbols.ensures c.first_ends.result c.first_ends.ensures c.len-own.result own
+    let is_beside = finished.beside r a c.args.number p sb c.at-one.result c.at-one.ensures c.symbols.result.now c.symbols.ensures c.first_ends.result c.first_ends.ensures c.len-own.result own
     c.as_mut_slice.result.now c.as_mut_slice.ensures.value in
     let adds = c.interact.ensures.interacted (finished.setting r a c.args.number p sb) is_beside in
     let long = c.interact.ensures.long ∙ ap length c.as_mut_slice.ensures.value in
@@ -63,7 +63,7 @@ queue_own-requires-clause-room c =
     let p = c.args.template.now in
     let sb = c.requires.beside.1 in
     let own : c.len-own.result ≡ length r.free.items = (let e = c.len-own.ensures in let ok = r.free.ok.0 in omega (arith, e, ok)) in
-    let is_beside = finished.beside r a c.args.number p sb c.index.result.now c.index.ensures c.symbols.result.now c.symbols.ensures c.first_ends.result c.first_ends.ensures c.len-own.result own
+    let is_beside = finished.beside r a c.args.number p sb c.at-one.result c.at-one.ensures c.symbols.result.now c.symbols.ensures c.first_ends.result c.first_ends.ensures c.len-own.result own
     c.as_mut_slice.result.now c.as_mut_slice.ensures.value in
     let adds = c.interact.ensures.interacted (finished.setting r a c.args.number p sb) is_beside in
     let long = c.interact.ensures.long ∙ ap length c.as_mut_slice.ensures.value in
@@ -84,7 +84,7 @@ returns-clause-steps c a sb =
     let r = c.args.self.now in
     let p = c.args.template.now in
     let own : c.len-own.result ≡ length r.free.items = (let e = c.len-own.ensures in let ok = r.free.ok.0 in omega (arith, e, ok)) in
-    let is_beside = finished.beside r a c.args.number p sb c.index.result.now c.index.ensures c.symbols.result.now c.symbols.ensures c.first_ends.result c.first_ends.ensures c.len-own.result own
+    let is_beside = finished.beside r a c.args.number p sb c.at-one.result c.at-one.ensures c.symbols.result.now c.symbols.ensures c.first_ends.result c.first_ends.ensures c.len-own.result own
     c.as_mut_slice.result.now c.as_mut_slice.ensures.value in
     let adds = c.interact.ensures.interacted (finished.setting r a c.args.number p sb) is_beside in
     let long = c.interact.ensures.long ∙ ap length c.as_mut_slice.ensures.value in
@@ -102,7 +102,7 @@ returns-clause-net c =
     let p = c.args.template.now in
     let sb = c.requires.beside.1 in
     let own : c.len-own.result ≡ length r.free.items = (let e = c.len-own.ensures in let ok = r.free.ok.0 in omega (arith, e, ok)) in
-    let is_beside = finished.beside r a c.args.number p sb c.index.result.now c.index.ensures c.symbols.result.now c.symbols.ensures c.first_ends.result c.first_ends.ensures c.len-own.result own
+    let is_beside = finished.beside r a c.args.number p sb c.at-one.result c.at-one.ensures c.symbols.result.now c.symbols.ensures c.first_ends.result c.first_ends.ensures c.len-own.result own
     c.as_mut_slice.result.now c.as_mut_slice.ensures.value in
     let adds = c.interact.ensures.interacted (finished.setting r a c.args.number p sb) is_beside in
     let long = c.interact.ensures.long ∙ ap length c.as_mut_slice.ensures.value in

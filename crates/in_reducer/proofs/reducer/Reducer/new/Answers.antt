@@ -1,5 +1,4 @@
 use Rattle.std.proofs.Common.{◌≤◌, ◌+◌, ◌*◌, length, sym, subst, arith}
-use Rattle.std.specs.VecDeque.{deque_capacity}
 use Rattle.in_arena.specs.Arenas.{NoneLeased}
 use Rattle.in_arena.specs.Classes.{classes}
 use Rattle.in_reducer.specs.declared.body.Body.{Body}
@@ -40,7 +39,7 @@ invariant_of-result c =
     let fresh = c.in_ok-fresh.ensures in
     let laid = c.in_ok-ends.ensures.laid in
     let x : Body = record { checked = c.args.checked; arena = f.arena; free = c.in_ok-free.free; ends = c.in_ok-ends.ends; queue = f.queue; tools = f.tools } in
-    let room : length classes * c.args.cells + 2 * most_ends ≤ 2 * deque_capacity f.queue + 1 = (let r = laid.room in let s = fresh.queue_room in omega (arith, r, s)) in
+    let room : length classes * c.args.cells + 2 * most_ends ≤ 2 * f.queue.room + 1 = (let r = laid.room in let s = fresh.queue_room in omega (arith, r, s)) in
     let tools = subst (λ (t : Tools). AreTools t c.in_ok-fresh.fresh.arena) (sym laid.tools) fresh.tools in
     subst IsKept (sym c.into_body.ensures)
     (is_kept h.0 x h.1 c.args.templates.now c.requires.templates c.start.result.now c.start.ensures c.args.cells c.requires.cells c.in_ok-fresh.fresh.arena fresh.cells fresh.empty laid.names laid.put laid.first laid.long laid.queue

@@ -6,4 +6,4 @@ pub overflow_cast-result : goal.overflow_cast-result
 overflow_cast-result c =
     let short = short_queue _ c.self.invariant.all.net.reducer in
     let most = c.self.invariant.all.net.reducer.cells.1 in
-    omega (arith, short, most, c.len.ensures, c.self.inside.body.queue.ok.0)
+    omega (arith, short, most, c.len.ensures)

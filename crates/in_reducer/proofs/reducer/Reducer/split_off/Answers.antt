@@ -1,6 +1,5 @@
 use Rattle.std.proofs.Common.{◌≡◌, ◌<◌, ◌+◌, ℕ, List, length, take, slice_get, sym, ap, subst, ◌∙◌, arith}
 use Rattle.std.proofs.lemmas.List.{length-take-le}
-use Rattle.std.specs.VecDeque.{deque_capacity}
 use Rattle.in_arena.specs.declared.content.CellNo.{CellNo}
 use Rattle.in_arena.specs.declared.content.End.{End}
 use Rattle.in_arena.specs.declared.content.End.TheVariants.{Free}
@@ -205,7 +204,7 @@ split_queue-requires-clause-part c =
       rest_ends = c.fill_rest.ensures.ends;
       part_ends = c.fill_part.ensures.ends;
     }) in
-    (fresh.queue, kept.few_pairs r k a own cuts can x h c.requires.cells (deque_capacity f.queue) (let e = fresh.queue_room in omega (arith, e)))
+    (fresh.queue, kept.few_pairs r k a own cuts can x h c.requires.cells (f.queue.room) (let e = fresh.queue_room in omega (arith, e)))
 
 pub invariant_of-self : goal.invariant_of-self
 invariant_of-self c =

@@ -1,4 +1,4 @@
-use Rattle.std.proofs.Common.{◌≡◌, ◌<◌, ◌+◌, ◌-◌, ℕ, suc, refl, sym, subst, ◌∙◌, arith}
+use Rattle.std.proofs.Common.{◌≡◌, ◌<◌, ◌-◌, ℕ, suc, refl, sym, subst, ◌∙◌, arith}
 use Rattle.in_check.specs.Programs.{Program}
 use Rattle.in_compile.specs.Templates.{AreTemplatesOf}
 use Rattle.in_reducer.specs.Runs.{at_start}
