@@ -4,6 +4,7 @@ pub mod Numbers
 pub mod PairQueues
 pub mod Pairs
 pub mod Parts
+pub mod Picking
 pub mod Public
 pub mod Starts
 pub mod Steps
