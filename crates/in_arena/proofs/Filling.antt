@@ -7,7 +7,7 @@ use Rattle.in_memory.specs.declared.cells.Cells.{Cells}
 use Rattle.in_arena.specs.Classes.{width}
 use Rattle.in_arena.specs.Rows.{Rewrites}
 use Rattle.in_arena.specs.declared.spot.Spot.{Spot}
-use Rattle.in_arena.specs.Words.{Word, Content, slots, head, slot_of, IsHead, end_of, cell_of, word_at, ends_in, cell_in, IsWhole, Gone, New, Filled, AreWhole, ChangesCell}
+use Rattle.in_arena.specs.Words.{Word, Content, slots, head, slot_of, IsHead, end_of, cell_of, word_at, ends_in, cell_in, IsInOneState, Gone, New, Filled, AreWhole, ChangesCell}
 use Rattle.in_arena.specs.declared.content.CellClass.{CellClass}
 use Rattle.in_arena.specs.declared.content.End.{End}
 use Rattle.in_arena.proofs.Rows.{with_word, here_now, elsewhere, one_changes}
@@ -54,7 +54,7 @@ filled_more cells old now c i p e long inside lt f =
     lesser r p lt other = ⊎_elim (λ a. a) (λ a. absurd (other (omega arith))) (cases_lt r p)
 
 -- then its head is written
-pub filled_all : (cells : ℕ) (old now : List Word) (c : CellClass) (i : ℕ) (h : End) → length now ≡ 32 * cells → i < cells → IsHead h → IsFilledTo cells old now c i (width c) → IsWhole cells (with_word cells now c i head h) c i × ChangesCell cells old (with_word cells now c i head h) c i
+pub filled_all : (cells : ℕ) (old now : List Word) (c : CellClass) (i : ℕ) (h : End) → length now ≡ 32 * cells → i < cells → IsHead h → IsFilledTo cells old now c i (width c) → IsInOneState cells (with_word cells now c i head h) c i × ChangesCell cells old (with_word cells now c i head h) c i
 filled_all cells old now c i h long inside is_head f =
     let ws = with_word cells now c i head h in let in_it = head_inside c in
     let at = here_now cells now c i head h long inside in_it in (
@@ -68,7 +68,7 @@ filled_all cells old now c i h long inside is_head f =
     )
 
 -- a cell that was never used
-pub new_of : (cells : ℕ) (ws : List Word) (c : CellClass) (i : ℕ) → IsWhole cells ws c i → cell_in cells ws c i ≡ Some None → (q : ℕ) → q < slots c → word_at cells ws c i q ≡ Some None
+pub new_of : (cells : ℕ) (ws : List Word) (c : CellClass) (i : ℕ) → IsInOneState cells ws c i → cell_in cells ws c i ≡ Some None → (q : ℕ) → q < slots c → word_at cells ws c i q ≡ Some None
 new_of cells ws c i (Gone none) at = absurd (gone_new (word_at cells ws c i head) (ends_in cells ws c i) (none head (head_inside c)) at)
   where
     gone_new : (w : Word) (es : List End) → w ≡ None → cell_of w es ≡ Some None → ⊥

@@ -10,7 +10,7 @@ use Rattle.in_arena.specs.declared.content.End.{End}
 use Rattle.in_arena.specs.declared.free_list.FreeList.{FreeList}
 use Rattle.in_arena.specs.Words.{Content, CellWords}
 use Rattle.in_arena.specs.States.{State, Vacant, Leased, Live, IsLive, IsLeased, IsBegun, is_vacant, places, with_end}
-use Rattle.in_arena.specs.FreeLists.{with_ends, one_if_zero, state_in, state_of, states, vacancy, vacancies, IsVacantTo, IsFreeList, AreDifferentNumbers, IsCell, AreNew, IsFreeOf}
+use Rattle.in_arena.specs.FreeLists.{with_ends, one_if_zero, state_in, state_of, states, vacancy, vacancies, IsVacantTo, IsFreeList, AreDifferentNumbers, IsCell, AreNew, ListsFree}
 
 pub set_twice : {X : Type 0} (xs : List X) (i : ℕ) (x y : X) → set (set xs i x) i y ≡ set xs i y
 set_twice [] i x y = refl
@@ -152,22 +152,22 @@ first_of xs next (f ∷ fs) h apart =
     }
 
 -- no free cell was used
-none_listed : (most : ℕ) (xs : List CellWords) (l : FreeList) (h : IsFreeOf most xs l) → l.next ≡ length xs → length h.free ≡ 0
+none_listed : (most : ℕ) (xs : List CellWords) (l : FreeList) (h : ListsFree most xs l) → l.next ≡ length xs → length h.free ≡ 0
 none_listed most xs l h e = none h.free h.listed
   where
     none : (fs : List ℕ) → IsFreeList xs l.next fs → length fs ≡ 0
     none [] z = refl
     none (f ∷ fs) z = let is = z.0 in let inside = z.1 in absurd (omega (arith, is, inside, e))
 
-pub none_free : (most : ℕ) (xs : List CellWords) (l : FreeList) → IsFreeOf most xs l → l.next ≡ length xs → l.fresh ≡ length xs → count_by is_vacant (states xs) ≡ 0
+pub none_free : (most : ℕ) (xs : List CellWords) (l : FreeList) → ListsFree most xs l → l.next ≡ length xs → l.fresh ≡ length xs → count_by is_vacant (states xs) ≡ 0
 none_free most xs l h e used = sym (vacancies_are xs) ∙ omega (arith, h.all, none_listed most xs l h e, used)
 
-pub first_free : (most : ℕ) (xs : List CellWords) (l : FreeList) (h : IsFreeOf most xs l) → l.next ≢ length xs → First xs l.next h.free
+pub first_free : (most : ℕ) (xs : List CellWords) (l : FreeList) (h : ListsFree most xs l) → l.next ≢ length xs → First xs l.next h.free
 first_free most xs l h apart = first_of xs l.next h.free h.listed apart
 
 -- ---- a cell that isn't free becomes another one that isn't
 
-pub put : (most : ℕ) (xs : List CellWords) (l : FreeList) (i : ℕ) (c : CellWords) → IsFreeOf most xs l → i < length xs → vacancy (get_or xs i None) ≡ 0 → vacancy c ≡ 0 → IsCell most c → IsFreeOf most (set xs i c) l
+pub put : (most : ℕ) (xs : List CellWords) (l : FreeList) (i : ℕ) (c : CellWords) → ListsFree most xs l → i < length xs → vacancy (get_or xs i None) ≡ 0 → vacancy c ≡ 0 → IsCell most c → ListsFree most (set xs i c) l
 put most xs l i c h lt before after cell = record {
   few = cell_set most xs i c lt cell h.few;
   free = h.free;
@@ -183,7 +183,7 @@ put most xs l i c h lt before after cell = record {
 abbrev pub list_with : ℕ → ℕ → ℕ → FreeList
 list_with next fresh free = record { next = next; fresh = fresh; free = free }
 
-pub taken : (most : ℕ) (xs : List CellWords) (l : FreeList) (h : IsFreeOf most xs l) (p : First xs l.next h.free) → IsFreeOf most (set xs l.next None) (list_with p.cell.word l.fresh (l.free - 1))
+pub taken : (most : ℕ) (xs : List CellWords) (l : FreeList) (h : ListsFree most xs l) (p : First xs l.next h.free) → ListsFree most (set xs l.next None) (list_with p.cell.word l.fresh (l.free - 1))
 taken most xs l h p =
     let i = l.next in
     let once = subst AreDifferentNumbers p.is h.once in
@@ -202,7 +202,7 @@ taken most xs l h p =
 
 -- ---- a cell that isn't free becomes the first free one
 
-pub freed : (most : ℕ) (xs : List CellWords) (l : FreeList) (i : ℕ) (c : Content) → IsFreeOf most xs l → i < length xs → vacancy (get_or xs i None) ≡ 0 → c.count ≡ 0 → c.word ≡ l.next → IsFreeOf most (set xs i (Some (Some c))) (list_with i l.fresh (l.free + 1))
+pub freed : (most : ℕ) (xs : List CellWords) (l : FreeList) (i : ℕ) (c : Content) → ListsFree most xs l → i < length xs → vacancy (get_or xs i None) ≡ 0 → c.count ≡ 0 → c.word ≡ l.next → ListsFree most (set xs i (Some (Some c))) (list_with i l.fresh (l.free + 1))
 freed most xs l i c h lt before none next =
     let new = Some (Some c) in
     let apart = not_listed xs i (never_vacant (get_or xs i None) before) l.next h.free h.listed in
@@ -221,14 +221,14 @@ freed most xs l i c h lt before none next =
 
 -- ---- the first cell that was never used is listed
 
-pub fresh_inside : (most : ℕ) (xs : List CellWords) (l : FreeList) → IsFreeOf most xs l → (l.fresh ≡ length xs → ⊥) → l.fresh < length xs
+pub fresh_inside : (most : ℕ) (xs : List CellWords) (l : FreeList) → ListsFree most xs l → (l.fresh ≡ length xs → ⊥) → l.fresh < length xs
 fresh_inside most xs l h some = let few = h.unused.0 in below l.fresh (length xs) few some
   where
     below : (i n : ℕ) → i ≤ n → (i ≡ n → ⊥) → i < n
     below i n le apart = elim (cases_lt i n) [ inl lt ↦ lt | inr ge ↦ absurd (apart (omega arith)) ]
 
-pub listed_new : (most : ℕ) (xs : List CellWords) (l : FreeList) (c : Content) (h : IsFreeOf most xs l) → l.next ≡ length xs → (l.fresh ≡ length xs → ⊥) → c.count ≡ 0 → c.word ≡ length xs
-    → IsFreeOf most (set xs l.fresh (Some (Some c))) (list_with l.fresh (l.fresh + 1) l.free) × (states (set xs l.fresh (Some (Some c))) ≡ states xs)
+pub listed_new : (most : ℕ) (xs : List CellWords) (l : FreeList) (c : Content) (h : ListsFree most xs l) → l.next ≡ length xs → (l.fresh ≡ length xs → ⊥) → c.count ≡ 0 → c.word ≡ length xs
+    → ListsFree most (set xs l.fresh (Some (Some c))) (list_with l.fresh (l.fresh + 1) l.free) × (states (set xs l.fresh (Some (Some c))) ≡ states xs)
 listed_new most xs l c h none some zero_ends last =
     let i = l.fresh in let new = Some (Some c) in let few = h.unused.0 in let empty = none_listed most xs l h none in let inside = fresh_inside most xs l h some in
     let was : get_or xs i None ≡ Some None = h.unused.1 i (omega arith) inside in
@@ -265,7 +265,7 @@ vacancies_few : (xs : List CellWords) → vacancies xs ≤ length xs
 vacancies_few [] = omega arith
 vacancies_few (x ∷ xs) = omega (arith, sum_by-cons vacancy x xs, vacancy_small x, vacancies_few xs)
 
-pub free_small : (most : ℕ) (xs : List CellWords) (l : FreeList) → IsFreeOf most xs l → l.free ≤ length xs
+pub free_small : (most : ℕ) (xs : List CellWords) (l : FreeList) → ListsFree most xs l → l.free ≤ length xs
 free_small most xs l h = let few = h.unused.0 in omega (arith, h.count, h.all, few, vacancies_few xs)
 
 -- ---- which cells were used
@@ -290,7 +290,7 @@ free_counted xs fresh next (f ∷ fs) h once new =
     omega (arith, rest, length-set xs f None, sum_by-set vacancy xs f None None inside, vacant_one (get_or xs f None) h.2.0 h.2.1)
 
 -- so each cell before those that were never used was used
-pub used : (most : ℕ) (xs : List CellWords) (l : FreeList) → IsFreeOf most xs l → (i : ℕ) → i < l.fresh → get_or xs i None ≡ Some None → ⊥
+pub used : (most : ℕ) (xs : List CellWords) (l : FreeList) → ListsFree most xs l → (i : ℕ) → i < l.fresh → get_or xs i None ≡ Some None → ⊥
 used most xs l h i lt new =
     let few = h.unused.0 in
     let inside : i < length xs = omega (arith, lt, few) in
@@ -360,7 +360,7 @@ all_new (suc n) =
     let rest = all_new n in let some : List CellWords = replicate n (Some None) in
     (ap (λ l. Vacant ∷ l) rest.0, omega (arith, sum_by-cons vacancy (Some None) some, rest.1))
 
-pub new_row : (most : ℕ) (n : ℕ) → IsFreeOf most (replicate n (Some None)) (list_with n 0 n) × (states (replicate n (Some None)) ≡ replicate n Vacant)
+pub new_row : (most : ℕ) (n : ℕ) → ListsFree most (replicate n (Some None)) (list_with n 0 n) × (states (replicate n (Some None)) ≡ replicate n Vacant)
 new_row most n =
     let new : List CellWords = replicate n (Some None) in let all = all_new n in
     let long : length new ≡ n = length-replicate n (Some None) in (

@@ -11,13 +11,13 @@ use denote.RawPtr.{Ptr, null_ptr}
 use Rattle.in_arena.specs.Arenas.{ArenaView, LeaseView, BeginsCell, IsOf, IsUsedOf, Leases, NoneLeased, changed, free_of, state_at, written}
 use Rattle.in_arena.specs.ByClass.{IsPlace, seen, view_of}
 use Rattle.in_arena.specs.Classes.{Holds, IsNumberOf, classes, class_no, width}
-use Rattle.in_arena.specs.FreeLists.{IsCell, IsFreeOf, list_in, state_in, state_of, states, vacancy, with_ends}
+use Rattle.in_arena.specs.FreeLists.{IsCell, ListsFree, list_in, state_in, state_of, states, vacancy, with_ends}
 use Rattle.in_arena.specs.Inside.{IsArena, arena_view}
 use Rattle.in_arena.specs.Leases.{IsLease, lease_view}
 use Rattle.in_arena.specs.declared.lease.Lease.TheInside.{Inside as LeaseInside}
-use Rattle.in_arena.specs.Rows.{AreFreeOf, HasContent, IsReady, OwnsOne, Rewrites, RowsBecome, RowsStay}
+use Rattle.in_arena.specs.Rows.{EachListsFree, HasContent, MakesReady, OwnsOne, Rewrites, RowsBecome, RowsStay}
 use Rattle.in_arena.specs.States.{State, Vacant, Leased, Live, IsBegun, IsLeased, IsLive, end_at, places, with_end, word_of}
-use Rattle.in_arena.specs.Words.{Word, Content, spot, slots, head, slot_of, word_in, count_in, IsHead, end_of, cell_of, is_spot, word_at, words_each, ends_in, cell_in, row_in, IsWhole, Gone, New, Filled, AreWhole, ChangesCell}
+use Rattle.in_arena.specs.Words.{Word, Content, spot, slots, head, slot_of, word_in, count_in, IsHead, end_of, cell_of, is_spot, word_at, words_each, ends_in, cell_in, row_in, IsInOneState, Gone, New, Filled, AreWhole, ChangesCell}
 use Rattle.in_arena.specs.declared.arena.Arena.TheInside.{Inside}
 use Rattle.in_arena.specs.declared.content.CellClass.{CellClass}
 use Rattle.in_arena.specs.declared.content.CellClass.TheVariants.{Small, Large, Wide}
@@ -147,7 +147,7 @@ abbrev pub with_row : Inside → Cells End → FreeLists → Inside
 with_row a words lists = record { base = a.base; words = words; deed = a.deed; alloc = a.alloc; cells = a.cells; lists = lists }
 
 module _ (a : Inside) (h : IsArena a) where
-  pub arena_with : (words : Cells End) (lists : FreeLists) → words.at ≡ a.words.at → AreWhole a.cells words.slots → AreFreeOf a.cells words.slots lists → IsArena (with_row a words lists)
+  pub arena_with : (words : Cells End) (lists : FreeLists) → words.at ≡ a.words.at → AreWhole a.cells words.slots → EachListsFree a.cells words.slots lists → IsArena (with_row a words lists)
   arena_with words lists same all free = record { few = h.few; block = (same ∙ h.block.0, h.block.1, h.block.2, h.block.3); whole = all; free = free }
 
   pub few_ends : (n : ℕ) (l : LiveCell a.cells a.words.slots n) → l.content.count ≤ width l.class
@@ -220,18 +220,18 @@ module _ (a : Inside) (h : IsArena a) (v : ArenaView) (e : arena_view a ≡ v) w
       (arena_with a h words lists same r.whole z.0, viewed a h v e words n l.class l.index Vacant Vacant same l.place z.1 refl)
 
   -- .. another owner's cell is back
-  pub back_in : (n : ℕ) (at : Spot) (words : Cells End) (lists : FreeLists) (x : State) → at.cells ≡ a.cells → n ≡ class_no at.class * at.cells + at.index → at.index < at.cells → words.at ≡ a.words.at → AreWhole at.cells words.slots → AreFreeOf at.cells words.slots lists → RowsBecome at.cells a.words.slots words.slots at.class at.index x
+  pub back_in : (n : ℕ) (at : Spot) (words : Cells End) (lists : FreeLists) (x : State) → at.cells ≡ a.cells → n ≡ class_no at.class * at.cells + at.index → at.index < at.cells → words.at ≡ a.words.at → AreWhole at.cells words.slots → EachListsFree at.cells words.slots lists → RowsBecome at.cells a.words.slots words.slots at.class at.index x
       → IsArena (with_row a words lists) × (view_of words.at a.cells words.slots ≡ changed v n x)
   back_in n at words lists x many num inside same whole free become = (
-    arena_with a h words lists same (subst (λ k. AreWhole k words.slots) many whole) (subst (λ k. AreFreeOf k words.slots lists) many free),
+    arena_with a h words lists same (subst (λ k. AreWhole k words.slots) many whole) (subst (λ k. EachListsFree k words.slots lists) many free),
     viewed a h v e words n at.class at.index x x same (subst (λ k. IsPlace k n at.class at.index) many (inside, num)) (subst (λ k. RowsBecome k a.words.slots words.slots at.class at.index x) many become) refl,
   )
 
   -- after the first free cell of a class was looked for
-  pub ready_in : (c : CellClass) (words : Cells End) (lists : FreeLists) → IsReady a.cells c a.words a.lists true words lists → IsArena (with_row a words lists) × (arena_view (with_row a words lists) ≡ v) × ((list_in lists c).next ≢ a.cells)
+  pub ready_in : (c : CellClass) (words : Cells End) (lists : FreeLists) → MakesReady a.cells c a.words a.lists true words lists → IsArena (with_row a words lists) × (arena_view (with_row a words lists) ≡ v) × ((list_in lists c).next ≢ a.cells)
   ready_in c words lists r = (arena_with a h words lists r.0 r.1 r.2, view_stays a.words.at words.at a.cells a.words.slots words.slots r.0 r.3 ∙ e, r.4)
 
-  pub none_ready_in : (c : CellClass) (words : Cells End) (lists : FreeLists) → IsReady a.cells c a.words a.lists false words lists → (free_of v c ≡ 0) × (view_of words.at a.cells words.slots ≡ v)
+  pub none_ready_in : (c : CellClass) (words : Cells End) (lists : FreeLists) → MakesReady a.cells c a.words a.lists false words lists → (free_of v c ≡ 0) × (view_of words.at a.cells words.slots ≡ v)
   none_ready_in c words lists r = (ap (λ w. free_of w c) (sym e) ∙ free_in a.words.at a.cells a.words.slots c ∙ r.2, ap (λ (w : Cells End). view_of w.at a.cells w.slots) r.0 ∙ e)
 
   -- the first free cell of a class is live
@@ -322,7 +322,7 @@ module _ (a : Inside) (h : IsArena a) where
       let out : IsLeased (state_of (cell_in a.cells a.words.slots c i)) → ⊥ = λ leased. none n inside (subst IsLeased (sym (ap (λ w. state_at w n) (sym e) ∙ state_is a.words.at a.cells a.words.slots n c i p)) leased) in
       let w = here_of (h.whole.each c i s.3) out s.2 s.4 in (w.0, ap (λ k. get_or a.words.slots k None) s.5 ∙ w.1)
     where
-      here_of : {c : CellClass} {i : ℕ} → IsWhole a.cells a.words.slots c i → (IsLeased (state_of (cell_in a.cells a.words.slots c i)) → ⊥) → (q : ℕ) → q < slots c → (w : Option End) × (word_at a.cells a.words.slots c i q ≡ Some w)
+      here_of : {c : CellClass} {i : ℕ} → IsInOneState a.cells a.words.slots c i → (IsLeased (state_of (cell_in a.cells a.words.slots c i)) → ⊥) → (q : ℕ) → q < slots c → (w : Option End) × (word_at a.cells a.words.slots c i q ≡ Some w)
       here_of {c} {i} (Gone gone) out q in_it = absurd (out (subst IsLeased (sym (ap (λ w. state_of (cell_of w (ends_in a.cells a.words.slots c i))) (gone head (head_inside c)))) tt))
       here_of (New fresh) out q in_it = (None, fresh q in_it)
       here_of (Filled all first) out q in_it = let z = all q in_it in (Some z.0, z.1)
@@ -345,8 +345,8 @@ new_row_is cells ws c e =
 pub new_whole : (cells : ℕ) (ws : List Word) → ws ≡ replicate (words_each * cells) (Some None) → AreWhole cells ws
 new_whole cells ws e = record { long = ap length e ∙ length-replicate (words_each * cells) (Some None); each = λ c i lt. New (new_word cells ws c i e lt) }
 
-pub new_free : (cells : ℕ) (ws : List Word) (c : CellClass) (l : FreeList) → ws ≡ replicate (words_each * cells) (Some None) → l ≡ list_with cells 0 cells → IsFreeOf (width c) (row_in cells ws c) l
-new_free cells ws c l e is = subst (IsFreeOf (width c) (row_in cells ws c)) (sym is) (subst (λ xs. IsFreeOf (width c) xs (list_with cells 0 cells)) (sym (new_row_is cells ws c e)) (new_row (width c) cells).0)
+pub new_free : (cells : ℕ) (ws : List Word) (c : CellClass) (l : FreeList) → ws ≡ replicate (words_each * cells) (Some None) → l ≡ list_with cells 0 cells → ListsFree (width c) (row_in cells ws c) l
+new_free cells ws c l e is = subst (ListsFree (width c) (row_in cells ws c)) (sym is) (subst (λ xs. ListsFree (width c) xs (list_with cells 0 cells)) (sym (new_row_is cells ws c e)) (new_row (width c) cells).0)
 
 pub new_states : (at : Ptr) (cells : ℕ) (ws : List Word) → ws ≡ replicate (words_each * cells) (Some None) → (view_of at cells ws).states ≡ replicate (length classes * cells) Vacant
 new_states at cells ws e = alike (λ c. at) cells (λ c. states (row_in cells ws c)) Vacant (λ c. ap states (new_row_is cells ws c e) ∙ (new_row (width c) cells).1)
@@ -409,7 +409,7 @@ pub settled_in : (a : Inside) (h : IsArena a) (v : ArenaView) (e : arena_view a 
 settled_in a h v e at one o words n x many num live same is named =
     let whole = subst (λ k. AreWhole k a.words.slots) (sym many) h.whole in
     let p = put_in a.words one at o whole words.slots is in
-    let free = subst (λ k. AreFreeOf k a.words.slots a.lists) (sym many) h.free in
+    let free = subst (λ k. EachListsFree k a.words.slots a.lists) (sym many) h.free in
     let z = one_put at.cells at.class a.words a.lists whole free at.index o.index (ap vacancy o.out) words (Some (Some o.content)) p.changes p.cell (filled_count o.content.count (live_some o.content.count o.content.word o.content.ends live)) o.room in
     back_in a h v e n at words a.lists x many num o.index same p.whole z.0 (subst (RowsBecome at.cells a.words.slots words.slots at.class at.index) named z.1)
 

@@ -6,7 +6,7 @@ use Rattle.std.proofs.lemmas.List.{length-replicate}
 use Rattle.in_memory.specs.Places.{together, either_of}
 use Rattle.in_memory.specs.Splitting.{held, those_of, but}
 use Rattle.in_memory.proofs.Public.{either_none, get_or-those_of, get_or-together, length-those_of, length-together}
-use Rattle.in_arena.specs.Words.{Word, Content, spot, slots, head, cell_of, is_one_below, is_spot, word_at, ends_in, cell_in, IsWhole, Gone, New, Filled, AreWhole, ChangesCell, words_each}
+use Rattle.in_arena.specs.Words.{Word, Content, spot, slots, head, cell_of, is_one_below, is_spot, word_at, ends_in, cell_in, IsInOneState, Gone, New, Filled, AreWhole, ChangesCell, words_each}
 use Rattle.in_arena.specs.declared.content.CellClass.{CellClass}
 use Rattle.in_arena.specs.declared.content.End.{End}
 use Rattle.in_arena.proofs.Words.{head_inside, kept_cell, IsKept}
@@ -93,14 +93,14 @@ module _ (cells : ℕ) (c : CellClass) (i : ℕ) where
     pub one_cell : cell_in cells one c i ≡ cell_in cells ws c i
     one_cell = kept_cell cells ws one c i in_one
 
-    pub rest_gone : IsWhole cells rest c i
+    pub rest_gone : IsInOneState cells rest c i
     rest_gone = Gone in_rest
 
     pub rest_cell : cell_in cells rest c i ≡ None
     rest_cell = ap (λ w. cell_of w (ends_in cells rest c i)) (in_rest head (head_inside c))
 
   -- a row without a cell
-  pub nothing_whole : (d : CellClass) (j : ℕ) → IsWhole cells (replicate (words_each * cells) None) d j
+  pub nothing_whole : (d : CellClass) (j : ℕ) → IsInOneState cells (replicate (words_each * cells) None) d j
   nothing_whole d j = Gone (λ q lt. none_at [] (words_each * cells) (spot d cells j q))
 
   pub none_whole : AreWhole cells (replicate (words_each * cells) None)
@@ -126,7 +126,7 @@ module _ (cells : ℕ) (c : CellClass) (i : ℕ) where
     put_kept gone q lt = get_or-together ws ones (spot c cells i q) long ∙ ap (λ w. either_of w (word_at cells ones c i q)) (gone q lt)
 
 -- a cell that is another owner's
-pub gone_of : (cells : ℕ) (ws : List Word) (c : CellClass) (i : ℕ) → IsWhole cells ws c i → cell_in cells ws c i ≡ None → (q : ℕ) → q < slots c → word_at cells ws c i q ≡ None
+pub gone_of : (cells : ℕ) (ws : List Word) (c : CellClass) (i : ℕ) → IsInOneState cells ws c i → cell_in cells ws c i ≡ None → (q : ℕ) → q < slots c → word_at cells ws c i q ≡ None
 gone_of cells ws c i (Gone none) at = none
 gone_of cells ws c i (New fresh) at = absurd (some_new (word_at cells ws c i head) (ends_in cells ws c i) (fresh head (head_inside c)) at)
   where

@@ -4,10 +4,10 @@ use Rattle.std.specs.Prelude.{true, false}
 use Rattle.in_memory.specs.Places.{together}
 use Rattle.in_memory.specs.declared.cells.Cells.{Cells}
 use Rattle.in_arena.specs.Classes.{width}
-use Rattle.in_arena.specs.FreeLists.{IsCell, IsFreeOf, list_in, state_of, states, vacancy}
-use Rattle.in_arena.specs.Rows.{AreFreeOf, IsReady, OwnsOne, Rewrites, RowsBecome, RowsStay}
+use Rattle.in_arena.specs.FreeLists.{IsCell, ListsFree, list_in, state_of, states, vacancy}
+use Rattle.in_arena.specs.Rows.{EachListsFree, MakesReady, OwnsOne, Rewrites, RowsBecome, RowsStay}
 use Rattle.in_arena.specs.States.{Vacant, Leased}
-use Rattle.in_arena.specs.Words.{Word, Content, CellWords, slots, head, slot_of, word_in, count_in, IsHead, word_at, cell_in, row_in, IsWhole, AreWhole, ChangesCell}
+use Rattle.in_arena.specs.Words.{Word, Content, CellWords, slots, head, slot_of, word_in, count_in, IsHead, word_at, cell_in, row_in, IsInOneState, AreWhole, ChangesCell}
 use Rattle.in_arena.specs.declared.content.CellClass.{CellClass}
 use Rattle.in_arena.specs.declared.content.End.{End}
 use Rattle.in_arena.specs.declared.free_list.FreeList.{FreeList}
@@ -60,12 +60,12 @@ module _ (words words' : Cells End) (at : Spot) (x : Content) (inside : at.index
 -- ---- the lists of free cells
 
 -- those of the class of the cell are these; the others are as they were
-pub lists_become : (cells : ℕ) (old new : List Word) (c : CellClass) (i : ℕ) (s : CellWords) (lists lists' : FreeLists) (inside : i < cells) → ChangesCell cells old new c i → cell_in cells new c i ≡ s → AreFreeOf cells old lists
-    → IsFreeOf (width c) (set (row_in cells old c) i s) (list_in lists' c) → ((d : CellClass) → d ≢ c → list_in lists' d ≡ list_in lists d) → AreFreeOf cells new lists'
+pub lists_become : (cells : ℕ) (old new : List Word) (c : CellClass) (i : ℕ) (s : CellWords) (lists lists' : FreeLists) (inside : i < cells) → ChangesCell cells old new c i → cell_in cells new c i ≡ s → EachListsFree cells old lists
+    → ListsFree (width c) (set (row_in cells old c) i s) (list_in lists' c) → ((d : CellClass) → d ≢ c → list_in lists' d ≡ list_in lists d) → EachListsFree cells new lists'
 lists_become cells old new c i s lists lists' inside change now free own others d =
     ⊎_elim
-    (λ (e : d ≡ c). subst (λ k. IsFreeOf (width k) (row_in cells new k) (list_in lists' k)) (sym e) (subst (λ xs. IsFreeOf (width c) xs (list_in lists' c)) (sym (row_set cells old new c i inside change s now)) own))
-    (λ (e : d ≢ c). subst (λ l. IsFreeOf (width d) (row_in cells new d) l) (sym (others d e)) (subst (λ xs. IsFreeOf (width d) xs (list_in lists d)) (sym (row_stays cells old new c i inside change d e)) (free d)))
+    (λ (e : d ≡ c). subst (λ k. ListsFree (width k) (row_in cells new k) (list_in lists' k)) (sym e) (subst (λ xs. ListsFree (width c) xs (list_in lists' c)) (sym (row_set cells old new c i inside change s now)) own))
+    (λ (e : d ≢ c). subst (λ l. ListsFree (width d) (row_in cells new d) l) (sym (others d e)) (subst (λ xs. ListsFree (width d) xs (list_in lists d)) (sym (row_stays cells old new c i inside change d e)) (free d)))
     (class_cases d c)
 
 -- ---- rows that stay
@@ -79,15 +79,15 @@ rows_stay cells old new c i s inside change now same d =
 
 -- ---- the first cell that was never used
 
-pub fresh_below : (cells : ℕ) (ws : List Word) (c : CellClass) (l : FreeList) → IsFreeOf (width c) (row_in cells ws c) l → (l.fresh ≡ cells → ⊥) → l.fresh < cells
+pub fresh_below : (cells : ℕ) (ws : List Word) (c : CellClass) (l : FreeList) → ListsFree (width c) (row_in cells ws c) l → (l.fresh ≡ cells → ⊥) → l.fresh < cells
 fresh_below cells ws c l h some = let lt = fresh_inside (width c) (row_in cells ws c) l h (λ e. some (e ∙ row_long cells ws c)) in omega (arith, lt, row_long cells ws c)
 
-pub fresh_new : (cells : ℕ) (ws : List Word) (c : CellClass) (l : FreeList) → AreWhole cells ws → IsFreeOf (width c) (row_in cells ws c) l → (l.fresh ≡ cells → ⊥) → (q : ℕ) → q < slots c → word_at cells ws c l.fresh q ≡ Some None
+pub fresh_new : (cells : ℕ) (ws : List Word) (c : CellClass) (l : FreeList) → AreWhole cells ws → ListsFree (width c) (row_in cells ws c) l → (l.fresh ≡ cells → ⊥) → (q : ℕ) → q < slots c → word_at cells ws c l.fresh q ≡ Some None
 fresh_new cells ws c l all h some =
     let inside = fresh_below cells ws c l h some in
     new_of cells ws c l.fresh (all.each c l.fresh inside) (sym (row_at cells ws c l.fresh inside) ∙ h.unused.1 l.fresh (omega arith) (omega (arith, inside, row_long cells ws c)))
 
-module _ (cells : ℕ) (c : CellClass) (words : Cells End) (lists : FreeLists) (all : AreWhole cells words.slots) (free : AreFreeOf cells words.slots lists) where
+module _ (cells : ℕ) (c : CellClass) (words : Cells End) (lists : FreeLists) (all : AreWhole cells words.slots) (free : EachListsFree cells words.slots lists) where
   abbrev l : FreeList
   l = list_in lists c
 
@@ -97,20 +97,20 @@ module _ (cells : ℕ) (c : CellClass) (words : Cells End) (lists : FreeLists) (
   long : length xs ≡ cells
   long = row_long cells words.slots c
 
-  pub none_ready : l.next ≡ cells → l.fresh ≡ cells → IsReady cells c words lists false words lists
+  pub none_ready : l.next ≡ cells → l.fresh ≡ cells → MakesReady cells c words lists false words lists
   none_ready empty used = (refl, refl, none_free (width c) xs l (free c) (empty ∙ sym long) (used ∙ sym long))
 
-  pub still_ready : (l.next ≡ cells → ⊥) → IsReady cells c words lists true words lists
+  pub still_ready : (l.next ≡ cells → ⊥) → MakesReady cells c words lists true words lists
   still_ready some = (refl, all, free, λ d. refl, some)
 
-  pub listed_ready : (words' : Cells End) (lists' : FreeLists) (x : Content) → l.next ≡ cells → (l.fresh ≡ cells → ⊥) → words'.at ≡ words.at → IsWhole cells words'.slots c l.fresh → ChangesCell cells words.slots words'.slots c l.fresh
-      → cell_in cells words'.slots c l.fresh ≡ Some (Some x) → x.count ≡ 0 → x.word ≡ cells → list_in lists' c ≡ list_with l.fresh (l.fresh + 1) l.free → ((d : CellClass) → d ≢ c → list_in lists' d ≡ list_in lists d) → IsReady cells c words lists true words' lists'
+  pub listed_ready : (words' : Cells End) (lists' : FreeLists) (x : Content) → l.next ≡ cells → (l.fresh ≡ cells → ⊥) → words'.at ≡ words.at → IsInOneState cells words'.slots c l.fresh → ChangesCell cells words.slots words'.slots c l.fresh
+      → cell_in cells words'.slots c l.fresh ≡ Some (Some x) → x.count ≡ 0 → x.word ≡ cells → list_in lists' c ≡ list_with l.fresh (l.fresh + 1) l.free → ((d : CellClass) → d ≢ c → list_in lists' d ≡ list_in lists d) → MakesReady cells c words lists true words' lists'
   listed_ready words' lists' x empty some same whole change now ends_zero last own others =
       let inside = fresh_below cells words.slots c l (free c) some in
       let z = listed_new (width c) xs l x (free c) (empty ∙ sym long) (λ e. some (e ∙ long)) ends_zero (last ∙ sym long) in (
         same,
         still_whole cells words.slots words'.slots c l.fresh inside change all whole,
-        lists_become cells words.slots words'.slots c l.fresh (Some (Some x)) lists lists' inside change now free (subst (IsFreeOf (width c) (set xs l.fresh (Some (Some x)))) (sym own) z.0) others,
+        lists_become cells words.slots words'.slots c l.fresh (Some (Some x)) lists lists' inside change now free (subst (ListsFree (width c) (set xs l.fresh (Some (Some x)))) (sym own) z.0) others,
         rows_stay cells words.slots words'.slots c l.fresh (Some (Some x)) inside change now z.1,
         λ e. (let at = ap (λ (k : FreeList). k.next) own in omega (arith, at, e, inside)),
       )
@@ -135,19 +135,19 @@ module _ (cells : ℕ) (c : CellClass) (words : Cells End) (lists : FreeLists) (
 
     -- it is another owner's from now on
     pub first_taken : (words' : Cells End) (lists' : FreeLists) → ChangesCell cells words.slots words'.slots c l.next → cell_in cells words'.slots c l.next ≡ None → list_in lists' c ≡ list_with first.cell.word l.fresh (l.free - 1) → ((d : CellClass) → d ≢ c → list_in lists' d ≡ list_in lists d)
-        → AreFreeOf cells words'.slots lists' × RowsBecome cells words.slots words'.slots c l.next Leased
+        → EachListsFree cells words'.slots lists' × RowsBecome cells words.slots words'.slots c l.next Leased
     first_taken words' lists' change now own others = (
-      lists_become cells words.slots words'.slots c l.next None lists lists' first_below change now free (subst (IsFreeOf (width c) (set xs l.next None)) (sym own) (taken (width c) xs l (free c) first)) others,
+      lists_become cells words.slots words'.slots c l.next None lists lists' first_below change now free (subst (ListsFree (width c) (set xs l.next None)) (sym own) (taken (width c) xs l (free c) first)) others,
       rows_become cells words.slots words'.slots c l.next first_below change None now,
     )
 
     -- it is live from now on
     pub first_begun : (words' : Cells End) (lists' : FreeLists) (x : Content) → ChangesCell cells words.slots words'.slots c l.next → cell_in cells words'.slots c l.next ≡ Some (Some x) → 0 < x.count → x.count ≤ width c → list_in lists' c ≡ list_with first.cell.word l.fresh (l.free - 1)
-        → ((d : CellClass) → d ≢ c → list_in lists' d ≡ list_in lists d) → AreFreeOf cells words'.slots lists' × RowsBecome cells words.slots words'.slots c l.next (state_of (Some (Some x)))
+        → ((d : CellClass) → d ≢ c → list_in lists' d ≡ list_in lists d) → EachListsFree cells words'.slots lists' × RowsBecome cells words.slots words'.slots c l.next (state_of (Some (Some x)))
     first_begun words' lists' x change now one few own others =
         let i = l.next in let out = set xs i None in let p = first in
         let again = put (width c) out (list_with p.cell.word l.fresh (l.free - 1)) i (Some (Some x)) (taken (width c) xs l (free c) p) (omega (arith, length-set xs i None, p.inside)) (ap vacancy (get_or-set_same xs i None None p.inside)) (filled_count x.count one) few in (
-          lists_become cells words.slots words'.slots c i (Some (Some x)) lists lists' first_below change now free (subst (IsFreeOf (width c) (set xs i (Some (Some x)))) (sym own) (subst (λ ys. IsFreeOf (width c) ys (list_with p.cell.word l.fresh (l.free - 1))) (set_twice xs i None (Some (Some x))) again)) others,
+          lists_become cells words.slots words'.slots c i (Some (Some x)) lists lists' first_below change now free (subst (ListsFree (width c) (set xs i (Some (Some x)))) (sym own) (subst (λ ys. ListsFree (width c) ys (list_with p.cell.word l.fresh (l.free - 1))) (set_twice xs i None (Some (Some x))) again)) others,
           rows_become cells words.slots words'.slots c i first_below change (Some (Some x)) now,
         )
 
@@ -161,7 +161,7 @@ module _ (cells : ℕ) (c : CellClass) (words : Cells End) (lists : FreeLists) (
     within = omega (arith, inside, long)
 
     -- it becomes another one that isn't
-    pub one_put : (words' : Cells End) (s : CellWords) → ChangesCell cells words.slots words'.slots c i → cell_in cells words'.slots c i ≡ s → vacancy s ≡ 0 → IsCell (width c) s → AreFreeOf cells words'.slots lists × RowsBecome cells words.slots words'.slots c i (state_of s)
+    pub one_put : (words' : Cells End) (s : CellWords) → ChangesCell cells words.slots words'.slots c i → cell_in cells words'.slots c i ≡ s → vacancy s ≡ 0 → IsCell (width c) s → EachListsFree cells words'.slots lists × RowsBecome cells words.slots words'.slots c i (state_of s)
     one_put words' s change now after few = (
       lists_become cells words.slots words'.slots c i s lists lists inside change now free (put (width c) xs l i s (free c) within was after few) (λ d other. refl),
       rows_become cells words.slots words'.slots c i inside change s now,
@@ -169,9 +169,9 @@ module _ (cells : ℕ) (c : CellClass) (words : Cells End) (lists : FreeLists) (
 
     -- it becomes the first free one
     pub one_freed : (words' : Cells End) (lists' : FreeLists) (x : Content) → ChangesCell cells words.slots words'.slots c i → cell_in cells words'.slots c i ≡ Some (Some x) → x.count ≡ 0 → x.word ≡ l.next → list_in lists' c ≡ list_with i l.fresh (l.free + 1)
-        → ((d : CellClass) → d ≢ c → list_in lists' d ≡ list_in lists d) → AreFreeOf cells words'.slots lists' × RowsBecome cells words.slots words'.slots c i Vacant
+        → ((d : CellClass) → d ≢ c → list_in lists' d ≡ list_in lists d) → EachListsFree cells words'.slots lists' × RowsBecome cells words.slots words'.slots c i Vacant
     one_freed words' lists' x change now ends_zero next own others = (
-      lists_become cells words.slots words'.slots c i (Some (Some x)) lists lists' inside change now free (subst (IsFreeOf (width c) (set xs i (Some (Some x)))) (sym own) (freed (width c) xs l i x (free c) within was ends_zero next)) others,
+      lists_become cells words.slots words'.slots c i (Some (Some x)) lists lists' inside change now free (subst (ListsFree (width c) (set xs i (Some (Some x)))) (sym own) (freed (width c) xs l i x (free c) within was ends_zero next)) others,
       subst (RowsBecome cells words.slots words'.slots c i) (vacant_state x ends_zero) (rows_become cells words.slots words'.slots c i inside change (Some (Some x)) now),
     )
 

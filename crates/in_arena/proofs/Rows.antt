@@ -10,7 +10,7 @@ use Rattle.in_arena.specs.Classes.{classes, class_no, width}
 use Rattle.in_arena.specs.FreeLists.{state_of, states}
 use Rattle.in_arena.specs.Rows.{RowsBecome}
 use Rattle.in_arena.specs.States.{State, is_vacant}
-use Rattle.in_arena.specs.Words.{Word, Content, CellWords, spot, slots, head, slot_of, word_in, count_in, IsHead, end_of, cell_of, word_at, ends_in, cell_in, row_in, IsWhole, Gone, New, Filled, AreWhole, ChangesCell}
+use Rattle.in_arena.specs.Words.{Word, Content, CellWords, spot, slots, head, slot_of, word_in, count_in, IsHead, end_of, cell_of, word_at, ends_in, cell_in, row_in, IsInOneState, Gone, New, Filled, AreWhole, ChangesCell}
 use Rattle.in_arena.specs.declared.content.CellClass.{CellClass}
 use Rattle.in_arena.specs.declared.content.CellClass.TheVariants.{Small, Large, Wide}
 use Rattle.in_arena.specs.declared.content.End.{End}
@@ -65,11 +65,11 @@ module _ (cells : ℕ) (old new : List Word) (c : CellClass) (i : ℕ) (inside :
   }
 
   -- each cell is whole if this one is
-  pub still_whole : AreWhole cells old → IsWhole cells new c i → AreWhole cells new
+  pub still_whole : AreWhole cells old → IsInOneState cells new c i → AreWhole cells new
   still_whole all one = record {
     long = change.long ∙ all.long;
     each = λ d j lj. ⊎_elim
-        (λ (e : (c ≡ d) × (i ≡ j)). subst (λ (k : CellClass × ℕ). IsWhole cells new k.0 k.1) (λ z. (e.0 z, e.1 z)) one)
+        (λ (e : (c ≡ d) × (i ≡ j)). subst (λ (k : CellClass × ℕ). IsInOneState cells new k.0 k.1) (λ z. (e.0 z, e.1 z)) one)
         (λ (differ : (c ≡ d) × (i ≡ j) → ⊥). kept_whole cells old new d j (other_kept cells old new c d i j inside lj change differ) (all.each d j lj))
         (both c d i j);
   }
@@ -117,7 +117,7 @@ cell_gone w es x none at = let f : None ≡ Some (Some x) = sym (ap (λ v. cell_
 cell_new : (w : Word) (es : List End) (x : Content) → w ≡ Some None → cell_of w es ≡ Some (Some x) → ⊥
 cell_new w es x none at = let f : Some None ≡ Some (Some x) = sym (ap (λ v. cell_of v es) none) ∙ at in cc
 
-pub all_filled : (cells : ℕ) (ws : List Word) (c : CellClass) (i : ℕ) (x : Content) → IsWhole cells ws c i → cell_in cells ws c i ≡ Some (Some x) → AllFilled cells ws c i
+pub all_filled : (cells : ℕ) (ws : List Word) (c : CellClass) (i : ℕ) (x : Content) → IsInOneState cells ws c i → cell_in cells ws c i ≡ Some (Some x) → AllFilled cells ws c i
 all_filled cells ws c i x (Gone none) at = absurd (cell_gone (word_at cells ws c i head) (ends_in cells ws c i) x (none head (head_inside c)) at)
 all_filled cells ws c i x (New fresh) at = absurd (cell_new (word_at cells ws c i head) (ends_in cells ws c i) x (fresh head (head_inside c)) at)
 all_filled cells ws c i x (Filled all first) at = (all, first)
@@ -200,7 +200,7 @@ module _ (cells : ℕ) (ws : List Word) (c : CellClass) (i q : ℕ) (e : End) (l
   elsewhere r in_r other = get_or-set_other ws (spot c cells i q) (spot c cells i r) (Some (Some e)) None (λ same. other (apart c c cells i i r q inside inside in_r in_it same).2)
 
   -- it stays whole if it was written
-  pub whole_now : AllFilled cells ws c i → (q ≡ head → IsHead e) → IsWhole cells new c i
+  pub whole_now : AllFilled cells ws c i → (q ≡ head → IsHead e) → IsInOneState cells new c i
   whole_now f first = Filled
       (λ r in_r. ⊎_elim
       (λ (same : r ≡ q). (e, ap (λ k. word_at cells new c i k) same ∙ here_now))

@@ -6,7 +6,7 @@ use Rattle.std.proofs.lemmas.Bool.{cases_lt}
 use Rattle.std.proofs.lemmas.List.{ext_get_or}
 use Rattle.std.proofs.lemmas.List.FromFn.{length-map-range_with_len, get_or-map-range_with_len}
 use Rattle.in_arena.specs.Classes.{class_no, width}
-use Rattle.in_arena.specs.Words.{Word, words_each, far_of, spot, slots, head, slot_of, IsHead, end_of, cell_of, word_at, ends_in, cell_in, row_in, IsWhole, Gone, New, Filled, ChangesCell}
+use Rattle.in_arena.specs.Words.{Word, words_each, far_of, spot, slots, head, slot_of, IsHead, end_of, cell_of, word_at, ends_in, cell_in, row_in, IsInOneState, Gone, New, Filled, ChangesCell}
 use Rattle.in_arena.specs.declared.content.CellClass.{CellClass}
 use Rattle.in_arena.specs.declared.content.CellClass.TheVariants.{Small, Large, Wide}
 use Rattle.in_arena.specs.declared.content.End.{End}
@@ -194,7 +194,7 @@ kept_cell cells old new c i same =
     ap (λ h. cell_of h (ends_in cells new c i)) (same head (head_inside c))
     ∙ ap (cell_of (word_at cells old c i head)) (map_range_same (end_of None) (λ p. end_of (word_at cells new c i (slot_of p))) (λ p. end_of (word_at cells old c i (slot_of p))) (width c) (λ p lt. ap end_of (same (slot_of p) (slot_inside c p lt))))
 
-pub kept_whole : (cells : ℕ) (old new : List Word) (c : CellClass) (i : ℕ) → IsKept cells old new c i → IsWhole cells old c i → IsWhole cells new c i
+pub kept_whole : (cells : ℕ) (old new : List Word) (c : CellClass) (i : ℕ) → IsKept cells old new c i → IsInOneState cells old c i → IsInOneState cells new c i
 kept_whole cells old new c i same (Gone none) = Gone (λ q lt. same q lt ∙ none q lt)
 kept_whole cells old new c i same (New new_) = New (λ q lt. same q lt ∙ new_ q lt)
 kept_whole cells old new c i same (Filled all first) = Filled (λ q lt. let w = all q lt in (w.0, same q lt ∙ w.1)) (subst (λ w. IsHead (end_of w)) (sym (same head (head_inside c))) first)

@@ -68,7 +68,7 @@ IsCell most (Some None) = Unit {0}
 IsCell most (Some (Some c)) = c.count ≤ most
 
 -- the free cells are those of the list, and all that were never used
-pub record IsFreeOf (most : ℕ) (cells : List CellWords) (l : FreeList) : Type 0 where
+pub record ListsFree (most : ℕ) (cells : List CellWords) (l : FreeList) : Type 0 where
   pub few : (i : ℕ) → IsCell most (get_or cells i None)
   pub free : List ℕ
   pub listed : IsFreeList cells l.next free

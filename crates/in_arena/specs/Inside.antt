@@ -3,7 +3,7 @@ use Rattle.std.specs.Prelude.{◌≡◌, ◌≤◌, ◌*◌}
 use Rattle.in_arena.specs.Arenas.{ArenaView}
 use Rattle.in_arena.specs.ByClass.{view_of}
 use Rattle.in_arena.specs.Classes.{width}
-use Rattle.in_arena.specs.FreeLists.{IsFreeOf, list_in}
+use Rattle.in_arena.specs.FreeLists.{ListsFree, list_in}
 use Rattle.in_arena.specs.Limiting.{most_cells}
 use Rattle.in_arena.specs.Words.{AreWhole, row_in, words_each}
 use Rattle.in_arena.specs.declared.arena.Arena.TheInside.{Inside}
@@ -17,4 +17,4 @@ pub record IsArena (a : Inside) : Type 0 where
   pub few : a.cells ≤ most_cells
   pub block : (a.words.at ≡ a.base.ptr) × (a.deed.at ≡ a.base.ptr) × (a.deed.len ≡ words_each * a.cells) × (a.deed.alloc ≡ a.alloc)
   pub whole : AreWhole a.cells a.words.slots
-  pub free : (c : CellClass) → IsFreeOf (width c) (row_in a.cells a.words.slots c) (list_in a.lists c)
+  pub free : (c : CellClass) → ListsFree (width c) (row_in a.cells a.words.slots c) (list_in a.lists c)

@@ -2,7 +2,7 @@
 use Rattle.std.specs.Prelude.{◌≡◌, ◌≢◌, ◌≤◌, ◌<◌, ◌*◌, ℕ, Bool, true, false, List, length, take, count_by, replicate, slice_set, Some, None}
 use Rattle.in_memory.specs.declared.cells.Cells.{Cells}
 use Rattle.in_arena.specs.Classes.{width}
-use Rattle.in_arena.specs.FreeLists.{IsFreeOf, list_in, states}
+use Rattle.in_arena.specs.FreeLists.{ListsFree, list_in, states}
 use Rattle.in_arena.specs.States.{State, Vacant, is_vacant}
 use Rattle.in_arena.specs.Words.{AreWhole, ChangesCell, Content, Word, cell_in, row_in, words_each}
 use Rattle.in_arena.specs.declared.content.CellClass.{CellClass}
@@ -11,8 +11,8 @@ use Rattle.in_arena.specs.declared.free_list.FreeLists.{FreeLists}
 use Rattle.in_arena.specs.declared.spot.Spot.{Spot}
 
 -- the lists have the free cells of each class
-abbrev pub AreFreeOf : ℕ → List Word → FreeLists → Type 0
-AreFreeOf cells ws lists = (c : CellClass) → IsFreeOf (width c) (row_in cells ws c) (list_in lists c)
+abbrev pub EachListsFree : ℕ → List Word → FreeLists → Type 0
+EachListsFree cells ws lists = (c : CellClass) → ListsFree (width c) (row_in cells ws c) (list_in lists c)
 
 -- one cell is that, and all others are as they were
 pub record RowsBecome (cells : ℕ) (old new : List Word) (c : CellClass) (i : ℕ) (x : State) : Type 0 where
@@ -24,9 +24,9 @@ abbrev pub RowsStay : ℕ → List Word → List Word → Type 0
 RowsStay cells old new = (c : CellClass) → states (row_in cells new c) ≡ states (row_in cells old c)
 
 -- the list of the class has a cell; or none of the class is free
-abbrev pub IsReady : ℕ → CellClass → Cells End → FreeLists → Bool → Cells End → FreeLists → Type 0
-IsReady cells c words lists true words' lists' = (words'.at ≡ words.at) × AreWhole cells words'.slots × AreFreeOf cells words'.slots lists' × RowsStay cells words.slots words'.slots × ((list_in lists' c).next ≢ cells)
-IsReady cells c words lists false words' lists' = (words' ≡ words) × (lists' ≡ lists) × (count_by is_vacant (states (row_in cells words.slots c)) ≡ 0)
+abbrev pub MakesReady : ℕ → CellClass → Cells End → FreeLists → Bool → Cells End → FreeLists → Type 0
+MakesReady cells c words lists true words' lists' = (words'.at ≡ words.at) × AreWhole cells words'.slots × EachListsFree cells words'.slots lists' × RowsStay cells words.slots words'.slots × ((list_in lists' c).next ≢ cells)
+MakesReady cells c words lists false words' lists' = (words' ≡ words) × (lists' ≡ lists) × (count_by is_vacant (states (row_in cells words.slots c)) ≡ 0)
 
 -- the cell is written with this content from now on
 pub record Rewrites (words : Cells End) (at : Spot) (x : Content) (words' : Cells End) : Type 0 where
@@ -50,7 +50,7 @@ pub record OwnsOne (words : Cells End) (at : Spot) (one : Cells End) : Type 0 wh
 pub record IsTakenBack (words : Cells End) (lists : FreeLists) (at : Spot) (words' : Cells End) (lists' : FreeLists) : Type 0 where
   pub same : words'.at ≡ words.at
   pub whole : AreWhole at.cells words'.slots
-  pub free : AreFreeOf at.cells words'.slots lists'
+  pub free : EachListsFree at.cells words'.slots lists'
   pub rows : RowsBecome at.cells words.slots words'.slots at.class at.index Vacant
 
 -- a cell is here and written

@@ -109,15 +109,15 @@ module _ (cells : ℕ) (ws : List Word) (c : CellClass) where
   row_in = map cell_in (range_with_len 0 cells)
 
   -- all words of the cell are another owner's, or all are here and never written, or all are written, a head among them
-  pub data IsWhole (i : ℕ) : Type 0 where
-    Gone : ((q : ℕ) → q < slots c → word_at i q ≡ None) → IsWhole i
-    New : ((q : ℕ) → q < slots c → word_at i q ≡ Some None) → IsWhole i
-    Filled : ((q : ℕ) → q < slots c → (e : End) × (word_at i q ≡ Some (Some e))) → IsHead (end_of (word_at i head)) → IsWhole i
+  pub data IsInOneState (i : ℕ) : Type 0 where
+    Gone : ((q : ℕ) → q < slots c → word_at i q ≡ None) → IsInOneState i
+    New : ((q : ℕ) → q < slots c → word_at i q ≡ Some None) → IsInOneState i
+    Filled : ((q : ℕ) → q < slots c → (e : End) × (word_at i q ≡ Some (Some e))) → IsHead (end_of (word_at i head)) → IsInOneState i
 
 -- each cell is whole
 pub record AreWhole (cells : ℕ) (ws : List Word) : Type 0 where
   pub long : length ws ≡ words_each * cells
-  pub each : (c : CellClass) (i : ℕ) → i < cells → IsWhole cells ws c i
+  pub each : (c : CellClass) (i : ℕ) → i < cells → IsInOneState cells ws c i
 
 -- the rows differ in words of this cell at most
 pub record ChangesCell (cells : ℕ) (old new : List Word) (c : CellClass) (i : ℕ) : Type 0 where

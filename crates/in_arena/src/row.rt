@@ -2,9 +2,9 @@
 ghost use Rattle.std.specs.Prelude.{◌≡◌, ◌≤◌, ◌<◌, ◌+◌, ◌*◌, length, Some, get_or, None, slice_set};
 ghost use Rattle.in_memory.specs.Places.{IsFilled};
 ghost use Rattle.in_arena.specs.Classes.{width};
-ghost use Rattle.in_arena.specs.FreeLists.{IsFreeOf, list_in};
+ghost use Rattle.in_arena.specs.FreeLists.{ListsFree, list_in};
 ghost use Rattle.in_arena.specs.Limiting.{most_cells};
-ghost use Rattle.in_arena.specs.Rows.{AreFreeOf, HasContent, IsReady, IsTakenBack, IsWrittenAt, OwnsOne, Rewrites};
+ghost use Rattle.in_arena.specs.Rows.{EachListsFree, HasContent, MakesReady, IsTakenBack, IsWrittenAt, OwnsOne, Rewrites};
 ghost use Rattle.in_arena.specs.Words.{AreWhole, Content, cell_in};
 
 use crate::content::{CellClass, CellNo, End, SymbolWord};
@@ -32,8 +32,8 @@ pub fn is_ready(
     lists: &mut FreeLists,
 ) -> bool
     requires words { (base.ptr ≡ words.old.at) × (cells ≤ most_cells) × AreWhole cells words.old.slots }
-    requires lists { AreFreeOf cells words.old.slots lists.old }
-    ensures { IsReady cells class words.old lists.old result words.new lists.new }
+    requires lists { EachListsFree cells words.old.slots lists.old }
+    ensures { MakesReady cells class words.old lists.old result words.new lists.new }
 {
     if lists.of(class).next != cells {
         return true;
@@ -51,9 +51,9 @@ fn list_new(
     lists: &mut FreeLists,
 ) -> bool
     requires words { (base.ptr ≡ words.old.at) × (cells ≤ most_cells) × AreWhole cells words.old.slots }
-    requires lists { AreFreeOf cells words.old.slots lists.old }
+    requires lists { EachListsFree cells words.old.slots lists.old }
     requires empty { (list_in lists.old class).next ≡ cells }
-    ensures { IsReady cells class words.old lists.old result words.new lists.new }
+    ensures { MakesReady cells class words.old lists.old result words.new lists.new }
 {
     let list = lists.of(class);
     if list.fresh == cells {
@@ -89,7 +89,7 @@ pub fn take_back(
     lists: &mut FreeLists,
 )
     requires words { (base.ptr ≡ words.old.at) × (spot.cells ≤ most_cells) × AreWhole spot.cells words.old.slots }
-    requires lists { AreFreeOf spot.cells words.old.slots lists.old }
+    requires lists { EachListsFree spot.cells words.old.slots lists.old }
     requires one { OwnsOne words.old spot one }
     ensures { IsTakenBack words.old lists.old spot words.new lists.new }
 {

@@ -3,7 +3,7 @@ use Rattle.in_arena.specs.ByClass.{IsPlace, view_of}
 use Rattle.in_arena.specs.Classes.{Holds, class_no}
 use Rattle.in_arena.specs.FreeLists.{list_in}
 use Rattle.in_arena.specs.Inside.{IsArena, arena_view}
-use Rattle.in_arena.specs.Rows.{IsReady}
+use Rattle.in_arena.specs.Rows.{MakesReady}
 use Rattle.in_memory.specs.declared.cells.Cells.{Cells}
 use Rattle.in_arena.specs.declared.arena.Arena.TheInside.{Inside}
 use Rattle.in_arena.specs.declared.content.CellClass.{CellClass}
@@ -23,7 +23,7 @@ use Rattle.in_arena.proofs.arena.Arena.begin.Goals as goal
 head_word : (n cells : ℕ) (k : CellClass) (l m : FreeList) → l ≡ m → m.next < cells → n ≡ class_no k * cells + l.next → 4 * n + 3 ≡ spot k cells m.next head
 head_word n cells k l m e inside at = near_spot cells n k m.next 3 (inside, at ∙ ap (λ (z : FreeList). class_no k * cells + z.next) e) (omega arith)
 
-all : (a : Inside) (h : IsArena a) (v : ArenaView) (e : arena_view a ≡ v) (k : CellClass) (w : Cells End) (z : FreeLists) (ready : IsReady a.cells k a.words a.lists true w z) (n : ℕ) (l : FreeList) → l ≡ list_in z k → n ≡ class_no k * a.cells + l.next
+all : (a : Inside) (h : IsArena a) (v : ArenaView) (e : arena_view a ≡ v) (k : CellClass) (w : Cells End) (z : FreeLists) (ready : MakesReady a.cells k a.words a.lists true w z) (n : ℕ) (l : FreeList) → l ≡ list_in z k → n ≡ class_no k * a.cells + l.next
     → (at : ℕ) → at ≡ 4 * n + 3 → (x : End) → get_or w.slots at None ≡ Some (Some x) → (next : ℕ) → ((d : CellNo) (p : ℕ) → x ≡ Cell d p → next ≡ d.0) → (y : End) (symbol count : ℕ) → y ≡ Cell (record { 0 = symbol }) count → Holds k count
     → (words : Cells End) → words.at ≡ w.at → words.slots ≡ set w.slots at (Some (Some y)) → (lists : FreeLists) → list_in lists k ≡ list_with next l.fresh (l.free - 1) → ((d : CellClass) → d ≢ k → list_in lists d ≡ list_in z d)
     → IsArena (with_row a words lists) × BeginsCell k symbol count v n (view_of words.at a.cells words.slots)
@@ -38,18 +38,18 @@ all a h v e k w z ready n l is num at word x here next named y symbol count head
 pub returns-then-not-is_ready : goal.returns-then-not-is_ready
 returns-then-not-is_ready c =
     let a = c.self.inside in let h = c.self.invariant in
-    none_ready_in a h c.args.self.now c.self.view_is c.args.class c.is_ready.new.words c.is_ready.new.lists (subst (λ b. IsReady a.cells c.args.class a.words a.lists b c.is_ready.new.words c.is_ready.new.lists) c.if-not-is_ready.true c.is_ready.ensures)
+    none_ready_in a h c.args.self.now c.self.view_is c.args.class c.is_ready.new.words c.is_ready.new.lists (subst (λ b. MakesReady a.cells c.args.class a.words a.lists b c.is_ready.new.words c.is_ready.new.lists) c.if-not-is_ready.true c.is_ready.ensures)
 
 pub cell-cell-requires : goal.cell-cell-requires
 cell-cell-requires c =
     let a = c.self.inside in let h = c.self.invariant in let k = c.args.class in let w = c.is_ready.new.words in let z = c.is_ready.new.lists in
-    let r = ready_in a h c.args.self.now c.self.view_is k w z (subst (λ b. IsReady a.cells k a.words a.lists b w z) c.if-not-is_ready.false c.is_ready.ensures) in
+    let r = ready_in a h c.args.self.now c.self.view_is k w z (subst (λ b. MakesReady a.cells k a.words a.lists b w z) c.if-not-is_ready.false c.is_ready.ensures) in
     (h.few, subst (λ i. i < a.cells) (sym (ap (λ (l : FreeList). l.next) c.of-list.ensures)) (first_inside (with_row a w z) r.0 c.args.self.now r.1 k r.2))
 
 pub get-requires : goal.get-requires
 get-requires c =
     let a = c.self.inside in let h = c.self.invariant in let k = c.args.class in let w = c.is_ready.new.words in let z = c.is_ready.new.lists in
-    let ready = subst (λ b. IsReady a.cells k a.words a.lists b w z) c.if-not-is_ready.false c.is_ready.ensures in
+    let ready = subst (λ b. MakesReady a.cells k a.words a.lists b w z) c.if-not-is_ready.false c.is_ready.ensures in
     let r = ready_in a h c.args.self.now c.self.view_is k w z ready in let at = first_head (with_row a w z) r.0 c.args.self.now r.1 k r.2 in
     let word : c.near_word-at.result ≡ spot k a.cells (list_in z k).next head = c.near_word-at.ensures ∙ head_word c.cell-cell.result.0 a.cells k c.of-list.result (list_in z k) c.of-list.ensures (first_inside (with_row a w z) r.0 c.args.self.now r.1 k r.2) c.cell-cell.ensures in
     (sym h.block.0 ∙ sym ready.0, (at.0, ap (λ j. get_or w.slots j None) word ∙ at.1))
@@ -57,17 +57,17 @@ get-requires c =
 pub overflow_sub-list : goal.overflow_sub-list
 overflow_sub-list c =
     let a = c.self.inside in let h = c.self.invariant in let k = c.args.class in let w = c.is_ready.new.words in let z = c.is_ready.new.lists in
-    let ready = subst (λ b. IsReady a.cells k a.words a.lists b w z) c.if-not-is_ready.false c.is_ready.ensures in
+    let ready = subst (λ b. MakesReady a.cells k a.words a.lists b w z) c.if-not-is_ready.false c.is_ready.ensures in
     subst (λ n. 1 ≤ n) (sym (ap (λ (l : FreeList). l.free) c.of-list.ensures)) (free_some a.cells k w z ready.1 ready.2 ready.4)
 
 pub invariant_of-self-2 : goal.invariant_of-self-2
 invariant_of-self-2 c = (all c.self.inside c.self.invariant c.args.self.now c.self.view_is c.args.class c.is_ready.new.words c.is_ready.new.lists
-    (subst (λ b. IsReady c.self.inside.cells c.args.class c.self.inside.words c.self.inside.lists b c.is_ready.new.words c.is_ready.new.lists) c.if-not-is_ready.false c.is_ready.ensures)
+    (subst (λ b. MakesReady c.self.inside.cells c.args.class c.self.inside.words c.self.inside.lists b c.is_ready.new.words c.is_ready.new.lists) c.if-not-is_ready.false c.is_ready.ensures)
     c.cell-cell.result.0 c.of-list.result c.of-list.ensures c.cell-cell.ensures c.near_word-at.result c.near_word-at.ensures c.get.result.now c.get.ensures c.number-next.result c.number-next.ensures.cell
     c.port.result c.args.symbol c.args.places c.port.ensures c.requires c.write.new.self c.write.ensures.0 c.write.ensures.1 c.set.new.self c.set.ensures.class c.set.ensures.others).0
 
 pub returns : goal.returns
 returns c = (all c.self.inside c.self.invariant c.args.self.now c.self.view_is c.args.class c.is_ready.new.words c.is_ready.new.lists
-    (subst (λ b. IsReady c.self.inside.cells c.args.class c.self.inside.words c.self.inside.lists b c.is_ready.new.words c.is_ready.new.lists) c.if-not-is_ready.false c.is_ready.ensures)
+    (subst (λ b. MakesReady c.self.inside.cells c.args.class c.self.inside.words c.self.inside.lists b c.is_ready.new.words c.is_ready.new.lists) c.if-not-is_ready.false c.is_ready.ensures)
     c.cell-cell.result.0 c.of-list.result c.of-list.ensures c.cell-cell.ensures c.near_word-at.result c.near_word-at.ensures c.get.result.now c.get.ensures c.number-next.result c.number-next.ensures.cell
     c.port.result c.args.symbol c.args.places c.port.ensures c.requires c.write.new.self c.write.ensures.0 c.write.ensures.1 c.set.new.self c.set.ensures.class c.set.ensures.others).1

@@ -6,7 +6,7 @@ use Rattle.in_arena.specs.ByClass.{view_of}
 use Rattle.in_arena.specs.FreeLists.{list_in}
 use Rattle.in_arena.specs.Inside.{IsArena, arena_view}
 use Rattle.in_arena.specs.Leases.{IsLease, lease_view}
-use Rattle.in_arena.specs.Rows.{IsReady}
+use Rattle.in_arena.specs.Rows.{MakesReady}
 use Rattle.in_arena.specs.Words.{head, is_spot, spot}
 use Rattle.in_arena.specs.declared.arena.Arena.TheInside.{Inside}
 use Rattle.in_arena.specs.declared.lease.Lease.TheInside.{Inside as LeaseInside}
@@ -25,28 +25,28 @@ use Rattle.in_arena.proofs.arena.Arena.lease.Goals as goal
 pub returns-then-not-is_ready : goal.returns-then-not-is_ready
 returns-then-not-is_ready c =
     let a = c.self.inside in let h = c.self.invariant in
-    none_ready_in a h c.args.self.now c.self.view_is c.args.class c.is_ready.new.words c.is_ready.new.lists (subst (λ b. IsReady a.cells c.args.class a.words a.lists b c.is_ready.new.words c.is_ready.new.lists) c.if-not-is_ready.true c.is_ready.ensures)
+    none_ready_in a h c.args.self.now c.self.view_is c.args.class c.is_ready.new.words c.is_ready.new.lists (subst (λ b. MakesReady a.cells c.args.class a.words a.lists b c.is_ready.new.words c.is_ready.new.lists) c.if-not-is_ready.true c.is_ready.ensures)
 
 pub head-requires : goal.head-requires
 head-requires c =
     let a = c.self.inside in let h = c.self.invariant in let k = c.args.class in let w = c.is_ready.new.words in let z = c.is_ready.new.lists in
-    let r = ready_in a h c.args.self.now c.self.view_is k w z (subst (λ b. IsReady a.cells k a.words a.lists b w z) c.if-not-is_ready.false c.is_ready.ensures) in
+    let r = ready_in a h c.args.self.now c.self.view_is k w z (subst (λ b. MakesReady a.cells k a.words a.lists b w z) c.if-not-is_ready.false c.is_ready.ensures) in
     (h.few, subst (λ i. i < a.cells) (sym (ap (λ (l : FreeList). l.next) c.of-list.ensures)) (first_inside (with_row a w z) r.0 c.args.self.now r.1 k r.2))
 
 pub get-requires : goal.get-requires
 get-requires c =
     let a = c.self.inside in let h = c.self.invariant in let k = c.args.class in let w = c.is_ready.new.words in let z = c.is_ready.new.lists in
-    let ready = subst (λ b. IsReady a.cells k a.words a.lists b w z) c.if-not-is_ready.false c.is_ready.ensures in
+    let ready = subst (λ b. MakesReady a.cells k a.words a.lists b w z) c.if-not-is_ready.false c.is_ready.ensures in
     let r = ready_in a h c.args.self.now c.self.view_is k w z ready in let at = first_head (with_row a w z) r.0 c.args.self.now r.1 k r.2 in
     (sym h.block.0 ∙ sym ready.0, (at.0, ap (λ j. get_or w.slots j None) (c.head.ensures ∙ ap (λ (l : FreeList). spot k a.cells l.next head) c.of-list.ensures) ∙ at.1))
 
 pub overflow_sub-list : goal.overflow_sub-list
 overflow_sub-list c =
     let a = c.self.inside in let k = c.args.class in let w = c.is_ready.new.words in let z = c.is_ready.new.lists in
-    let ready = subst (λ b. IsReady a.cells k a.words a.lists b w z) c.if-not-is_ready.false c.is_ready.ensures in
+    let ready = subst (λ b. MakesReady a.cells k a.words a.lists b w z) c.if-not-is_ready.false c.is_ready.ensures in
     subst (λ n. 1 ≤ n) (sym (ap (λ (l : FreeList). l.free) c.of-list.ensures)) (free_some a.cells k w z ready.1 ready.2 ready.4)
 
-all : (a : Inside) (h : IsArena a) (v : ArenaView) (e : arena_view a ≡ v) (k : CellClass) (w : Cells End) (z : FreeLists) (ready : IsReady a.cells k a.words a.lists true w z) (l : FreeList) → l ≡ list_in z k
+all : (a : Inside) (h : IsArena a) (v : ArenaView) (e : arena_view a ≡ v) (k : CellClass) (w : Cells End) (z : FreeLists) (ready : MakesReady a.cells k a.words a.lists true w z) (l : FreeList) → l ≡ list_in z k
     → (at : ℕ) → at ≡ spot k a.cells l.next head → (x : End) → get_or w.slots at None ≡ Some (Some x) → (next : ℕ) → ((d : CellNo) (p : ℕ) → x ≡ Cell d p → next ≡ d.0) → (lists : FreeLists) → list_in lists k ≡ list_with next l.fresh (l.free - 1) → ((d : CellClass) → d ≢ k → list_in lists d ≡ list_in z d)
     → (one rest : Cells End) → (one.at ≡ w.at) × (one.slots ≡ those_of (is_spot k a.cells l.next) w.slots) → (rest.at ≡ w.at) × (rest.slots ≡ those_of (but (is_spot k a.cells l.next)) w.slots)
     → let m : LeaseInside = record { spot = (let s : Spot = record { class = k; index = l.next; cells = a.cells } in s); base = a.base; words = one } in IsLease m × IsArena (with_row a rest lists) × Leases v k (Some (lease_view m)) (view_of rest.at a.cells rest.slots)
@@ -58,18 +58,18 @@ all a h v e k w z ready l is at word x here next named lists own others one rest
 
 pub invariant_of-result : goal.invariant_of-result
 invariant_of-result c = (all c.self.inside c.self.invariant c.args.self.now c.self.view_is c.args.class c.is_ready.new.words c.is_ready.new.lists
-    (subst (λ b. IsReady c.self.inside.cells c.args.class c.self.inside.words c.self.inside.lists b c.is_ready.new.words c.is_ready.new.lists) c.if-not-is_ready.false c.is_ready.ensures)
+    (subst (λ b. MakesReady c.self.inside.cells c.args.class c.self.inside.words c.self.inside.lists b c.is_ready.new.words c.is_ready.new.lists) c.if-not-is_ready.false c.is_ready.ensures)
     c.of-list.result c.of-list.ensures c.head.result c.head.ensures c.get.result.now c.get.ensures c.number-next.result c.number-next.ensures.cell c.set.new.self c.set.ensures.class c.set.ensures.others
     c.part_by.result c.part_by.new.self c.part_by.ensures.one c.part_by.ensures.rest).0
 
 pub invariant_of-self-2 : goal.invariant_of-self-2
 invariant_of-self-2 c = (all c.self.inside c.self.invariant c.args.self.now c.self.view_is c.args.class c.is_ready.new.words c.is_ready.new.lists
-    (subst (λ b. IsReady c.self.inside.cells c.args.class c.self.inside.words c.self.inside.lists b c.is_ready.new.words c.is_ready.new.lists) c.if-not-is_ready.false c.is_ready.ensures)
+    (subst (λ b. MakesReady c.self.inside.cells c.args.class c.self.inside.words c.self.inside.lists b c.is_ready.new.words c.is_ready.new.lists) c.if-not-is_ready.false c.is_ready.ensures)
     c.of-list.result c.of-list.ensures c.head.result c.head.ensures c.get.result.now c.get.ensures c.number-next.result c.number-next.ensures.cell c.set.new.self c.set.ensures.class c.set.ensures.others
     c.part_by.result c.part_by.new.self c.part_by.ensures.one c.part_by.ensures.rest).1
 
 pub returns : goal.returns
 returns c = (all c.self.inside c.self.invariant c.args.self.now c.self.view_is c.args.class c.is_ready.new.words c.is_ready.new.lists
-    (subst (λ b. IsReady c.self.inside.cells c.args.class c.self.inside.words c.self.inside.lists b c.is_ready.new.words c.is_ready.new.lists) c.if-not-is_ready.false c.is_ready.ensures)
+    (subst (λ b. MakesReady c.self.inside.cells c.args.class c.self.inside.words c.self.inside.lists b c.is_ready.new.words c.is_ready.new.lists) c.if-not-is_ready.false c.is_ready.ensures)
     c.of-list.result c.of-list.ensures c.head.result c.head.ensures c.get.result.now c.get.ensures c.number-next.result c.number-next.ensures.cell c.set.new.self c.set.ensures.class c.set.ensures.others
     c.part_by.result c.part_by.new.self c.part_by.ensures.one c.part_by.ensures.rest).2
