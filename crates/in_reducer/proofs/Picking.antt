@@ -13,7 +13,7 @@ picked_on {Y = Y} f place n all picked x y h at is = record {
 } where
   each : (e : ℕ) → e < n + 1 → (e < n) ⊎ (n ≤ e) → slice_get (picked ++ y ∷ []) e ≡ option_map f (slice_get all (place e))
   each e l (inl low) = let z = at_index picked e (subst (λ (k : ℕ). e < k) (sym h.count) low) in
-    kept_at picked (y ∷ []) e z.0 z.1 ∙ sym z.1 ∙ h.each e low
+      kept_at picked (y ∷ []) e z.0 z.1 ∙ sym z.1 ∙ h.each e low
   each e l (inr high) = let same : e ≡ n = omega (arith, l, high) in
-    ap (slice_get (picked ++ y ∷ [])) (same ∙ sym h.count) ∙ last_at picked y ∙ ap (λ (v : Y). Some v) is
+      ap (slice_get (picked ++ y ∷ [])) (same ∙ sym h.count) ∙ last_at picked y ∙ ap (λ (v : Y). Some v) is
       ∙ sym (ap (option_map f) (ap (λ (k : ℕ). slice_get all (place k)) same ∙ at))
