@@ -1,2 +1,2 @@
 /// The first twelve digits of the sum of the code of both programs, without comments, tests and this file. `dist/keep stamp` writes it.
-pub const SOURCES: &str = "de1359318a9e";
+pub const SOURCES: &str = "8a1c2eb89e60";
