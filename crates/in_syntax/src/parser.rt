@@ -1,6 +1,5 @@
 ghost use Rattle.in_syntax.specs.Expecting.{IsNotedOf};
 ghost use Rattle.in_syntax.specs.Programs.{HasTexts, IsParsing};
-ghost use Rattle.in_syntax.specs.Steps.{GivesSource, Notes};
 
 use crate::expecting::{Expected, expected_in};
 use crate::faults::Fault;
@@ -33,20 +32,6 @@ pub fn program(
     requires { HasTexts text.now tokens.now }
     ensures parsing { IsParsing text.now tokens.now end result }
     ensures expected { IsNotedOf text.now tokens.now result expected.new }
-{
-    program_by_steps(alloc, text, tokens, end, expected)
-}
-
-fn program_by_steps(
-    alloc: Global,
-    text: &[u8],
-    tokens: &[Token],
-    end: Place,
-    expected: &mut Expected,
-) -> Result<Source, Fault>
-    requires { HasTexts text.now tokens.now }
-    ensures gives { GivesSource text.now tokens.now end result }
-    ensures expected { Notes text.now tokens.now result expected.new }
 {
     let mut reader = Reader::new(alloc);
     *expected = expected_in(&reader.state);

@@ -1,7 +1,7 @@
 use Rattle.std.proofs.Common.{◌≡◌, take, drop}
 use Rattle.in_syntax.specs.Programs.{HasTexts, signs_of}
 use Rattle.in_syntax.specs.Steps.{run, start, SignsLead, expected_in}
-use Rattle.in_syntax.proofs.parser.program_by_steps.Given as goal
+use Rattle.in_syntax.proofs.parser.program.Given as goal
 
 abbrev pub invariant-loop-token : goal.invariant-loop-token
 invariant-loop-token l = record {
