@@ -42,14 +42,14 @@ rule_places r = (head_places r.first ++ head_places r.second) ++ flat_map equati
 abbrev pub IsRuleInOrder : SourceRule → Type 0
 IsRuleInOrder r = Rises (rule_places r)
 
--- the names and the ~ of each rule and of the net do
+-- in each rule and in the net, the names and the ~ follow one another
 pub record IsWrittenInOrder (s : Source) : Type 0 where
   pub rules : AllByRecursion IsRuleInOrder s.rules
   pub net : IsInOrder s.net
 
--- ---- all that is in a program
+-- ---- all names and ~ of a program
 
--- of these places, two that begin at one byte are one
+-- two of these places that begin at one byte are equal
 abbrev pub BeginApart : List Place → Type 0
 BeginApart ps = (p q : Place) → IsAmong p ps → IsAmong q ps → p.from ≡ q.from → p ≡ q
 

@@ -62,7 +62,7 @@ pub fn texts_begin_apart()
     ensures { TextsBeginApart }
 {}
 
-/// After the tokens of a front, one thing is expected.
+/// The tokens of a front have at most one expectation.
 pub fn one_expected()
     ensures { OneExpected }
 {}

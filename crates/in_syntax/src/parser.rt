@@ -22,7 +22,7 @@ use std::alloc::Global;
 /// The grammar is that of Lafont's language ("Interaction nets", 1990) in this project's own signs; the limits and the equations
 /// of rules are this project's own choice. Its other error is running out of memory.
 ///
-/// Where the grammar refuses a program, `expected` has what one can continue with there.
+/// If the grammar refuses a program, `expected` has the tokens with which one can continue there.
 pub fn program(
     alloc: Global,
     text: &[u8],

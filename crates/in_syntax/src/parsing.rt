@@ -35,7 +35,7 @@ pub fn parse(alloc: Global, text: &[u8]) -> Result<Source, Fault>
 }
 
 /// The tree of a program's text, or the fault for which `parse` refuses it. If the grammar refuses it, at a token or at its end, `expected` has
-/// exactly the tokens with which some program continues there, and of which sort a name is. It has `Nothing` if the text is a program, and isn't
+/// exactly the tokens with which some program continues there, and the sort of a name there. It has `Nothing` if the text is a program, and isn't
 /// changed if `tokens` refuses the text; after running out of memory it may be anything. The sorts are this project's own choice.
 pub fn parse_expecting(alloc: Global, text: &[u8], expected: &mut Expected) -> Result<Source, Fault>
     ensures tree { Parses text.now result }

@@ -19,7 +19,7 @@ pub enum PortOf {
     Free(SourceFrees, Boxed<Name>),
 }
 
-/// Which head of a rule is written.
+/// The head of a rule that is read.
 #[derive(Drop)]
 pub enum HeadOf {
     First,

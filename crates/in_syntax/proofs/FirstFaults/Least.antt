@@ -5,7 +5,7 @@ use Rattle.in_syntax.specs.declared.places.Place.{Place}
 use Rattle.in_base.specs.Lists.{AnyByRecursion}
 use Rattle.in_syntax.specs.Refusals.{earlier, earliest}
 
--- one of the earliest places at which it stands; none where it stands nowhere
+-- one of the earliest places that have P; none if no place has it
 abbrev pub IsLeast : (Place → Type 0) → Option Place → Type 0
 IsLeast P None = (q : Place) → P q → ⊥
 IsLeast P (Some p) = P p × ((q : Place) → P q → p.from ≤ q.from)

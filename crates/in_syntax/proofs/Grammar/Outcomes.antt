@@ -45,7 +45,7 @@ program_read last m n h e = (
 read_path : (m : Spelling) (last : Reader) → Path start m last → HasRead last m
 read_path m last path = has_read m [] start last read_nothing path
 
--- what leads from the start begins a program
+-- the signs of a path from the start begin a program
 begun : (front : Spelling) (last : Reader) → Path start front last → (p : GrammarProgram) × (more : Spelling) × (spelling p ≡ front ++ more)
 begun front last path =
     let c = can_end last in
@@ -56,7 +56,7 @@ done_state : (p : State) (n : SourceNet) → net_of p ≡ Some n → p ≡ state
 done_state (state.Done k) n e = let is : k ≡ n = cc in ap (λ z. state.Done z) is
 done_state p n e = cc
 
--- where the net is whole, nothing more is expected
+-- if the net is whole, nothing more is expected
 whole_state : (p : State) (r : Reader) (source : Source) (o : Option SourceNet) → net_of p ≡ o → whole r o ≡ reads source → expected_in p ≡ expected.Nothing
 whole_state p r source (Some n) e is = ap expected_in (done_state p n e)
 whole_state p r source None e is = cc

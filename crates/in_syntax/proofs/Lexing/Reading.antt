@@ -41,7 +41,7 @@ pub goes_on : (text : List ℕ) (i : ℕ) (tokens : List Token) (reader next : R
 goes_on text i tokens reader next all lt takes e =
     rw (add-one i) (sym (run_taken reader next (sign_of text (get_or tokens i no_token)) (signs_of text (drop (suc i) tokens)) takes) ∙ ap (λ z. run reader (signs_of text z)) (sym (drop-cons tokens i no_token lt)) ∙ e)
 
--- ---- what leads to a reader
+-- ---- the signs that lead to a reader
 
 lead_on : (s : List Sign) (x : Sign) (r mid next : Reader) → SignsLead r s mid → taken mid x ≡ Some next → SignsLead r (s ++ x ∷ []) next
 lead_on [] x r mid next p e = (next, ap (λ z. taken z x) p ∙ e, refl)

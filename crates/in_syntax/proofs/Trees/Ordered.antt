@@ -43,7 +43,7 @@ places_append : (a b : Spelling) → places_of (a ++ b) ≡ places_of a ++ place
 places_append [] b = refl
 places_append (m ∷ a) b = ap (λ z. sign_places m.sign ++ z) (places_append a b) ∙ sym (append_assoc (sign_places m.sign) (places_of a) (places_of b))
 
--- what closes a list has no place
+-- a sign that closes a list has no place
 places_closed : (a : Spelling) (k : TokenKind) → places_of (a ++ plain k ∷ []) ≡ places_of a
 places_closed a k = places_append a (plain k ∷ []) ∙ append-nil (places_of a)
 
@@ -51,7 +51,7 @@ places_closed a k = places_append a (plain k ∷ []) ∙ append-nil (places_of a
 both_places : (a b : Spelling) (p q : List Place) → places_of a ≡ p → places_of b ≡ q → places_of (a ++ b) ≡ p ++ q
 both_places a b p q e f = places_append a b ∙ ap (λ z. z ++ places_of b) e ∙ ap (λ z. p ++ z) f
 
--- ---- the places of what the tree spells are those that it lists
+-- ---- the places that the tree spells are those that it lists
 
 -- the signs of a term have its places
 abbrev Placed : ℕ → Type 0

@@ -23,14 +23,14 @@ loop-token-preserved c = record {
   expected = c.expected_in-in-loop-token.ensures;
 }
 
--- where the end of the tokens is refused
+-- the refusal at the end of the tokens
 refused_at_end : (text : List ℕ) (i : ℕ) (tokens : List Token) (reader : Reader) (c : Code) → length tokens ≤ i → run reader (signs_of text (drop i tokens)) ≡ run start (signs_of text tokens) →
     run reader [] ≡ refused c [] → run start (signs_of text tokens) ≡ refused c (signs_of text (drop (length tokens) tokens))
 refused_at_end text i tokens reader c past e is =
     sym e ∙ ap (λ (ts : List Token). run reader (signs_of text ts)) (drop_all i tokens past) ∙ is
     ∙ ap (λ (ts : List Token). refused c (signs_of text ts)) (sym (drop_all (length tokens) tokens (omega arith)))
 
--- what the reader makes of the end, once it has read all tokens
+-- the reader's result at the end, once it has read all tokens
 ended : (text : List ℕ) (i : ℕ) (tokens : List Token) (end : Place) (reader : Reader) (r : Result Source Fault) → length tokens ≤ i →
     run reader (signs_of text (drop i tokens)) ≡ run start (signs_of text tokens) → EndsText reader end r → GivesSource text tokens end r
 ended text i tokens end reader (Ok source) past e h = sym e ∙ ap (λ (ts : List Token). run reader (signs_of text ts)) (drop_all i tokens past) ∙ h
@@ -43,7 +43,7 @@ ended text i tokens end reader (Err (Refused f)) past e h = (
 )
 ended text i tokens end reader (Err (Memory m)) past e h = tt
 
--- and what is noted then
+-- the noted expectation at the end
 noted_at_end : (text : List ℕ) (i : ℕ) (tokens : List Token) (end : Place) (reader : Reader) (e : Expected) (r : Result Source Fault) → length tokens ≤ i →
     SignsLead start (signs_of text (take i tokens)) reader → e ≡ expected_in reader.state → run reader (signs_of text (drop i tokens)) ≡ run start (signs_of text tokens) → EndsText reader end r →
     Notes text tokens r e
