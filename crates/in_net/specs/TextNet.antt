@@ -25,13 +25,13 @@ pub data IsPartOf : Term → Term → Type 0 where
   itself : (u : Term) → IsPartOf u u
   deeper : (u v t : Term) → IsAmong v (out-Term t).args → IsPartOf u v → IsPartOf u t
 
--- a head of a rule, and the number of its first boundary end: at each of its symbol's auxiliary places there is one, from left to
+-- a head of a rule, and the number of its first boundary end: each of its symbol's auxiliary places has one, from left to
 -- right
 pub record LeftHead : Type 0 where
   pub first : ℕ
   pub head : Head
 
--- what a text joins: the free names and the equations of a net, or the heads and the equations of a rule
+-- a text's parts that join spots: the free names and the equations of a net, or the heads and the equations of a rule
 pub record Body : Type 0 where
   pub free : List SourceFree
   pub heads : List LeftHead
@@ -65,7 +65,7 @@ IsAgentOfTerm t u s = number_in (name_of u) t.names ≡ Some s
 abbrev pub IsVariable : Tables → Term → Type 0
 IsVariable t u = number_in (name_of u) t.names ≡ None
 
--- what is joined in a text: a port of the agent whose name is at a place, a free or boundary end by its number, the occurrence
+-- a spot of a text: a port of the agent whose name is at a place, a free or boundary end by its number, the occurrence
 -- of a variable or free name at a place
 pub data TextSpot : Type 0 where
   port_at : Place → ℕ → TextSpot
@@ -202,7 +202,7 @@ ComesBefore (Free k) (Port y j) = Unit {0}
 ComesBefore (Port x i) (Free l) = ⊥
 ComesBefore (Port x i) (Port y j) = (x.0 < y.0) ⊎ ((x.0 ≡ y.0) × (i < j))
 
--- each wire is listed with the point first that comes first
+-- each listed wire has the point first that comes first
 abbrev pub EndsInOrder : Parts → Type 0
 EndsInOrder m = (w : ℕ) (x y : Point) → wire_in m w ≡ Some (x, y) → ComesBefore x y
 

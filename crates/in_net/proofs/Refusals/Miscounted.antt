@@ -166,7 +166,7 @@ module _ (t : Tables) (body : Body) (r : Reading) (names : AreNamesRead t body r
       w : IsVariableAt t body r.names h.name q
       w = variable_at h.three h.name q h.inside h.stands
 
-      -- where an occurrence of the name before the third one stands
+      -- the spot of an occurrence of the name before the third one
       earlier_one : (x : Term) → Occurs t body (name_of w.term) x → IsBefore x w.term → (g : IsHeldAt r x) × (((g.spot ≡ h.one) ⊎ (g.spot ≡ h.two)))
       earlier_one x o less =
           let ox : Occurs t body (name_in h.name r.names) x = (o.0, o.1, o.2 ∙ sym w.name) in

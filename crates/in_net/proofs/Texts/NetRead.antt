@@ -29,7 +29,7 @@ use Rattle.in_net.proofs.Texts.Kept.{IsSettled, Keeps, keeps_both, keeps_itself,
 use Rattle.in_net.proofs.Texts.Terms.{IsHeldIn, IsReadOn, held_stays, reads_on, among_middle, middle}
 use Rattle.std.proofs.lemmas.Bool.{and_parts, cases_eq, cases_lt}
 
--- what is read but for some spots, which wait to be joined and are free or boundary ends: they are joined to nothing, and each other
+-- a reading in which some spots wait to be joined and are free or boundary ends: they are joined to nothing, and each other
 -- spot is joined
 pub record IsReadBut (t : Tables) (b : Body) (free count : ℕ) (waits : ℕ → Type 0) (r : Reading) : Type 0 where
   pub read : IsRead t b free count r
@@ -407,7 +407,7 @@ abbrev pub AtHeads : List LeftHead → (ℕ → Type 0) → ℕ → Type 0
 AtHeads [] rest i = rest i
 AtHeads (h ∷ hs) rest i = ((j : ℕ) × (j < length h.head.terms) × (i ≡ h.first + j)) ⊎ AtHeads hs rest i
 
--- no and_parts heads share an end, nor a head one with others
+-- no two heads share an end, and no head shares one with others
 abbrev pub AreHeadsApart : List LeftHead → (ℕ → Type 0) → Type 0
 AreHeadsApart [] rest = Unit {0}
 AreHeadsApart (h ∷ hs) rest = ((i j : ℕ) → AtHeads hs rest i → j < length h.head.terms → i ≢ h.first + j) × AreHeadsApart hs rest
@@ -556,7 +556,7 @@ begun t b r heads h = record {
     self : (i : ℕ) → i < length r.spots → nth_link (links_of r) i ≡ self_link i
     self i lt = let e : 0 + i ≡ i = omega arith in ap (λ js. nth_link (with_joints (self_links 0 (length r.spots)) js) i) h.joints ∙ nth_self 0 (length r.spots) i lt ∙ ap self_link e
 
--- ---- what is read of a body
+-- ---- the reading of a body
 
 abbrev pub ends_in : Tables → Body → ℕ
 ends_in t b = length b.free + ends_of t b.heads

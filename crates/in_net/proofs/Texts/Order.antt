@@ -152,7 +152,7 @@ roots_ends r (suc n) = roots_append r.spots (boundary_spots (length r.spots) (su
 abbrev pub body_places : Body → List Place
 body_places b = name_places_in b.heads ++ name_places b.equations
 
--- what is read of a body is in the order of its text
+-- the reading of a body is in the order of its text
 pub roots_rise : (t : Tables) (b : Body) → Rises (body_places b) → Rises (root_places (reading_of t b).spots)
 roots_rise t b order =
     let ends : Reading = with_ends (reads_free b.free) (ends_of t b.heads) in

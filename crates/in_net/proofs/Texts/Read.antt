@@ -49,7 +49,7 @@ IsNamed t b names (Free k m) = IsFreeAt b names k m
 IsNamed t b names (End k) = Unit {0}
 IsNamed t b names (Occurrence m p) = IsVariableAt t b names m p
 
--- what is read so far, with at most `count` names
+-- the reading so far, with at most `count` names
 pub record IsRead (t : Tables) (b : Body) (free count : ℕ) (r : Reading) : Type 0 where
   pub numbered : IsNumbered t free r
   pub joints : JointsInside (length r.spots) r.joints

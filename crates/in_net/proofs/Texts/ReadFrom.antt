@@ -23,7 +23,7 @@ from_each P (x ∷ xs) d h = (h 0 (omega arith), from_each P xs d (λ i lt. h (s
 abbrev pub IsFew : Tables → Body → Type 0
 IsFew t b = (ends_in t b ≤ max_free) × (names_in_body b ≤ text_limit)
 
--- what was read of a body whose numbers of arguments fit
+-- the reading of a body whose numbers of arguments fit
 module _ (t : Tables) (b : Body) (read : IsBodyRead t b (reading_of t b)) where
   abbrev r : Reading
   r = reading_of t b

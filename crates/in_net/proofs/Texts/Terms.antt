@@ -54,7 +54,7 @@ pub record IsReadOn (t : Tables) (b : Body) (free count : ℕ) (u : Term) (befor
   pub keeps : Keeps before after
   pub held : IsHeldIn t u after
 
--- what is joined of an agent that begins at a spot, before the argument at that port is read
+-- the links of an agent that begins at a spot, before the argument at that port is read
 pub record IsPast (first arity port : ℕ) (q : Reading) : Type 0 where
   pub alone : (j : ℕ) → port ≤ j → j ≤ arity → (nth_link (links_of q) (first + j)).to ≡ first + j
   pub root : (nth_link (links_of q) first).to ≡ first

@@ -158,7 +158,7 @@ module _ (t : Tables) (b : Body) (names : List (List ℕ)) (spots : List TextSpo
   self_back : (new : List Link) (i : ℕ) → (nth_link new i).to ≡ i → Back new i
   self_back new i e = ap (nth_link new) e ∙ ap (λ k. let l : Link = record { to = k; place = (nth_link new i).place } in l) e
 
-  -- where the two are joined to nothing, and what was joined to nothing else is as it was
+  -- the two are joined to nothing now, and a spot that was joined to nothing before is unchanged, apart from the two
   module _ (new : List Link) (one : (n : ℕ) (x : Place) → nth_spot spots a ≡ Occurrence n x → (nth_link new a).to ≡ a) (other : (nth_link new at).to ≡ at)
       (rest : (i : ℕ) → i < length spots → i ≢ a → i ≢ at → (nth_link links i).to ≡ i → nth_link new i ≡ nth_link links i) where
     used_by : (i n : ℕ) (x : Place) → i < length spots → nth_spot spots i ≡ Occurrence n x → IsMet (nth_seen seen2 n) → (i ≡ a) ⊎ (i ≢ a) → (i ≡ at) ⊎ (i ≢ at) → (nth_link new i).to ≡ i
@@ -348,7 +348,7 @@ module _ (t : Tables) (b : Body) (names : List (List ℕ)) (spots : List TextSpo
     way_at : IsWay t b (nth_spot spots at) (nth_spot spots q) pb
     way_at = h.way at at_in two.open_at
 
-    -- the spot that an end is joined to is an end, but for the two
+    -- the partner of an end is an end, apart from the two
     way_from : (i c : ℕ) → c < length spots → i ≡ (nth_link links c).to → IsOpen j.seen (nth_spot spots i) → IsWay t b (nth_spot spots i) (nth_spot spots c) (nth_link links c).place
     way_from i c lt e open_ =
         let there : nth_link links i ≡ record { to = c; place = (nth_link links c).place } = ap (nth_link links) e ∙ h.back c lt in

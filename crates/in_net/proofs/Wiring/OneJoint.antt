@@ -23,9 +23,9 @@ use Rattle.in_net.proofs.Wiring.Single.{IsReadWhole, one_spot, settled_of, one_p
 use Rattle.in_net.proofs.Wiring.Sound.{named}
 use Rattle.in_net.proofs.Texts.TextPlaces.{text_places, argument_of, part_place}
 
--- ---- what stands in two parts of places that rise
+-- ---- places in two parts of a list that rises
 
--- what stands in the first part is before what stands in the second one
+-- a place in the first part is before one in the second part
 rises_between : (xs ys : List Place) (p q : Place) → Rises (xs ++ ys) → IsAmong p xs → IsAmong q ys → p.from < q.from
 rises_between [] ys p q up h k = absurd h
 rises_between (x ∷ xs) ys p q up (inl e) k = subst (λ p. p.from < q.from) e (among_all (λ q. x.from < q.from) (xs ++ ys) q up.0 (among_right q xs ys k))
@@ -62,7 +62,7 @@ no_name_here f p up (inr h) same =
     let lt = among_all (λ q. f.tilde.from < q.from) (term_places f.right) p on.0 h in
     absurd (omega (arith, lt, same))
 
--- where a ~ stands, no name stands
+-- a place of a ~ isn't that of a name
 no_name : (es : List Equation) (e f : Equation) (p : Place) → Rises (flat_map equation_places es) → IsAmong e es → IsAmong f es → IsNameIn f p → e.tilde.from ≢ p.from
 no_name [] e f p up h k in_ same = absurd h
 no_name (g ∷ es) e f p up (inl a) (inl b) in_ same =
@@ -139,7 +139,7 @@ root_of (End k) (Some n) p e = cc
 root_of (Occurrence m q) None p e = let place : q ≡ p = cc in ap (λ q. q ∷ []) place
 root_of (Occurrence m q) (Some n) p e = cc
 
--- the same joint, whichever of its spots is named first
+-- the same joint, with its spots in either order
 abbrev pub AreOne : text.TextSpot → text.TextSpot → text.TextSpot → text.TextSpot → Type 0
 AreOne x y u v = ((x ≡ u) × (y ≡ v)) ⊎ ((x ≡ v) × (y ≡ u))
 

@@ -1,4 +1,4 @@
--- The end of the chain from each occurrence whose name is joined: an end of what is joined so far, or round a closed wire.
+-- The end of the chain from each occurrence whose name is joined: an end of the joints so far, or round a closed wire.
 use Rattle.std.proofs.Common.{if◌then◌else◌, ◌≡◌, ◌≢◌, ◌⊎◌, inl, inr, ℕ, ◌<◌, ◌≤◌, Bool, true, false, nat_lt, ltb-true, ltb-false, List, ◌++◌, length, Option, Some, None, refl, sym, ◌∙◌, ap, subst, arith, set}
 use Rattle.std.proofs.lemmas.List.{get_or-set_same}
 use Rattle.std.proofs.lemmas.Option.{same_Some}
@@ -25,7 +25,7 @@ use Rattle.in_net.proofs.Wiring.Ways.{nth_seen, IsMet, kind_of, IsOpen, IsWay, I
 use Rattle.in_net.proofs.Wiring.Naming as naming
 use Rattle.in_net.proofs.Wiring.Naming.{AreOfText, IsLast, IsSecond, seen_other, met_back, met_on}
 
--- a closed wire goes through the spot, and the first one that is known stands no later
+-- a closed wire goes through the spot, and the first known one is no later
 pub record IsRound (t : Tables) (b : Body) (closed : Option Place) (s : text.TextSpot) : Type 0 where
   pub places : List Place
   pub loop : Chain t b of_name placed s s places

@@ -28,7 +28,7 @@ use Rattle.in_net.proofs.Texts.NetRead.{IsBodyRead}
 use Rattle.in_net.proofs.Texts.Order.{root_place, root_places, same_root}
 use Rattle.in_net.proofs.Refusals.Counts.{other_is_one}
 
--- what was read of a body, and what makes its joints single
+-- the reading of a body, and the properties that make its joints single
 pub record IsReadWhole (t : Tables) (b : Body) (r : Reading) : Type 0 where
   pub body : IsBodyRead t b r
   pub names : AreNamesRead t b r

@@ -134,9 +134,9 @@ module _ (t : Tables) (b : Body) (free : List FreeEnd) (r : Reading) (links : Li
         comes_before t (length free) r numbered x y found.spot (nth_link links found.spot).to found.one found.other found.later;
   }
 
--- ---- what is read of a body
+-- ---- the reading of a body
 
--- what is known of a body before it is read, and of its numbers: as much is read as there is, and each name twice
+-- a body before it is read, and its numbers: as much is read as there is, and each name twice
 pub record IsGood (t : Tables) (b : Body) : Type 0 where
   pub ready : IsReady t b
   pub small : HaveFewPorts t
