@@ -18,7 +18,7 @@ pub other_side : (s : Side) → other s ≡ s → ⊥
 other_side Outer e = cc
 other_side Inner e = cc
 
--- what stays is no boundary end
+-- a place that stays is no boundary end
 not_boundary : {A B : Type 0} (p : Place A B) (e : ℕ) → Stays p → p ≡ Boundary e → ⊥
 not_boundary p e h i = subst Stays i h
 

@@ -166,7 +166,7 @@ module _ (here : Site) where
               )
         ]
 
-    -- where a wire of a new agent's port leads: to a new agent, or to where the path lands that leaves by this boundary end
+    -- the wire of a new agent's port leads to a new agent, or to the end of the path that leaves by this boundary end
     abbrev pub InnerLands : Point ℕ → Point ℕ → Type 0
     InnerLands (Port l j) v = Port (name l) j ≡ v
     InnerLands (Free e) v = (r : Point ℕ) × ((net_of n).partner (pt e) ≡ Some r) × To most_turns (coded_point r) (coded_point v)
