@@ -35,7 +35,7 @@ agent_or_class (Some m) x e = go m.node
     go (AgentNode y) = inl tt
     go (ClassNode y c) = inr tt
 
--- what is closed under the constructions, where a cut is at the principal port of an agent or at a class node
+-- a property that the constructions keep, if a cut is at the principal port of an agent or at a class node
 pub record Constructions (o : OpenNet) (B : (ℕ → Bool) → Type 0) : Type 0 where
   pub empty : (s : ℕ → Bool) → ((n : ℕ) → s n ≡ false) → B s
   pub given : (n : ℕ) (s : ℕ → Bool) → IsClass o n → ((m : ℕ) → IsIn m s ↔ (m ≡ n)) → ((i j w : ℕ) → IsWire o w (Port n i) (Port n j) → ⊥) → B s
@@ -101,7 +101,7 @@ module _ (o : OpenNet) (net : IsOpenNet o) (BuiltSet : (ℕ → Bool) → Type 0
       | inr d ↦ or_right (test (link b j)) (below b j) (below_self b j (omega arith) h)
     ]
 
-    -- components, each joined to a by one wire at most, beside a
+    -- components, each joined to a by at most one wire, beside a
     module _ (a t : ℕ → Bool) (a_in : (m : ℕ) → IsIn m a → m < length o.nodes) (apart : (m : ℕ) → IsIn m a → IsIn m t → ⊥) (inside : (m : ℕ) → IsIn m t → Without n s m) (closed : (l m : ℕ) → IsIn l t → Link l m → IsIn m t) (one : (w l i m j v l' i' m' j' : ℕ) → IsIn l a → IsIn m t → IsIn l' a → IsIn m' t → Link m m' → Wired w l i m j → Wired v l' i' m' j' → ((l ≡ l') × (i ≡ i')) × ((m ≡ m') × (j ≡ j'))) (firm : (w l i m j : ℕ) → IsIn l a → IsIn m t → Wired w l i m j → IsAgent o l → i ≡ 0) (built : BuiltSet a) (nets : (m : ℕ) → IsIn m t → BuiltSet (component o net s in_net n m)) where
       upto : ℕ → ℕ → Bool
       upto b j = a j || (t j && below b j)

@@ -379,7 +379,7 @@ module _ (o : OpenNet) (net : IsOpenNet o) where
         | inr k ↦ cc
       ]
 
-  -- a step's part is good where those that it names are
+  -- a step's part is good if those that it names are
   pub step_good : (ps : List Part) (k : ℕ) (step : Step) (xs : List Part) (x : Part) → AreEarlier ps k (named step) xs → ShareNothing xs → AllGood xs → Joins o step xs x → ((n : ℕ) → is_among n (own_nodes step) ≡ true → nodes_of xs n ≡ false) → ((n : ℕ) → x.nodes n ≡ all_nodes o step xs n) → IsClean x → Built (open_graph o) (IsAgent o) (classes_of o) x.nodes
   step_good ps k Empty [] x e s b j fresh nodes clean = empty x.nodes nodes
   step_good ps k Empty (y ∷ ys) x e s b j fresh nodes clean = absurd e

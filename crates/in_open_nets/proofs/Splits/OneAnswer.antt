@@ -50,7 +50,7 @@ above low n [] up h = absurd h
 above low n (m ∷ ns) up (inl e) = let le = up.0 in omega (arith, le, e)
 above low n (m ∷ ns) up (inr h) = let le = up.0 in let rest = above (suc m) n ns up.1 h in omega (arith, le, rest)
 
--- the first numbers are one
+-- the first numbers are equal
 one_head : (n m : ℕ) (ns ms : List ℕ) → RisesThrough (suc n) ns → RisesThrough (suc m) ms → Among n (m ∷ ms) → Among m (n ∷ ns) → n ≡ m
 one_head n m ns ms a b (inl e) k = e
 one_head n m ns ms a b (inr h) (inl e) = sym e
