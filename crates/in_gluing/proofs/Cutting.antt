@@ -148,7 +148,7 @@ module _ (w : Net ℕ) (u v : Point ℕ) (a b : ℕ) (m : Net ℕ) (back : (u v 
           inr (inr ((cut.wires x (Free b)).1 (inr (inr (inr (inl (h, refl))))), (cut.wires (Free a) y).1 (inr (inr (inl (refl, far))))))
       go (no n) (no d) = inl ((cut.wires x y).1 (inl (n, d, e)))
 
-  -- what is at the two new ends, and beside them
+  -- the partners of the two new ends, and of other points
   to_one : (x : Point ℕ) → IsNeither a b x → m.partner x ≡ Some (Free a) → x ≡ u
   to_one x n e = elim ((cut.wires x (Free a)).0 e) [
     | inl r ↦ absurd ((one_end x (Free a) r.2).0 refl)

@@ -75,7 +75,7 @@ module _ (sig : Signature) (parts : ℕ → Net ℕ) (cuts : Cuts) (nets : (i : 
         let same = apart_b r.0 q.0 r.1 q.1 hr hq (sym (rename_at r.0 r.1 hr) ∙ ap rename r.2 ∙ e ∙ ap rename (sym q.2) ∙ rename_at q.0 q.1 hq) in
         sym r.2 ∙ ap (λ j. a j r.1) same.0 ∙ ap (a q.0) same.1 ∙ q.2
 
-    -- where a point is placed under one and the other
+    -- the place of a point under one and the other
     placed_forth : (i : ℕ) (u p : Point ℕ) → Present i u → IsPlaced cuts a i u p → IsPlaced cuts b i u (renamed rename p)
     placed_forth i (Port x k) p h g = ap (renamed rename) g ∙ ap (λ y. Port y k) (rename_at i x h)
     placed_forth i (Free e) p h g = (g.0, ap (renamed rename) g.1, g.2)
