@@ -1,4 +1,4 @@
--- Parts of open nets: the wires by port, the nodes that a search reaches, and what splits a part. Sets of nodes are lists of tests, node by node.
+-- Parts of open nets: wires by port, the nodes that a search reaches, the nodes that split a part. Sets of nodes are lists of tests, node by node.
 use Rattle.std.specs.Prelude.{◌≡◌, ◌⊎◌, ◌↔◌, ℕ, ◌+◌, ◌*◌, ◌<◌, ◌≤◌, Bool, true, false, List, [], ◌∷◌, ◌++◌, length, drop, slice_set, slice_index_or, Option, Some, None, MatchOption}
 use Rattle.in_open_nets.specs.declared.open_nets.OpenPoint.{OpenPoint}
 use Rattle.in_open_nets.specs.declared.open_nets.OpenPoint.TheVariants.{Port, Free}
