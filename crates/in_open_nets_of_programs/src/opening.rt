@@ -58,7 +58,7 @@ pub(crate) fn node(alloc: Global, built: &BuiltNet, agent: AgentNo) -> Result<Op
             classes: built.symbols.classes(symbol),
             class_of: classes(alloc, built.symbols, symbol)?,
         }),
-        // In a net that is built, no number is without an agent.
+        // In a net as built, no number is without an agent.
         None => unreachable!(),
     }
 }
