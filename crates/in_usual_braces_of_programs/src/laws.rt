@@ -11,7 +11,7 @@ pub fn nets_in_usual_braces()
     usual_braces_decide();
 }
 
-/// And so is the open net of a typed rule.
+/// The open net of a typed rule is so too.
 pub fn rules_in_usual_braces()
     ensures { RulesInUsualBraces }
 {
@@ -31,7 +31,7 @@ pub fn nets_in_wide_braces()
     crossing_directed_circles_decide();
 }
 
-/// And so is the open net of a typed rule.
+/// The open net of a typed rule is so too.
 pub fn rules_in_wide_braces()
     ensures { RulesInWideBraces }
 {
