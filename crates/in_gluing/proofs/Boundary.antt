@@ -53,7 +53,7 @@ module _ (sig : Signature) (n : Net ℕ) (x : Redex ℕ ℕ) (name : ℕ → ℕ
   abbrev pub Stays : Point ℕ → Type 0
   Stays u = IsOfPair x u → ⊥
 
-  -- a point of the part on that side, and the point of the net or of a new agent that it stands for
+  -- a point of the part on that side, and its point of the net or of a new agent
   abbrev pub In : Side → Point ℕ → Point ℕ → Type 0
   In Outer p u = IsPoint sig n u × IsInRest sig x u p
   In Inner p u = IsPoint sig x.member p × (stands_for sig x name p ≡ u)

@@ -240,7 +240,7 @@ module _ {A C : Type 0} (parts : ℕ → Net A) (name : ℕ → A → C) (number
   at_two : (p : Spot) → p ≡ P2 → At p (Free (number two))
   at_two p e = subst (λ z. At z (Free (number two))) (sym e) refl
 
-  -- a wire between the two ends would come back to where the path came from
+  -- a wire between the two ends would come back to the path's start
   no_more : (u : Point C) (a b : ℕ) → m.partner u ≡ Some (Free a) → (u ≡ Free b → ⊥) → (k : ℕ) → (k ≡ a) ⊎ (k ≡ b) → m.partner (Free b) ≡ Some (Free k) → ⊥
   no_more u a b e differ k (inr h) f = m_apart (Free b) (f ∙ ap (λ k. Some (Free k)) h)
   no_more u a b e differ k (inl h) f =

@@ -58,7 +58,7 @@ pub record AreMadeFrom (t : Tables) (n : Parts) (r : RuleParts) (a b : AgentNo) 
   pub all : (e : ℕ) (q : AgentNo × AgentNo) → end ≤ e → IsMade t n r a b name e q → (k : ℕ) × (slice_get qs k ≡ Some q)
   pub rising : HaveRisingEnds t n r a b name qs
 
--- .. as they are made, the highest end first
+-- .. in the order in which they are made, the highest end first
 abbrev pub AreMadeSoFar : Tables → Parts → RuleParts → AgentNo → AgentNo → (ℕ → ℕ) → ℕ → List (AgentNo × AgentNo) → Type 0
 AreMadeSoFar t n r a b name end made = AreMadeFrom t n r a b name end (reverse made)
 

@@ -20,7 +20,7 @@ unused (Some c ∷ cs) k = suc (unused cs k)
 unused (None ∷ cs) zero = zero
 unused (None ∷ cs) (suc k) = suc (unused cs k)
 
--- the numbers are as many as they were, or as many as the last of a given number of new agents needs
+-- how many numbers there are after: as many as before, or as many as the last of a given number of new agents needs
 abbrev pub numbers_after : List (Option Cell) → ℕ → ℕ
 numbers_after cs zero = length cs
 numbers_after cs (suc k) = max (length cs) (suc (unused cs k))

@@ -58,7 +58,7 @@ abbrev pub Alternates : {P : Type 0} → (Side → P → P → Type 0) → (P �
 Alternates wire IsEnd side u [] v = wire side u v
 Alternates wire IsEnd side u (e ∷ es) v = wire side u e × IsEnd e × Alternates wire IsEnd (other side) e es v
 
--- the point of the net that a point of the right member stands for: a new agent's port, or an auxiliary port of the pair
+-- the point of the net for a point of the right member: a new agent's port, or an auxiliary port of the pair
 abbrev pub stands_for : {A B : Type 0} → Signature → Redex A B → (B → A) → Point B → Point A
 stands_for sig x name (Port k i) = Port (name k) i
 stands_for sig x name (Free e) = Port (end_agent sig x e) (end_place sig x e)

@@ -51,7 +51,7 @@ abbrev pub is_turned : Tables → ℕ → ℕ → Bool
 is_turned t c d = matching t c d && not (is_constructor t c)
 
 module _ (t : Tables) (r : SourceRule) where
-  -- the two symbols, as they are written
+  -- the two symbols, as written
   abbrev pub written_of : SymbolNo × SymbolNo
   written_of = (record { 0 = symbol_of t r.first }, record { 0 = symbol_of t r.second })
 
@@ -59,7 +59,7 @@ module _ (t : Tables) (r : SourceRule) where
   abbrev pub heads_of : SymbolNo × SymbolNo
   heads_of = cond (is_turned t (symbol_of t r.first) (symbol_of t r.second)) (written_of.1, written_of.0) written_of
 
-  -- a rule's body: its heads as they are written, and its equations. Boundary ends are numbered from 0, first those of the first of the
+  -- a rule's body: its heads as written, and its equations. Boundary ends are numbered from 0, first those of the first of the
   -- two symbols
   abbrev pub body_of_rule : Body
   body_of_rule =

@@ -1,5 +1,5 @@
--- The net that a text has. Lafont 1990 writes a net as equations between terms: a term stands for a point, an agent's for its
--- principal port, and two occurrences of one variable for one wire. The place of a wire in the text is this project's own choice.
+-- The net that a text has. Lafont 1990 writes a net as equations between terms: a term is a point, an agent's term its
+-- principal port, and two occurrences of one variable are one wire. The place of a wire in the text is this project's own choice.
 use Rattle.std.specs.Prelude.{◌≡◌, ◌≢◌, ◌⊎◌, ℕ, suc, ◌+◌, ◌≤◌, true, List, [], ◌∷◌, ◌++◌, length, map, Option, Some, None, IsSome, slice_get, slice_index_or, ◌<◌}
 use Rattle.std.specs.List.{AllByRecursion, flat_map}
 use Rattle.in_base.specs.Lists.{IsAmong}
@@ -37,7 +37,7 @@ pub record Body : Type 0 where
   pub heads : List LeftHead
   pub equations : List Equation
 
--- the heads of a rule as they are written, whose first boundary ends have these numbers
+-- the heads of a rule as written, whose first boundary ends have these numbers
 abbrev pub heads_at : SourceRule → ℕ → ℕ → List LeftHead
 heads_at r first second = record { first = first; head = r.first } ∷ record { first = second; head = r.second } ∷ []
 
@@ -76,7 +76,7 @@ abbrev pub spot_by : Option ℕ → Place → TextSpot
 spot_by None place = occurrence place
 spot_by (Some s) place = port_at place 0
 
--- the spot that a term stands for: an agent's principal port, or the occurrence
+-- the spot of a term: an agent's principal port, or the occurrence
 abbrev pub spot_of : Tables → Term → TextSpot
 spot_of t u = spot_by (number_in (name_of u) t.names) (place_of u)
 

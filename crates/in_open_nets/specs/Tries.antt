@@ -50,7 +50,7 @@ module _ (o : OpenNet) (part : List Bool) (n : ℕ) (labels : Labels) where
   abbrev pub AreLabelled : ℕ → ℕ → ℕ → Type 0
   AreLabelled c l b = (i w m j : ℕ) → i < b → IsWire o w (Port l i) (Port m j) → IsIn m (nodes_in part) → m ≢ n → HasLabel labels c m
 
-  -- the label of a node of the part is that of its neighbours; and so it is for each node
+  -- the label of a node of the part is that of its neighbours; and this holds of each node
   abbrev pub LabelSpreads : ℕ → Type 0
   LabelSpreads l = (c : ℕ) → IsIn l (nodes_in part) → HasLabel labels c l → AreLabelled c l (ports_of o l)
 

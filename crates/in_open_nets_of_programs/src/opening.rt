@@ -27,7 +27,7 @@ fn classes(alloc: Global, symbols: &Symbols, symbol: SymbolNo) -> Result<Items<u
     Ok(classes)
 }
 
-/// A net or a right member as it was built, with the tables of its symbols.
+/// A net or a right member as built, with the tables of its symbols.
 #[derive(Drop)]
 pub(crate) struct BuiltNet<'a> {
     pub(crate) symbols: &'a Symbols,

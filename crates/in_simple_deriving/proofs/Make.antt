@@ -536,7 +536,7 @@ module _ (o : OpenNet) (net : IsOpenNet o) where
           let e : 1 + c ≡ suc c = omega arith in
           (c, omega arith, y.0, y.1, subst (λ z. ClassTop z y.0) e (at c y.0 y.1))
 
-      -- the ends of all classes' nets for q, where only class c has any
+      -- the ends of all classes' nets for q, if only class c has any
       sum_class : (w : ℕ) (p q : OpenPoint) → IsWire o w p q → (c : ℕ) → 0 < c → c ≤ classes_of o n → ((d : ℕ) → 0 < d → d ≢ c → leads_out (of_class d) p q + if_in (hanging d (length o.wires)) w ≡ 0) → ends_of tops q ≡ leads_out (of_class c) p q + if_in (hanging c (length o.wires)) w
       sum_class w p q h c l m f =
           let y = top c l m in

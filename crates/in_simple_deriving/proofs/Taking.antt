@@ -366,7 +366,7 @@ module _ (o : OpenNet) (net : IsOpenNet o) (n : ℕ) where
 
   -- ---- whole nodes
 
-  -- the principal port's class is 0, where there are ports or none
+  -- the principal port's class is 0, even if there are no ports
   pub principal_zero : IsAgent o n → class_in o n 0 ≡ 0
   principal_zero agent = elim (at_most 1 (ports_of o n)) [ inl some ↦ (net.principal n 0 agent (at_ports 0 (slice_get o.nodes n) (omega (arith, some)))).1 refl | inr none ↦ no_ports (slice_get o.nodes n) (let few = none in omega (arith, few)) ]
     where

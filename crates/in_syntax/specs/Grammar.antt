@@ -73,7 +73,7 @@ abbrev pub separated : List Spelling → Spelling
 separated [] = []
 separated (a ∷ more) = a ++ flat_map (λ b. plain kind.Comma ∷ b) more
 
--- each spelled with its number, where the first one's is given
+-- each spelled with its number, if the first one's is given
 abbrev pub numbered : {A : Type 0} → (ℕ → A → Spelling) → ℕ → List A → List Spelling
 numbered spell number [] = []
 numbered spell number (x ∷ more) = spell number x ∷ numbered spell (number + 1) more
@@ -105,7 +105,7 @@ spell_symbol number s =
 abbrev pub spell_type : ℕ → Name → Spelling
 spell_type number n = marked (nat_lt max_types number) (Named n) ∷ []
 
--- "type" name ("," name)* ";", where the first name's number is given
+-- "type" name ("," name)* ";", if the first name's number is given
 abbrev pub spell_types : ℕ → List Name → Spelling
 spell_types number names = plain kind.Type ∷ separated (numbered spell_type number names) ++ plain kind.Semicolon ∷ []
 
@@ -146,7 +146,7 @@ is_with n = bytes_eq n.text with_word
 abbrev pub word_at : Place → Name
 word_at p = record { text = with_word; place = p }
 
--- [ "with" "{" (term "~" term ";")* "}" ]: the place of the word is given, where it is written
+-- [ "with" "{" (term "~" term ";")* "}" ]: the place of the word is given, if it is written
 abbrev pub spell_with : Option Place → List Equation → Spelling
 spell_with None es = []
 spell_with (Some p) es = named (word_at p) ∷ plain kind.OpenBrace ∷ (flat_map spell_equation es ++ plain kind.CloseBrace ∷ [])

@@ -26,7 +26,7 @@ term_places = fold-Term (List Place) (λ f. f.name.place ∷ flat_map (λ ps. ps
 abbrev pub equation_places : Equation → List Place
 equation_places e = term_places e.left ++ e.tilde ∷ term_places e.right
 
--- the names and the ~ of a net follow one another, as they are listed
+-- the names and the ~ of a net follow one another, in the order of the list
 abbrev pub IsInOrder : SourceNet → Type 0
 IsInOrder n = Rises (flat_map equation_places n.equations)
 
@@ -38,7 +38,7 @@ head_places h = h.name.place ∷ flat_map term_places h.terms
 abbrev pub rule_places : SourceRule → List Place
 rule_places r = (head_places r.first ++ head_places r.second) ++ flat_map equation_places r.equations
 
--- they follow one another, as they are listed
+-- they follow one another, in the order of the list
 abbrev pub IsRuleInOrder : SourceRule → Type 0
 IsRuleInOrder r = Rises (rule_places r)
 

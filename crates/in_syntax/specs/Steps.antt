@@ -264,7 +264,7 @@ move_of (adds_symbol s) = move.Symbol s
 move_of (adds_rule r) = move.Rule r
 move_of stuck = move.Refuses E02
 
--- the move of the code's event, where this state was written
+-- the move of the code's event, if this state was written
 abbrev pub led : Event → State → Move
 led event.Goes s = move.Goes s
 led (event.Types names) s = move.Types names

@@ -1,4 +1,4 @@
--- What readers and writers say of themselves, what one read or write moves, and when it has failed. This project's own choice.
+-- The views of readers and writers, the effect of one read or write, and when it has failed. This project's own choice.
 use Rattle.std.specs.Prelude.{◌≡◌, ℕ, zero, ◌+◌, ◌-◌, ◌^◌, min, Bool, true, false, List, ◌∷◌, take, Option, Result, Ok, Err}
 use Rattle.std.specs.Io.KnownBytes.{append_known}
 

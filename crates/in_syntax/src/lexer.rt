@@ -25,7 +25,7 @@ pub enum Move<'a> {
     End,
     /// A token, or a blank or a comment; where it ends, and the text from there on.
     Past(Option<Token>, Spot, &'a str),
-    /// A fault, and where it is.
+    /// A fault, and its place.
     Wrong(Code, Spot),
 }
 

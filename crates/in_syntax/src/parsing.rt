@@ -15,7 +15,7 @@ use std::alloc::Global;
 ///
 /// Returns the first fault, the faults of the tokens before those of the grammar:
 /// - those of `tokens`, with their places;
-/// - E02, at the first token that no program continues with, or at the end of the text where a program only begins so;
+/// - E02, at the first token that no program continues with, or at the end of the text if a program only begins so;
 /// - E03, at the name of type `MAX_TYPES` + 1 or of symbol `MAX_SYMBOLS` + 1, at the word `rule` of rule `MAX_RULES` + 1,
 ///   at the type's name of a symbol's auxiliary port `MAX_PORTS` + 1, counted over all its classes, at free name
 ///   `MAX_FREE_NAMES` + 1, or at the first name of a term at depth `MAX_DEPTH` + 1. A term of an equation or of a head

@@ -15,7 +15,7 @@ pub struct Place {
 }
 
 impl Place {
-    /// The earlier of two places; the first, where both begin at one byte.
+    /// The earlier of two places; the first, if both begin at one byte.
     pub fn earlier(first: Option<Place>, second: Option<Place>) -> Option<Place>
         ensures { result ≡ earlier first second }
     {

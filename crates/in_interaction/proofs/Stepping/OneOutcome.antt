@@ -1,4 +1,4 @@
--- The net after an interaction is one, and so are the lists of active pairs and of those that it makes.
+-- The net after an interaction is determined, and so are the lists of active pairs and of those that it makes.
 use Rattle.std.proofs.Common.{◌≡◌, inl, inr, ◌<◌, ℕ, zero, suc, Bool, Option, Some, None, List, [], ◌∷◌, map, length, slice_get, refl, sym, ap, subst, ◌∙◌, arith}
 use Rattle.std.specs.Prelude.{option_map, option_and_then}
 use Rattle.std.proofs.lemmas.Option.{same_Some}

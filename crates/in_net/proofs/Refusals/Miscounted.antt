@@ -348,7 +348,7 @@ module _ (t : Tables) (body : Body) (r : Reading) (names : AreNamesRead t body r
   pub names_least : IsLeast (IsMiscountedAt t body) (miscounted (length r.names) r.spots body.free)
   names_least = least_same Miscounts (IsMiscountedAt t body) (miscounted (length r.names) r.spots body.free) to_text of_text (miscounted_least r.spots (length r.names) body.free inside)
 
-  -- ---- where none is miscounted, each name occurs twice
+  -- ---- if no name is miscounted, each name occurs twice
 
   lonely_none : miscounted (length r.names) r.spots body.free ≡ None → (q : Place) → Miscounts q → ⊥
   lonely_none none q h = (subst (IsLeast Miscounts) none (miscounted_least r.spots (length r.names) body.free inside)) q h

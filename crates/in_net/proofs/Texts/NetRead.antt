@@ -56,7 +56,7 @@ pub record IsEquationHeld (t : Tables) (e : Equation) (r : Reading) : Type 0 whe
 equation_stays : (t : Tables) (e : Equation) (r q : Reading) → Keeps r q → IsEquationHeld t e r → IsEquationHeld t e q
 equation_stays t e r q keeps h = record { joint = keeps.settled _ _ _ h.joint; left = held_stays t e.left r q keeps h.left; right = held_stays t e.right r q keeps h.right }
 
--- what reading an equation does
+-- the reading after an equation
 pub record IsEquationRead (t : Tables) (b : Body) (free count : ℕ) (waits : ℕ → Type 0) (e : Equation) (before after : Reading) : Type 0 where
   pub net : IsReadBut t b free count waits after
   pub keeps : Keeps before after
@@ -157,7 +157,7 @@ equation_read t b free count waits small e r among fits_left fits_right known ne
         beyond (inl g) = g
         beyond (inr g) = absurd (y (omega (arith, g, b_, w2)))
 
--- what reading equations does
+-- the reading after equations
 pub record AreEquationsRead (t : Tables) (b : Body) (free count : ℕ) (waits : ℕ → Type 0) (es : List Equation) (before after : Reading) : Type 0 where
   pub net : IsReadBut t b free count waits after
   pub keeps : Keeps before after
@@ -188,7 +188,7 @@ equations_read t b free count waits small (e ∷ es) r among fits known net =
 
 -- ---- the terms of a head
 
--- what reading a head's term and its joint does
+-- the reading after a head's term and its joint
 pub record IsPlaceRead (t : Tables) (b : Body) (free count : ℕ) (waits : ℕ → Type 0) (at : ℕ) (v : Term) (before after : Reading) : Type 0 where
   pub net : IsReadBut t b free count waits after
   pub keeps : Keeps before after
@@ -303,7 +303,7 @@ module _ (t : Tables) (b : Body) (free count : ℕ) (waits then_ : ℕ → Type 
         held = held_stays t v r1 r2 keeps_one on.held;
       }
 
--- what reading the terms of a head does, from one place on
+-- the reading after the terms of a head, from one place on
 pub record ArePlacesRead (t : Tables) (b : Body) (free count : ℕ) (waits : ℕ → Type 0) (first port : ℕ) (vs : List Term) (before after : Reading) : Type 0 where
   pub net : IsReadBut t b free count waits after
   pub keeps : Keeps before after

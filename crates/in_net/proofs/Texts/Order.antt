@@ -96,7 +96,7 @@ free_roots : (k : ℕ) (fs : List SourceFree) (r : Reading) → root_places (rea
 free_roots k [] r = refl
 free_roots k (f ∷ fs) r = free_roots (k + 1) fs (reads_free_end k f r) ∙ roots_append r.spots (Free k (number_with r.names f.name.text) ∷ []) ∙ append-nil (root_places r.spots)
 
--- ---- what rises still rises without some of it
+-- ---- places that rise still rise without some of them
 
 without_middle : (xs ys : List Place) (y : Place) → Rises (xs ++ y ∷ ys) → Rises (xs ++ ys)
 without_middle [] ys y h = h.1
@@ -148,7 +148,7 @@ roots_ends : (r : Reading) (n : ℕ) → root_places (with_ends r n).spots ≡ r
 roots_ends r zero = refl
 roots_ends r (suc n) = roots_append r.spots (boundary_spots (length r.spots) (suc n)) ∙ ap (λ z. root_places r.spots ++ z) (ends_rootless (length r.spots) (suc n)) ∙ append-nil (root_places r.spots)
 
--- the places of all names of a body but those of heads
+-- the places of all names of a body except those of heads
 abbrev pub body_places : Body → List Place
 body_places b = name_places_in b.heads ++ name_places b.equations
 

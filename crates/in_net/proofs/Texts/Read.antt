@@ -340,7 +340,7 @@ more_names t b free names most r le read = record {
 
 -- ---- a free or boundary end
 
--- where only ends are read so far, the next one is added
+-- if only ends are read so far, the next one is added
 module _ (t : Tables) (b : Body) (k : ℕ) (r : Reading) (count : length r.spots ≡ k) (no_agents : r.agents ≡ []) (no_joints : r.joints ≡ []) (read : IsRead t b k 0 r)
     (s : TextSpot) (is_end : IsEnd s k) (names : List (List ℕ)) (all : AllByRecursion (IsNamed t b names) r.spots) (named_end : IsNamed t b names s) where
   abbrev and_end : Reading

@@ -15,7 +15,7 @@ use Rattle.in_net.proofs.Wiring.Links.{all_at}
 use Rattle.in_net.proofs.Texts.NetRead.{IsBodyRead, ends_in, names_in_body}
 use Rattle.in_syntax.specs.Tokens.{text_limit}
 
--- what holds of each element, one by one
+-- a property of each element, one by one
 pub from_each : {X : Type 0} (P : X → Type 0) (xs : List X) (d : X) → ((i : ℕ) → i < length xs → P (get_or xs i d)) → AllByRecursion P xs
 from_each P [] d h = tt
 from_each P (x ∷ xs) d h = (h 0 (omega arith), from_each P xs d (λ i lt. h (suc i) (omega (arith, lt))))

@@ -34,7 +34,7 @@ pub record AreOfText (t : Tables) (b : Body) (names : List (List ℕ)) (spots : 
 pub seen_other : (seen : List Seen) (m n : ℕ) (x : Seen) → n ≢ m → nth_seen (set seen m x) n ≡ nth_seen seen n
 seen_other seen m n x differ = get_or-set_other seen m n x Never differ
 
--- a spot of another name is an end as it was
+-- a spot of another name is an end as before
 open_back : (seen : List Seen) (m : ℕ) (x : Seen) (s : TextSpot) → counting.name_of s ≢ Some m → IsOpen (set seen m x) s → IsOpen seen s
 open_back seen m x (Port a i p) other h = tt
 open_back seen m x (End k) other h = tt
@@ -51,7 +51,7 @@ earlier_is (Some q) (Some r) p e = by_test (nat_lt r.from q.from) e
     by_test true e = inr e
     by_test false e = inl e
 
--- what holds of both holds of the earlier
+-- a property of both places is one of the earlier
 earlier_by : {P : Place → Type 0} (c d : Option Place) → ((x : Place) → c ≡ Some x → P x) → ((x : Place) → d ≡ Some x → P x) → (x : Place) → earlier c d ≡ Some x → P x
 earlier_by c d one other x e = elim (earlier_is c d x e) [ inl f ↦ one x f | inr f ↦ other x f ]
 
@@ -183,7 +183,7 @@ module _ (t : Tables) (b : Body) (names : List (List ℕ)) (spots : List TextSpo
     abbrev pub after_closed : Joining
     after_closed = record { links = new; seen = seen2; closed = earlier j.closed closed }
 
-    -- where it is closed, the first spot is an occurrence too
+    -- if it is closed, the first spot is an occurrence too
     pub first_occurs : (x : Place) × (nth_spot spots a ≡ Occurrence m x)
     first_occurs = by_spot (spot_named (nth_spot spots a) m two.first.1)
       where
@@ -276,7 +276,7 @@ module _ (t : Tables) (b : Body) (names : List (List ℕ)) (spots : List TextSpo
         go (inr e) (inr f) (inr g) (inl k) = is_a k (λ x. f (k ∙ x))
         go (inr e) (inr f) (inr g) (inr k) = is_else k g f e
 
-    -- what another spot is joined to is another one
+    -- the partner of another spot is another one
     to_else : (i : ℕ) → i < length spots → i ≢ a → i ≢ at → i ≢ p → i ≢ q → ((nth_link links i).to ≢ a) × ((nth_link links i).to ≢ at) × ((nth_link links i).to ≢ p) × ((nth_link links i).to ≢ q)
     to_else i lt x y z w = (
       (λ e. z (sym (to_of i lt) ∙ ap (λ k. (nth_link links k).to) e)),
@@ -417,7 +417,7 @@ module _ (t : Tables) (b : Body) (names : List (List ℕ)) (spots : List TextSpo
       by_outcome (inl x) = closed_on (merged links a at).0 (merged links a at).1 (length-merged links a at ∙ h.size) x
       by_outcome (inr x) = opened_on (merged links a at).0 (merged links a at).1 (length-merged links a at ∙ h.size) x
 
--- a name's state that is put in the place of another, where it is met as that is
+-- a name's state that replaces another, if both are met or neither is
 module _ (seen : List Seen) (m : ℕ) (x : Seen) (there : nth_seen (set seen m x) m ≡ x) (same : IsMet x → IsMet (nth_seen seen m)) (still : IsMet (nth_seen seen m) → IsMet x) where
   pub met_back : (n : ℕ) → IsMet (nth_seen (set seen m x) n) → IsMet (nth_seen seen n)
   met_back n = by_name (cases_eq n m)

@@ -127,7 +127,7 @@ met_or_not (Once a) = inr (λ x. x)
 met_or_not Twice = inl tt
 met_or_not Often = inl tt
 
--- what an end is joined to is an end
+-- the partner of an end is an end
 linked_open : (t : Tables) (b : Body) (spots : List TextSpot) (count at : ℕ) (j : Joining) → IsJoiningAt t b spots count at j → (i : ℕ) → i < length spots → IsOpen j.seen (nth_spot spots i) → IsOpen j.seen (nth_spot spots (nth_link j.links i).to)
 linked_open t b spots count at j h i lt open_ = by_spot (nth_spot spots k) refl
   where
@@ -175,7 +175,7 @@ module _ (t : Tables) (b : Body) (names : List (List ℕ)) (spots : List TextSpo
   still_open : (i : ℕ) → i < length spots → i ≢ a → i ≢ at → IsOpen j.seen (nth_spot spots i) → IsOpen seen2 (nth_spot spots i)
   still_open i lt x y open_ = open_on j.seen m Twice (nth_spot spots i) (two.is_one_of i lt x y) open_
 
-  -- where chains lead on from the two, if they reached them or begin there
+  -- the ends of chains from the two, if they reached them or begin there
   module _ (closed : Option Place) where
     abbrev Out2 : text.TextSpot → Type 0
     Out2 s = IsOut t b spots seen2 (earlier j.closed closed) s

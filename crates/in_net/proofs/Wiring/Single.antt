@@ -45,7 +45,7 @@ module _ (t : Tables) (b : Body) (r : Reading) (h : IsReadWhole t b r) where
   rising : (i j : ℕ) (p : Place) → i < length r.spots → j < length r.spots → root_place (nth_spot r.spots i) ≡ p ∷ [] → root_place (nth_spot r.spots j) ≡ p ∷ [] → i ≡ j
   rising i j p = same_root r.spots i j p h.rises
 
-  -- agents of one place are one
+  -- agents of one place are equal
   first_of : (k a i : ℕ) (p : Place) → k < length r.spots → nth_spot r.spots k ≡ Port a i p → ((nth_agent r.agents a).first < length r.spots) × (root_place (nth_spot r.spots (nth_agent r.agents a).first) ≡ p ∷ [])
   first_of k a i p lt is =
       let port = h.body.net.read.numbered.port k a i p lt is in
@@ -285,7 +285,7 @@ module _ (t : Tables) (b : Body) (r : Reading) (h : IsReadWhole t b r) where
   first_kind _ _ (text.free_end k) _ _ no_ (Chain.then_name l _ o y q ps joint occurs rest) = kind_bound k (placed_bound k o q joint)
   first_kind _ _ (text.free_end k) _ _ no_ (Chain.then_placed l _ o y ps joint occurs rest) = kind_free k (named_free k o joint)
 
-  -- two chains that begin alike and can't be longer are one
+  -- two chains that begin alike and can't be longer are equal
   pub one_chain : (k l m : Kind) (x y z : text.TextSpot) (ps qs : List Place) → (IsOccurrence y → ⊥) → (IsOccurrence z → ⊥) → Chain t b k l x y ps → Chain t b k m x z qs → (y ≡ z) × (ps ≡ qs)
   one_chain _ _ _ x _ _ _ _ no_y no_z (Chain.one_placed _ y p j) (Chain.one_placed _ z q g) = let same = one_placed_joint x y z p q j g in (same.0, ap (λ p. p ∷ []) same.1)
   one_chain _ _ _ x _ _ _ _ no_y no_z (Chain.one_placed _ y p j) (Chain.then_name m _ o z q qs g occurs rest) = absurd (no_y (subst IsOccurrence (sym (one_placed_joint x y o p q j g).0) occurs))

@@ -1,4 +1,4 @@
--- What two spots of a reading are joined by is a joint of the text.
+-- Two spots that a reading joins have a joint in the text.
 use Rattle.std.proofs.Common.{◌≡◌, ◌≢◌, ◌⊎◌, inl, inr, ℕ, ◌+◌, ◌<◌, ◌≤◌, List, ◌++◌, length, length-append, sym, ◌∙◌, ap, subst, arith}
 use Rattle.std.proofs.lemmas.Bool.{cases_eq}
 use Rattle.in_syntax.specs.declared.places.Place.{Place}

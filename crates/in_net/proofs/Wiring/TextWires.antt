@@ -58,7 +58,7 @@ module _ (t : Tables) (b : Body) (free : List FreeEnd) (r : Reading) (links : Li
   abbrev net : Parts
   net = as_built (cells_of t r.spots links r.agents) free wires (map (λ a. a.place) r.agents)
 
-  -- the spot of the text that a point is
+  -- the spot of the text for a point
   named_point : (p : Point) (k : ℕ) → Stands r.spots p k → named (nth_spot r.spots k) ≡ spot_at net p
   named_point p k h = subst (λ p. named (nth_spot r.spots k) ≡ spot_at net p) h.is (by_spot (nth_spot r.spots k) refl h.point)
     where

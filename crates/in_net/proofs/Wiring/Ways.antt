@@ -85,7 +85,7 @@ free_joint t b names j m q h k =
     subst (λ y. NameJoint t b (text.free_end j) (text.occurrence y)) k.place (NameJoint.of_free j h.end k.term h.declared k.there k.variable (sym k.name ∙ h.name))
 
 module _ (t : Tables) (b : Body) (s u x y : TextSpot) (m : ℕ) (q : Place) (pa pb : Place) (y_is : y ≡ Occurrence m q) where
-  -- x and y are the spots of the name, s and u what they lead to
+  -- x and y are the spots of the name, s and u their partners
   pub on_through : (p : Place) → x ≡ Occurrence m p → NameJoint t b (named x) (named y) → IsWay t b s x pa → IsWay t b y u pb → IsWay t b s u (later_of pa pb)
   on_through p x_is joint before after =
       let before_chain : Chain t b (kind_of s) placed (named s) (text.occurrence p) before.places = subst (λ z. Chain t b (kind_of s) (kind_of z) (named s) (named z) before.places) x_is before.chain in

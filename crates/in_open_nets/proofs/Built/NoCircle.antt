@@ -137,7 +137,7 @@ module _ (g : Graph) (same : Discrete g.Node) (E L : g.Node × ℕ → Type 0) (
       go (no e) (inr f) net =
           net (r.others c.first.node h.0 (λ i. e (sym i))) (r.most c.first.node h.0 (λ i. e (sym i))) (avoid n s part (classes n) r c.first c.rest (entered c.first) c.closed h (e, f))
 
--- the nodes of a walk and the one where it ends are where each wire ends
+-- if each wire ends in s, the nodes of a walk and its end are in s
 leads_in : (g : Graph) (s : g.Node → Bool) → ((u v : g.Node × ℕ) → g.Wire u v → IsIn v.0 s) → (from to : g.Node × ℕ) (ps : List (Passage g.Node)) → LeadsThrough g from ps to → AllByRecursion (λ q. IsIn q.node s) ps × IsIn to.0 s
 leads_in g s all from to [] w = (tt, all from to w)
 leads_in g s all from to (p ∷ ps) w =

@@ -4,7 +4,7 @@ use Rattle.std.proofs.Math.ListN.{set}
 use Rattle.std.proofs.lemmas.List.{get_or-set_same, get_or-set_other}
 use Rattle.in_open_nets.specs.Members.{nodes_in}
 
--- the sets are united below k, and as they were from there on
+-- the sets are united below k, and unchanged from there on
 pub record IsUnitedTo (more old new : List Bool) (k : ℕ) : Type 0 where
   pub size : length new ≡ length old
   pub below : (n : ℕ) → n < k → nodes_in new n ≡ (nodes_in more n || nodes_in old n)

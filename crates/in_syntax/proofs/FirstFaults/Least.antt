@@ -76,7 +76,7 @@ least_of_all f P each xs =
     (λ q h. right (AnyByRecursion (λ x. P x q) xs) h) (λ q h. inr h)
     (least_earliest f P each (λ q. ⊥) None (λ q h. h) xs)
 
--- where none is earliest, there was none
+-- if the earlier of two places is none, both are none
 pub earlier_none : (a b : Option Place) → earlier a b ≡ None → (a ≡ None) × (b ≡ None)
 earlier_none None b e = (refl, e)
 earlier_none (Some p) None e = cc

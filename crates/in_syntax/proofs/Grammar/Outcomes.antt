@@ -29,7 +29,7 @@ pub signs_unmarked : (s : List Sign) → signs (unmarked s) ≡ s
 signs_unmarked [] = refl
 signs_unmarked (x ∷ s) = ap (λ z. x ∷ z) (signs_unmarked s)
 
--- the program that was read where the net is whole
+-- the program that was read, if the net is whole
 abbrev Reads : Reader → Spelling → SourceNet → Type 0
 Reads last m n = (p : GrammarProgram) × (spelling p ≡ m) × (source_of p ≡ record { types = last.types; symbols = last.symbols; rules = last.rules; net = n })
 

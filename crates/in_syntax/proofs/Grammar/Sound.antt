@@ -83,7 +83,7 @@ net_front n = frees_front n.free ++ plain kind.CloseParenthesis ∷ plain kind.O
 abbrev pub heads_front : Counts → Head → Head → Spelling
 heads_front c f h = marked (nat_lt max_rules (c.rules + 1)) (Plain kind.Rule) ∷ (spell_head f ++ plain kind.Meets ∷ spell_head h)
 
--- up to where the next equation begins
+-- up to the beginning of the next equation
 abbrev pub body_front : Counts → EquationsOf → Spelling
 body_front c (body.Net n) = net_front n
 body_front c (body.Rule y p) = heads_front c y.first y.second ++ named (word_at p) ∷ plain kind.OpenBrace ∷ flat_map spell_equation y.equations

@@ -131,7 +131,7 @@ front_rising a b up = front_rises (places_of a) (places_of b) (subst Rises (plac
 back_rising : (a b : Spelling) → Rising (a ++ b) → Rising b
 back_rising a b up = back_rises (places_of a) (places_of b) (subst Rises (places_append a b) up)
 
--- a rule's names and ~ rise, where its signs do: the word `with` is between them
+-- a rule's names and ~ rise, if its signs do: the word `with` is between them
 with_rising : (ps : List Place) (w : Option Place) (es : List Equation) → StandAfterWord w es → Rises (ps ++ places_of (spell_with w es)) → Rises (ps ++ flat_map equation_places es)
 with_rising ps None es none up = subst (λ z. Rises (ps ++ flat_map equation_places z)) (sym none) up
 with_rising ps (Some p) es some up = without ps (subst (λ z. Rises (ps ++ p ∷ z)) (places_closed (flat_map spell_equation es) kind.CloseBrace ∙ equations_placed es) up)
