@@ -31,7 +31,7 @@ module _ (m : Net ℕ) (ends : List (ℕ × ℕ)) where
   there : (a : Pair) (i : ℕ) (q r : Point ℕ) → (part a i).partner q ≡ Some r → IsThere (part a i) q × IsThere (part a i) r
   there a i q r e = ((a.wired i).there q r e, (a.wired i).there r q ((a.wired i).back.0 q r e))
 
-  -- a part of the one pair over against that of the other
+  -- a part of one pair compared with that of the other pair
   module _ (a b : Pair) (same : (y : ℕ) → a.one.symbol y ≡ b.one.symbol y) where
     -- an agent of the second part has there another number
     abbrev Carried : ℕ → Type 0
@@ -170,7 +170,7 @@ module _ (one two : Net ℕ) (ends : List (ℕ × ℕ)) (wired_one : IsWiredWith
     name_by y None e = y
     name_by y (Some s) e = let r = (a.stand.beside.agents y s).0 e in named b r.0 r.1
 
-    -- the name in the other of an agent of the one
+    -- the name in the other net of an agent of this net
     abbrev renaming : ℕ → ℕ
     renaming y = name_by y (a.n.symbol y) refl
 

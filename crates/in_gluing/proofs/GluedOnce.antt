@@ -1,4 +1,4 @@
--- The nets glued from the same parts are one up to names.
+-- The nets glued from the same parts are equal up to names.
 use Rattle.std.proofs.Common.{◌≡◌, ℕ, Option, Some, None, IsSome, List, [], ◌∷◌, map, refl, sym, subst, ap, ◌∙◌}
 use Rattle.in_net.specs.Interactions.{Side, Outer, Inner, other, Alternates}
 use Rattle.in_net.specs.Nets.{Point, Port, Free, Signature, Net, IsPoint, IsNet}

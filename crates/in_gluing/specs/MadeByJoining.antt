@@ -13,7 +13,7 @@ use Rattle.in_interaction.specs.Made.{AtAgents, IsLowestEnd, HasSymbolAfter, IsM
 use Rattle.in_gluing.specs.AsGluing.{CanStep, ends_from}
 use Rattle.in_gluing.specs.EndByEnd.{HasJoined, outer_end, inner_end}
 
--- the first point is the partner of the outer side of this boundary end, and the second point that of its inner side, or the other way round
+-- one point is the partner of one side of this boundary end, and the other point that of the other side
 abbrev pub AreAtSides : Net ℕ → Redex ℕ ℕ → ℕ → Net ℕ → Point ℕ → Point ℕ → Type 0
 AreAtSides n x e m u v = ((m.partner (Free (outer_end n x e)) ≡ Some u) × (m.partner (Free (inner_end n x e)) ≡ Some v))
     ⊎ ((m.partner (Free (inner_end n x e)) ≡ Some u) × (m.partner (Free (outer_end n x e)) ≡ Some v))

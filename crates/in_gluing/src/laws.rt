@@ -44,7 +44,7 @@ pub fn names_exist()
     ensures { NamesExist }
 {}
 
-/// Under names that keep a net's agents apart there is a net.
+/// Under names that keep a net's agents apart, the net has a renamed net.
 pub fn renamed_exists()
     ensures { RenamedExists }
 {}

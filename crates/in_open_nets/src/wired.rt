@@ -24,7 +24,7 @@ pub(crate) enum Target {
     ToFree,
 }
 
-/// The wire at a port and its other point, if there is one, in twelve bytes: a search reads one for each port that it comes by.
+/// The wire at a port and its other point, if there is one, in twelve bytes: a search reads one for each port that it visits.
 #[derive(Drop)]
 pub(crate) struct Slot {
     wire: u32,

@@ -7,7 +7,7 @@ ghost use Rattle.in_order.specs.Ends.{ProgramsHaveOneEnd};
 ghost use Rattle.in_order.specs.Laws.{InteractionsMeet, RunsAreJoined, RunsEndAlike, RunsLeadToTheEnd};
 ghost use Rattle.in_order.specs.Leading.{BesideLeads, BesidePartsAreSound, BesideSoundIsSound, CutDownIsSound, CutDownLeadsAreJoinedUp, CutLeadsAreJoined, CutOnceIsSound, LeadsGoOn, PartsLeadTheWhole};
 
-/// Two interactions of a reached net on different active pairs meet: each can follow the other, and the nets after both are one up to names.
+/// Two interactions of a reached net on different active pairs meet: each can follow the other, and the nets after both are equal up to names.
 pub fn interactions_meet()
     ensures { InteractionsMeet }
 {}

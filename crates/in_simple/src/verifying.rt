@@ -52,7 +52,7 @@ fn nothing(alloc: Global, open: &OpenNet) -> Result<Built, AllocError>
     })
 }
 
-/// The sum of two numbers of ends. Too many to be counted are no memory.
+/// The sum of two numbers of ends. If there are too many to count, it is out of memory.
 fn sum_of(one: u32, other: u32) -> Result<u32, AllocError>
     ensures { IfOk result (λ sum. sum ≡ one + other) }
 {
@@ -258,7 +258,7 @@ fn mix(open: &OpenNet, a: Built, b: Built) -> Result<Option<Built>, AllocError>
 }
 
 /// How many ends for a point are left when the node is joined to one end for its auxiliary port, and its principal port at the
-/// far point is open; none, if there is no end to be joined to.
+/// far point is open; none, if there is no end to join it to.
 fn graft_end(
     count: u32,
     point: OpenPoint,

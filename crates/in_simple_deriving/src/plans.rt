@@ -443,7 +443,7 @@ impl<'a> Classes<'a> {
             begun,
         } = self;
         let skipped = skip(plan, class - begun - 1)?;
-        // Something comes: a component that touches ports of two classes would keep the node from splitting.
+        // Some task is added: a component that touches ports of two classes would keep the node from splitting.
         let (plan, _) = skipped.port(alloc, wired, node, port)?;
         Ok(Classes {
             wired,
@@ -482,7 +482,7 @@ impl<'a> Classes<'a> {
         })
     }
 
-    /// The port that comes next.
+    /// The next port.
     fn port(self, alloc: Global) -> Result<Classes<'a>, AllocError>
         requires { self.next < ports_of self.net self.node }
         ensures { IfOk result (λ classes. classes ≡ later self.entry) }

@@ -51,7 +51,7 @@ impl Work {
         Ok(())
     }
 
-    /// One more step. More than 4,294,967,296 of them are no memory.
+    /// One more step. With more than 4,294,967,296 of them it is out of memory.
     fn push(&mut self, step: Step) -> Result<(), AllocError>
         ensures tasks { self.new.tasks ≡ self.old.tasks }
         ensures steps { OnOk result (self.new.steps ≡ self.old.steps ++ step ∷ []) }

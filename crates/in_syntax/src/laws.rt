@@ -37,7 +37,7 @@ pub fn one_outcome()
     ensures { OneOutcome }
 {}
 
-/// Two programs that are spelled alike are one tree, and pass the limits at the same tokens.
+/// Two programs that are spelled alike have one tree, and pass the limits at the same tokens.
 pub fn one_tree()
     ensures { OneTree }
 {}

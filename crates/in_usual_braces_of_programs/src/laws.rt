@@ -18,7 +18,7 @@ pub fn rules_in_usual_braces()
     usual_braces_decide();
 }
 
-/// A directed circle of a rule's open net is one of agents of the right member: class nodes only give, or only take.
+/// A directed circle of a rule's open net is one of agents of the right member: a class node has only outputs, or only inputs.
 pub fn circles_are_of_agents()
     ensures { CirclesAreOfAgents }
 {}

@@ -76,7 +76,7 @@ module _ {A B : Type 0} (sig : Signature) (classed : AreClasses sig) (n : Net A)
   abbrev IsCut : List (Stop A B) → Type 0
   IsCut ss = AllByRecursion (IsCrossingStop sig n x) ss × AreApart (agents_of ss)
 
-  -- the piece after a boundary end is one
+  -- the part after a boundary end is a piece
   outer_piece : (b : ℕ) (ss : List (Stop A B)) (t : Side) (e : ℕ) → AreApart (agents_of ss) → (r : Cut Outer (Boundary b) ss t e) → IsPiece sig n x (Outside b r.here r.to)
   outer_piece b ss t e apart r = record {
     leads = r.goes.0;

@@ -22,7 +22,7 @@ other_side Inner e = cc
 not_boundary : {A B : Type 0} (p : Place A B) (e : ℕ) → Stays p → p ≡ Boundary e → ⊥
 not_boundary p e h i = subst Stays i h
 
--- two boundary ends that are one place are one end
+-- two boundary ends at one place are equal
 pub same_end : {A B : Type 0} (e f : ℕ) → ◌≡◌ {A = Place A B} (Boundary e) (Boundary f) → e ≡ f
 same_end e f h = cc
 

@@ -1,4 +1,4 @@
--- A rule in which no agent and no name is refused is one whose wires can be followed; and the symbols of its heads.
+-- If no agent and no name of a rule is refused, its wires can be followed; and the symbols of its heads.
 use Rattle.std.proofs.Common.{◌≡◌, ◌∙◌, ℕ, ◌+◌, Bool, true, false, cond, ap, sym, refl, None, arith}
 use Rattle.in_syntax.specs.declared.tree.SourceRule.{SourceRule}
 use Rattle.in_symbols.specs.declared.symbols.SymbolNo.{SymbolNo}

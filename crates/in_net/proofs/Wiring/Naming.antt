@@ -41,7 +41,7 @@ open_back seen m x (End k) other h = tt
 open_back seen m x (Free k n) other h = subst IsMet (seen_other seen m n x (λ e. other (ap Some e))) h
 open_back seen m x (Occurrence n p) other h = λ met. h (subst IsMet (sym (seen_other seen m n x (λ e. other (ap Some e)))) met)
 
--- of two places the earlier is one
+-- the earlier of two places is one of the two
 earlier_is : (c d : Option Place) (p : Place) → earlier c d ≡ Some p → (c ≡ Some p) ⊎ (d ≡ Some p)
 earlier_is None d p e = inr e
 earlier_is (Some q) None p e = inl e
@@ -51,7 +51,7 @@ earlier_is (Some q) (Some r) p e = by_test (nat_lt r.from q.from) e
     by_test true e = inr e
     by_test false e = inl e
 
--- a property of both places is one of the earlier
+-- if both places have a property, the earlier one has it
 earlier_by : {P : Place → Type 0} (c d : Option Place) → ((x : Place) → c ≡ Some x → P x) → ((x : Place) → d ≡ Some x → P x) → (x : Place) → earlier c d ≡ Some x → P x
 earlier_by c d one other x e = elim (earlier_is c d x e) [ inl f ↦ one x f | inr f ↦ other x f ]
 

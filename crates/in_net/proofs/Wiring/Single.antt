@@ -239,7 +239,7 @@ module _ (t : Tables) (b : Body) (r : Reading) (h : IsReadWhole t b r) where
   named_port (End k) m p i e f = cc
   named_port (Occurrence l q) m p i e f = cc
 
-  -- a port has no joint of a name, nor has a boundary end, a free end none of a place
+  -- a port and a boundary end have no joint of a name, and a free end has none of a place
   port_unnamed : (p : Place) (i : ℕ) (y : text.TextSpot) → NameJoint t b (text.port_at p i) y → ⊥
   port_unnamed p i y j = let s = twin_of (text.port_at p i) y j in named_port (nth_spot r.spots s.one) s.number p i s.one_named s.one_is
 

@@ -1,4 +1,4 @@
--- At each wire, a part's ends for the one point and for the other differ as its ports do.
+-- At each wire, a part's ends for one point and for the other differ as its ports do.
 use Rattle.std.proofs.Common.{◌≡◌, ◌+◌, ℕ, Bool, true, false, ◌||◌, nat_eq, ◌<◌, length, List, [], ◌∷◌, refl, sym, ap, inl, inr, ◌∙◌, arith}
 use Rattle.in_open_nets.specs.declared.open_nets.OpenPoint.{OpenPoint}
 use Rattle.in_open_nets.specs.Constructions.{IsIn}

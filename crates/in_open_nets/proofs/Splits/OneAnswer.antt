@@ -43,7 +43,7 @@ one_first_splitting o part None (Some m) size h g = absurd (not_none o part size
 one_first_splitting o part (Some n) None size h g = absurd (not_none o part size n g h)
 one_first_splitting o part (Some n) (Some m) size h g = ap Some (one_first o part size n m h g)
 
--- ---- numbers that rise are one list
+-- ---- a list of rising numbers is determined
 
 above : (low n : ℕ) (ns : List ℕ) → RisesThrough low ns → Among n ns → low ≤ n
 above low n [] up h = absurd h

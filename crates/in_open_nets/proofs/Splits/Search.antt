@@ -355,7 +355,7 @@ module _ (o : OpenNet) (net : IsOpenNet o) where
       go (inr r) (inl stuck) found = inr (s, whole s ((r.0, r.2), λ n h k. stuck n (in_net n h) (h, k)))
       go (inr r) (inr q) found = among s in_net q.0 (record { here = q.2.0; splits = q.2.1; first = λ m h l k. let e = q.3 m (in_net m h) (h, k) in omega arith }) (found q.0 q.2.0)
 
-  -- there is one at most
+  -- there is at most one
   pub one_stuck : (s t u : ℕ → Bool) → ((m : ℕ) → IsIn m s → m < length o.nodes) → FirstStuck o s t → FirstStuck o s u → t ≡ u
   one_stuck s _ _ in_net (whole _ h) (whole _ k) = refl
   one_stuck s _ u in_net (whole _ h) (within _ n c k _ f part comes before stuck) = absurd (h.1 n f.here f.splits)

@@ -41,7 +41,7 @@ abbrev leads_on : Step → Bool
 leads_on stuck = false
 leads_on _ = true
 
--- the tokens that are expected in a state are those with which a step leads on
+-- the tokens that are expected in a state are those with a step to another state
 abbrev Tells : Counts → State → Type 0
 Tells c p = (text : List ℕ) (place : Place) (k : TokenKind) → takes (expected_in p) (sign_at text k place) ≡ leads_on (step c p (sign_at text k place))
 
@@ -399,7 +399,7 @@ take_signs text zero tokens = refl
 take_signs text (suc i) [] = refl
 take_signs text (suc i) (t ∷ tokens) = ap (λ z. sign_of text t ∷ z) (take_signs text i tokens)
 
--- the run's note is the one that is to be made
+-- the run notes the right expectation
 pub noted : (text : List ℕ) (tokens : List Token) (r : Result Source Fault) (e : Expected) → Notes text tokens r e → IsNotedOf text tokens r e
 noted text tokens (Ok source) e is = is
 noted text tokens (Err (Refused r)) e (i, le, is, (last, leads, same)) =

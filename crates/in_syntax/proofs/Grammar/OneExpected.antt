@@ -1,4 +1,4 @@
--- The expected tokens after signs are one, and so are those noted for a text.
+-- Signs have at most one expectation, and a text has one noted expectation.
 use Rattle.std.proofs.Common.{◌≡◌, ◌⊎◌, inl, inr, ℕ, Bool, List, refl, sym, ◌∙◌, ap, subst, take, if◌then◌else◌, Err}
 use Rattle.std.proofs.Math.Path.{fun_ext}
 use Rattle.std.specs.Bool.{one_answer}

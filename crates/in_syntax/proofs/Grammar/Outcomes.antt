@@ -138,7 +138,7 @@ signs_begun front x b more =
     map-append (λ m. m.sign) (unmarked front ++ marked b x ∷ []) more
     ∙ ap (λ z. z ++ signs more) (map-append (λ m. m.sign) (unmarked front) (marked b x ∷ []) ∙ ap (λ z. z ++ x ∷ []) (signs_unmarked front))
 
--- some program continues with a sign that leads on
+-- some program continues with a sign that leads to another state
 pub begins_on : (front : List Sign) (x : Sign) (last next : Reader) (past : Bool) → Path start (unmarked front) last → turn last x ≡ turns past next → Begins (front ++ x ∷ [])
 begins_on front x last next past path e =
     let p = begun (unmarked front ++ marked past x ∷ []) next (join (unmarked front) (marked past x ∷ []) start last next path (next, e, refl)) in

@@ -24,7 +24,7 @@ texts_after text i tokens h = rw (add-one i) (texts_suc text i tokens h)
 abbrev no_token : Token
 no_token = record { kind = kind.Name; place = record { from = 0; to = 0; line = 0; col = 0 } }
 
--- a move that leads on makes the run go on from there
+-- after a move to another reader the run continues from there
 run_moved : (r next : Reader) (x : Sign) (s : List Sign) (m : Move) → moved r m ≡ Some next → along r x s m ≡ run next s
 run_moved r next x s (move.Goes p) e = let is : at_state r p ≡ next = cc in ap (λ z. run z s) is
 run_moved r next x s (move.Types names) e = let is : with_types r names ≡ next = cc in ap (λ z. run z s) is

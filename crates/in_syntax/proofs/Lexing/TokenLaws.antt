@@ -163,7 +163,7 @@ reads_unique ds us (goes_on {s = s} {t = t} {cs = cs} {rest = a} vs ws p r) (goe
     let more = reads_unique b ys r (subst (λ z. Reads z b ys) (sym same.1) h) same.2 in
     ap (λ z. z ++ ws) same.0 ∙ ap (λ z. xs ++ z) more
 
--- a text that reads to its end stops nowhere
+-- a text that reads to its end has no fault at which it stops
 pub reads_not_stops : {s : Spot} {cs : List ℕ} {ts : List Token} (ds : List ℕ) (code : Code) (at : Spot) → Reads s cs ts → Stops s ds code at → cs ≡ ds → ⊥
 reads_not_stops ds code at (ends {s = s}) (here f) e = faults_some s at ds code f (sym e)
 reads_not_stops ds code at (ends {s = s}) (later {t = t} {rest = rest} {ts = ts} p h) e = passes_some s t ds rest ts p (sym e)
