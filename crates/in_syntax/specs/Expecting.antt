@@ -109,7 +109,7 @@ section_from s (x ∷ front) = section_from (further s x) front
 abbrev pub section : List Sign → Section
 section = section_from between
 
--- the sections in which each can be expected, if not in all: they tell the sorts of names apart, and what a `;` or a `)` ends
+-- the sections in which each can be expected, if not in all: they distinguish the sorts of names, and the items that a `;` or a `)` ends
 abbrev pub IsAt : Expected → Section → Type 0
 IsAt expected.TypeName s = s ≡ types
 IsAt expected.SymbolName s = s ≡ symbol
