@@ -23,7 +23,7 @@ pub record Circuit (g : Graph) (E L : g.Node × ℕ → Type 0) : Type 0 where
   pub leaves : L (left first)
   pub closed : Walk g E L (left first) rest (entered first)
 
--- the node's first passage in a list, and what stands before and after it
+-- the node's first passage in a list, and the passages before and after it
 pub record Found {V : Type 0} (n : V) (ps : List (Passage V)) : Type 0 where
   pub before : List (Passage V)
   pub here : Passage V
@@ -45,7 +45,7 @@ pub apart_before : {V : Type 0} (xs ys : List (Passage V)) → AreApart (xs ++ y
 apart_before [] ys h = tt
 apart_before (x ∷ xs) ys h = (all_left (λ q. x.node ≢ q.node) xs ys h.0, apart_before xs ys h.1)
 
--- what holds of two elements that are one holds of each element and some one
+-- if each element has P to itself, each has it to some element of the list
 pub each_any : {X : Type 0} (P : X → X → Type 0) → ((x : X) → P x x) → (xs : List X) → AllByRecursion (λ x. AnyByRecursion (P x) xs) xs
 each_any P r [] = tt
 each_any P r (x ∷ xs) = (inl (r x), all_map (λ y. AnyByRecursion (P y) xs) (λ y. AnyByRecursion (P y) (x ∷ xs)) (λ y h. inr h) xs (each_any P r xs))

@@ -1,10 +1,10 @@
--- What holds of each element, or of one, of joined and mapped lists.
+-- Properties of each element, or of one, of joined and mapped lists.
 use Rattle.std.proofs.Common.{◌≡◌, ◌⊎◌, inl, inr, ℕ, zero, suc, ◌<◌, List, [], ◌∷◌, ◌++◌, map, length, Some, slice_get, refl, subst, arith}
 use Rattle.std.specs.List.{AllByRecursion}
 use Rattle.std.proofs.lemmas.Option.{none-some, same_Some}
 use Rattle.in_base.specs.Lists.{AnyByRecursion, IsAmong}
 
--- ---- of each
+-- ---- each element
 
 pub all_of : {X : Type 0} (P : X → Type 0) (xs : List X) → ((x : X) → IsAmong x xs → P x) → AllByRecursion P xs
 all_of P [] f = tt
@@ -31,7 +31,7 @@ all_at P [] i x h e = absurd (none-some x e)
 all_at P (y ∷ ys) zero x h e = subst P (same_Some y x e) h.0
 all_at P (y ∷ ys) (suc i) x h e = all_at P ys i x h.1 e
 
--- ---- of one
+-- ---- one element
 
 pub any_of : {X : Type 0} (P Q : X → Type 0) → ((x : X) → P x → Q x) → (xs : List X) → AnyByRecursion P xs → AnyByRecursion Q xs
 any_of P Q to [] h = h

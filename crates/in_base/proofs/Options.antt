@@ -6,7 +6,7 @@ pub none_of : {X : Type 0} (o : Option X) → ((v : X) → o ≡ Some v → ⊥)
 none_of None never = refl
 none_of (Some v) never = absurd (never v refl)
 
--- two lists with one element at their ends are one where they are equal
+-- two lists with an element at their ends are equal only if their fronts and these elements are equal
 pub snoc_parts : {X : Type 0} (xs ys : List X) (x y : X) → xs ++ x ∷ [] ≡ ys ++ y ∷ [] → (xs ≡ ys) × (x ≡ y)
 snoc_parts [] [] x y e = (refl, (cc))
 snoc_parts [] (z ∷ zs) x y e = absurd (omega (arith, ap length e, length-append zs (y ∷ [])))

@@ -19,7 +19,7 @@ kept_at [] ys k y e = cc
 kept_at (x ∷ xs) ys zero y e = e
 kept_at (x ∷ xs) ys (suc k) y e = kept_at xs ys k y e
 
--- what stands there stood there before, or is the new one
+-- the element at a place was there before, or is the new one
 pub more_at : {X : Type 0} (xs : List X) (x y : X) (k : ℕ) → slice_get (xs ++ x ∷ []) k ≡ Some y → (slice_get xs k ≡ Some y) ⊎ ((k ≡ length xs) × (x ≡ y))
 more_at {X} [] x y zero e = inr (refl, same x y e)
   where
@@ -29,7 +29,7 @@ more_at [] x y (suc k) e = cc
 more_at (z ∷ xs) x y zero e = inl e
 more_at (z ∷ xs) x y (suc k) e = elim (more_at xs x y k e) [ inl h ↦ inl h | inr h ↦ inr (ap suc h.0, h.1) ]
 
--- what stands in a list with one place set
+-- the element at the place that was set
 pub set_here : {X : Type 0} (xs : List X) (k : ℕ) (x : X) → k < length xs → slice_get (set xs k x) k ≡ Some x
 set_here [] k x h = absurd (omega (arith, h))
 set_here (y ∷ ys) zero x h = refl
@@ -42,7 +42,7 @@ set_there (y ∷ ys) zero (suc j) x h = refl
 set_there (y ∷ ys) (suc k) zero x h = refl
 set_there (y ∷ ys) (suc k) (suc j) x h = set_there ys k j x (λ e. h (ap suc e))
 
--- what is left from an element on begins with it
+-- the rest of a list from an element on begins with it
 pub left_from : {X : Type 0} (xs : List X) (k : ℕ) (x : X) → slice_get xs k ≡ Some x → drop k xs ≡ x ∷ drop (k + 1) xs
 left_from xs k x e = drop_more xs k x (slice_get_within xs k x e) ∙ ap (λ z. z ∷ drop (k + 1) xs) (get_or_from_slice_get xs k x x e)
 
@@ -52,7 +52,7 @@ unsnoc [] some = absurd (omega (arith, some))
 unsnoc (x ∷ []) some = ([], x, refl)
 unsnoc (x ∷ y ∷ ys) some = let r = unsnoc (y ∷ ys) (omega arith) in (x ∷ r.0, r.1, ap (λ zs. x ∷ zs) r.2)
 
--- what a mapped list has at a place
+-- the element of a mapped list at a place
 pub to_mapped : {X Y : Type 0} (f : X → Y) (xs : List X) (i : ℕ) (x : X) → slice_get xs i ≡ Some x → slice_get (map f xs) i ≡ Some (f x)
 to_mapped f xs i x e = slice_get-map f xs i ∙ ap (option_map f) e
 

@@ -30,7 +30,7 @@ abbrev pub LeadsThrough : (g : Graph) → g.Node × ℕ → List (Passage g.Node
 LeadsThrough g from [] to = g.Wire from to
 LeadsThrough g from (p ∷ ps) to = g.Wire from (entered p) × LeadsThrough g (left p) ps to
 
--- it changes class within its node
+-- a passage changes class within its node
 abbrev pub IsCrossing : (g : Graph) → Passage g.Node → Type 0
 IsCrossing g p = g.class p.node p.enter ≢ g.class p.node p.leave
 

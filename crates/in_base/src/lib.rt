@@ -6,7 +6,7 @@
 //! Definitions on texts, terms, places and refusals are in `in_syntax`, the lowest crate that knows them.
 #![tactic(auto)]
 
-/// Says that the invariant of a value is used from here on, by a place in that value. The prover knows the invariant of what a `&` leads to
+/// Says that the invariant of a value is used from here on, by a place in that value. The prover knows the invariant of the target of a `&`
 /// only once the body reads it; a body that reads nothing of it before the invariant is needed says so by this word, which does nothing when
 /// it runs.
 #[macro_export]

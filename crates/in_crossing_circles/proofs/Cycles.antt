@@ -1,4 +1,4 @@
--- Closed walks with fewer and fewer cusps: where no node splits a set of nodes, it has a crossing circle.
+-- Closed walks with fewer and fewer cusps: if no node splits a set of nodes, the set has a crossing circle.
 use Rattle.std.proofs.Common.{◌≡◌, ◌≢◌, ◌⊎◌, ◌≤◌, ◌<◌, ◌+◌, ℕ, zero, suc, Bool, true, false, cond, nat_eq, List, [], ◌∷◌, ◌++◌, refl, sym, subst, ap, inl, inr, ◌∙◌, eq-eqb, arith}
 use native.Mathlib.Decide.{ℕ_discrete}
 use Rattle.std.proofs.lemmas.Bool.Decides.{eqb_tells}
@@ -56,7 +56,7 @@ module _ (o : OpenNet) (t : ℕ → Bool) where
   module _ (v i j : ℕ) (A : List (Passage ℕ)) (u : Passage ℕ) (B : List (Passage ℕ)) (changes : class v i ≢ class v j)
       (way_A : Way o (v, i) A (entered u)) (way_B : Way o (left u) B (v, j)) (crossing_A : cusps o A ≡ 0) (cusp : class u.node u.enter ≡ class u.node u.leave)
       (fewer : (k l : ℕ) (ps : List (Passage ℕ)) → Cycle v k l ps → class v k ≡ class v i → cusps o ps ≤ cusps o B → HasCircleIn o t) where
-    -- nodes of the closed walk but u
+    -- nodes of the closed walk without u
     abbrev around : ℕ → ℕ
     around n = one_if n v + visits n A + visits n B
 
@@ -213,7 +213,7 @@ module _ (o : OpenNet) (t : ℕ → Bool) where
         comes_back w c way (inr (inl f)) = to_A w c way f
         comes_back w c way (inr (inr f)) = to_B w c way f
 
-      -- what q has gone through so far is apart from the closed walk, and so is all of it, where there is no circle
+      -- the walk q so far is apart from the closed walk, and so is all of it, if there is no circle
       stays_apart : (q : List (Passage ℕ)) (from : ℕ × ℕ) (rest : List (Passage ℕ)) (w c : ℕ) → ((to : ℕ × ℕ) → Wire o from to → Way o (u.node, x) q to) → Way o from rest (w, c) → cusps o q ≡ 0 → cusps o rest ≡ 0 →
           ((n : ℕ) → around n + one_if n u.node + visits n q ≤ room t n) → ((n : ℕ) → one_if n u.node + visits n q + visits n rest + one_if n w ≤ room t n) → HasCircleIn o t ⊎ ((n : ℕ) → around n + one_if n u.node + visits n q + visits n rest + one_if n w ≤ room t n)
       stays_apart q from [] w c reach way free free' apart own = elim (is_around w) [
@@ -245,7 +245,7 @@ module _ (o : OpenNet) (t : ℕ → Bool) where
 
   module _ (each : (v : ℕ) → IsIn v t → (i : ℕ) × (j : ℕ) × (ps : List (Passage ℕ)) × Cycle v i j ps) where
     module _ (v k : ℕ) (r : ℕ → Bool) (leads : LeadInto v k r) (next : (u l : ℕ) → IsIn u t → IsIn u r → LeadInto u l (less r u) → HasCircleIn o t) where
-      -- a closed walk that leaves v by another class than k, with its first cusp, where one with fewer cusps gives a circle
+      -- a closed walk that leaves v by another class than k, with its first cusp, if one with fewer cusps gives a circle
       module _ (i j : ℕ) (ps : List (Passage ℕ)) (c : Cycle v i j ps) (differ : class v i ≢ k) (f : FirstCusp o ps)
           (fewer : (i' j' : ℕ) (qs : List (Passage ℕ)) → Cycle v i' j' qs → class v i' ≡ class v i → cusps o qs < cusps o ps → HasCircleIn o t) where
         ways : Way o (v, i) f.before (entered f.here) × Way o (left f.here) f.after (v, j)
@@ -294,7 +294,7 @@ module _ (o : OpenNet) (t : ℕ → Bool) where
               (λ x qs w d path other. elim (through x qs w d path other) [ inl found ↦ inl found | inr h ↦ inr (less_kept r f.here.node w h.1 h.0) ])
         ]
 
-      -- any that does so, and has fewer than b cusps
+      -- any such walk with fewer than b cusps
       from_cycle : (b i j : ℕ) (ps : List (Passage ℕ)) → Cycle v i j ps → class v i ≢ k → cusps o ps < b → HasCircleIn o t
       from_cycle zero i j ps c differ l = absurd (omega arith)
       from_cycle (suc b) i j ps c differ l = elim (first_cusp o ps) [
@@ -319,7 +319,7 @@ module _ (o : OpenNet) (t : ℕ → Bool) where
     climb b below (suc s) v k r most here leads =
         from_node v k r leads (λ u l in_t in_r on. climb b below s u l (less r u) (let a = count_less r (less r u) (less_in r u) u in_r (less_itself r u) b (below u in_t) in omega arith) in_t on) here
 
-    -- where each node of the set has such a closed walk, the set has a crossing circle
+    -- if each node of the set has such a closed walk, the set has a crossing circle
     pub has_circle : (b : ℕ) → ((n : ℕ) → IsIn n t → n < b) → (v : ℕ) → IsIn v t → HasCircleIn o t
     has_circle b below v here =
         climb b below (count t b) v 0 t (omega arith) here

@@ -66,11 +66,11 @@ module _ (o : OpenNet) (net : IsOpenNet o) (t : ℕ → Bool) (in_net : (n : ℕ
     | inr d ↦ elim (linked o net t in_net v l m) [ inl h ↦ inl (inr h) | inr f ↦ inr (λ s. elim s [ inl h ↦ d h | inr h ↦ f h ]) ]
   ]
 
-  -- where they meet they are of one class
+  -- if they meet, they are of one class
   abbrev IsOneClass : ℕ → ℕ → Type 0
   IsOneClass i j = (l k m h : ℕ) → Wire o (v, i) (l, k) → Wire o (v, j) (m, h) → Meet j l k m → class_in o v i ≡ class_in o v j
 
-  -- else there is a closed walk
+  -- otherwise there is a closed walk
   cycle : (i j : ℕ) → class_in o v i ≢ class_in o v j → (l k m h : ℕ) → Wire o (v, i) (l, k) → Wire o (v, j) (m, h) → Meet j l k m → HasCycle
   cycle i j differ l k m h w x (inl own) = (
     i,

@@ -4,7 +4,7 @@ ghost use Rattle.in_crossing_circles.specs.Laws.{CrossingCirclesDecide, StuckPar
 
 use in_open_nets::laws::{splits_or_first_stuck, splits_where_derivable};
 
-/// An open net is derivable exactly when it has no crossing circle, however the ports of its nodes are put into classes. Derivable is Lafont 1990's
+/// An open net is derivable exactly when it has no crossing circle, for any classes of the ports of its nodes. Derivable is Lafont 1990's
 /// semi-simple; that crossing circles decide it is Yeo's theorem of 1997 on edges with colours, for colours at the ends of edges.
 pub fn crossing_circles_decide()
     ensures { CrossingCirclesDecide }

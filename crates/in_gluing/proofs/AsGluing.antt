@@ -47,7 +47,7 @@ at_own first zero j l = absurd (omega (arith, l))
 at_own first (suc k) zero l = ap (λ (i : ℕ). Some (0, i)) (let r : first ≡ first + 0 = omega arith in r)
 at_own first (suc k) (suc j) l = at_own (suc first) k j (omega (arith, l)) ∙ ap (λ (i : ℕ). Some (0, i)) (let s : suc first + j ≡ first + suc j = omega arith in s)
 
--- what is declared at them
+-- the types declared at them
 own_types : (free_of : ℕ → List PortType) (zs ys : List PortType) → free_of 0 ≡ zs ++ ys → map (λ p. slice_get (free_of p.0) p.1) (own_ends (length zs) (length ys)) ≡ map (λ t. Some t) ys
 own_types free_of zs [] e = refl
 own_types free_of zs (y ∷ ys) e =

@@ -30,7 +30,7 @@ way_map O O' I End f Outer u (e ∷ es) t v w = (f u e w.0, w.1, way_map O O' I 
 way_map O O' I End f Inner u (e ∷ es) t v w = (w.0, w.1, way_map O O' I End f Outer e es t v w.2)
 
 module _ {A B : Type 0} (sig : Signature) where
-  -- the right member's points are at no port of a pair that shares no agent with its own, where its agents are new
+  -- the right member's points are at no port of a pair that shares no agent with its own, if its agents are new
   module _ (n : Net A) (x y : Redex A B) (of_x : B → A) (inside : IsNet sig x.member) (ry : IsRedex sig n y) (fresh : (k : B) (s : ℕ) → x.member.symbol k ≡ Some s → n.symbol (of_x k) ≡ None) (apart : AreApart x y) where
     not_there : (k : B) (z : A) (s t : ℕ) → x.member.symbol k ≡ Some s → n.symbol z ≡ Some t → of_x k ≢ z
     not_there k z s t h l e =
@@ -153,7 +153,7 @@ module _ {A B : Type 0} (sig : Signature) where
       free = second.free ∙ first.free;
     }
 
--- what is both at once is so in either order
+-- if two interactions are done at once, they are done at once in either order
 module _ {A B : Type 0} (sig : Signature) (n : Net A) (x y : Redex A B) (of_x of_y : B → A) where
   swap_wire : (s : Side) (u v : Point A) → wire_of_both sig n x y of_x of_y s u v → wire_of_both sig n y x of_y of_x s u v
   swap_wire Outer u v w = w

@@ -35,7 +35,7 @@ module _ (parts : ℕ → Net ℕ) (name : ℕ → ℕ → ℕ) (number : ℕ ×
     }
 
   module _ (own : (k : ℕ) (p : ℕ × ℕ) → slice_get cuts.outer k ≡ Some p → HasOwnNumber parts cuts number p) (by : IsJoinedBy parts name number cuts m) (w : Net ℕ) (renumbers : Renumbers parts number cuts m w) where
-    -- where a part's point is at the end
+    -- the place of a part's point at the end
     placed : (i : ℕ) (p x u : Point ℕ) → UsedAt parts cuts (i, p) → IsAtNumber number name i p x → IsRenumbered number cuts.outer x u → IsPlaced cuts name i p u
     placed i (Port y k) x u used h r = subst (λ z. IsRenumbered number cuts.outer z u) h r
     placed i (Free e) x u used h r = go (subst (λ z. IsRenumbered number cuts.outer z u) h r)

@@ -24,14 +24,14 @@ module _ (m : Net ℕ) (ends : List (ℕ × ℕ)) where
   abbrev part : Pair → ℕ → Net ℕ
   part a = two_parts a.one a.two
 
-  -- where a point of a part is in the whole
+  -- the place of a point of a part in the whole
   abbrev at : Pair → ℕ → Point ℕ → Point ℕ
   at a = image a.one a.two m a.name ends a.stand
 
   there : (a : Pair) (i : ℕ) (q r : Point ℕ) → (part a i).partner q ≡ Some r → IsThere (part a i) q × IsThere (part a i) r
   there a i q r e = ((a.wired i).there q r e, (a.wired i).there r q ((a.wired i).back.0 q r e))
 
-  -- a part of the one pair over against that of the other
+  -- a part of one pair compared with that of the other pair
   module _ (a b : Pair) (same : (y : ℕ) → a.one.symbol y ≡ b.one.symbol y) where
     -- an agent of the second part has there another number
     abbrev Carried : ℕ → Type 0
@@ -74,7 +74,7 @@ module _ (m : Net ℕ) (ends : List (ℕ × ℕ)) where
         (ap (λ (z : ℕ). Port z k) over.0, is_some ((part b i).symbol (new i x)) s.0 over.1)
     point_over i (Free e) low = (ap (λ (z : ℕ). Free z) (b.stand.numbered (a.stand.number (i, e)) (i, e) (a.stand.all i e low)), (end_over i e low).0)
 
-    -- a point of that part which is where one of this part is
+    -- a point of that part at the place of one of this part
     one_over : (i j : ℕ) (q r : Point ℕ) → IsThere (part a i) q → IsThere (part b j) r → at a i q ≡ at b j r → (i ≡ j) × (renamed (new i) q ≡ r)
     one_over i j q r t g e = let over = point_over i q t in one_place b.one b.two m b.name ends b.stand i j (renamed (new i) q) r over.1 g (over.0 ∙ e)
 
@@ -144,7 +144,7 @@ beside_parts_are_alike one two one_too two_too n name name_too ends wired_one wi
     let b : Pair n ends = record { one = one_too; two = two_too; name = name_too; stand = h_too; wired = wired_parts one_too two_too wired_one_too wired_two_too } in
     (part_over n ends a b same 0, over n ends a b same 1, part_over n ends a b same 1)
 
--- ---- what two nets are side by side
+-- ---- the two nets that are side by side
 
 module _ (one two : Net ℕ) (ends : List (ℕ × ℕ)) (wired_one : IsWiredWithin one) (wired_two : IsWiredWithin two) where
   abbrev both : ℕ → Net ℕ
@@ -170,7 +170,7 @@ module _ (one two : Net ℕ) (ends : List (ℕ × ℕ)) (wired_one : IsWiredWith
     name_by y None e = y
     name_by y (Some s) e = let r = (a.stand.beside.agents y s).0 e in named b r.0 r.1
 
-    -- the name in the other of an agent of the one
+    -- the name in the other net of an agent of this net
     abbrev renaming : ℕ → ℕ
     renaming y = name_by y (a.n.symbol y) refl
 

@@ -53,7 +53,7 @@ module _ (sig : Signature) (n : Net ℕ) (x : Redex ℕ ℕ) (name : ℕ → ℕ
   abbrev pub Stays : Point ℕ → Type 0
   Stays u = IsOfPair x u → ⊥
 
-  -- a point of the part on that side, and the point of the net or of a new agent that it stands for
+  -- a point of the part on that side, and its point of the net or of a new agent
   abbrev pub In : Side → Point ℕ → Point ℕ → Type 0
   In Outer p u = IsPoint sig n u × IsInRest sig x u p
   In Inner p u = IsPoint sig x.member p × (stands_for sig x name p ≡ u)
@@ -78,7 +78,7 @@ module _ (sig : Signature) (n : Net ℕ) (x : Redex ℕ ℕ) (name : ℕ → ℕ
   outside_once (Free k) (Port y i) p a (inr b) = let e = same_free b.0 (many + k) (sym b.3 ∙ a) in absurd (let l = b.1 in omega (arith, e, l))
   outside_once (Free k) (Free l) p a b = let e = same_free (many + k) (many + l) (sym a ∙ b) in ap (λ (k : ℕ). Free k) (omega (arith, e))
 
-  -- what is outside is no principal port of the pair
+  -- a point outside is no principal port of the pair
   is_auxiliary : (y : ℕ) (u p : Point ℕ) → IsOfPair x (Port y 0) → IsInRest sig x u p → u ≢ Port y 0
   is_auxiliary y (Free k) p o h e = absurd (port_free y 0 k (sym e))
   is_auxiliary y (Port z i) p o (inl h) e = elim (subst (IsOfPair x) (sym e) o) [ inl a ↦ h.0 a | inr b ↦ h.1 b ]
@@ -202,7 +202,7 @@ module _ (sig : Signature) (n : Net ℕ) (x : Redex ℕ ℕ) (name : ℕ → ℕ
           ),
         )
 
-    -- where a path of the parts ends, and of which net it is a path
+    -- the end of a path of the parts, and the net of which it is a path
     record From (s : Side) (u : Point ℕ) (q : Spot) : Type 0 where
       side : Side
       is_side : q.0 ≡ part_of side

@@ -89,7 +89,7 @@ module _ (m : Net ℕ) (a b : ℕ) (differ : a ≢ b) (back : (u v : Point ℕ) 
       pick_no (ℕ_discrete b a) (m.partner (Free b)) (pick (ℕ_discrete b b) (m.partner (Free a)) (Some (Free b))) (λ h. differ (sym h))
       ∙ pick_yes (ℕ_discrete b b) (m.partner (Free a)) (Some (Free b)) refl
 
-  -- no end leads on to an end
+  -- no end leads to an end
   no_end : (u v : Point ℕ) (c d : ℕ) → (u ≢ Free d) → m.partner u ≡ Some (Free c) → m.partner (Free d) ≡ Some v → (v ≢ Free c) × (v ≢ Free d)
   no_end u v c d n e f = (
     (λ h. (let far : m.partner (Free c) ≡ Some (Free d) = back (Free d) (Free c) (f ∙ ap (λ z. Some z) h) in n (same_Some u (Free d) (sym (back u (Free c) e) ∙ far)))),
@@ -148,7 +148,7 @@ module _ (w : Net ℕ) (u v : Point ℕ) (a b : ℕ) (m : Net ℕ) (back : (u v 
           inr (inr ((cut.wires x (Free b)).1 (inr (inr (inr (inl (h, refl))))), (cut.wires (Free a) y).1 (inr (inr (inl (refl, far))))))
       go (no n) (no d) = inl ((cut.wires x y).1 (inl (n, d, e)))
 
-  -- what is at the two new ends, and beside them
+  -- the partners of the two new ends, and of other points
   to_one : (x : Point ℕ) → IsNeither a b x → m.partner x ≡ Some (Free a) → x ≡ u
   to_one x n e = elim ((cut.wires x (Free a)).0 e) [
     | inl r ↦ absurd ((one_end x (Free a) r.2).0 refl)

@@ -173,7 +173,7 @@ module _ (sig : Signature) (n : Net ℕ) (x : Redex ℕ ℕ) (name : ℕ → ℕ
 pub beside_has_joined_none : BesideHasJoinedNone
 beside_has_joined_none sig n x name joined rest m site is_rest none beside = has_joined_none sig n x name rest site is_rest joined m none beside
 
--- ---- where all are joined
+-- ---- all are joined
 
 module _ (sig : Signature) (n : Net ℕ) (x : Redex ℕ ℕ) (name : ℕ → ℕ) (m : Net ℕ) (site : CanStep sig n x name) (h : HasJoined sig n x name (ends_from x 0) m) where
   abbrev many : ℕ

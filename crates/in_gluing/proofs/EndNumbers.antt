@@ -1,4 +1,4 @@
--- The free ends of the two parts side by side: each that is in use has a number of its own.
+-- The free ends of the two parts side by side: each one in use has its own number.
 use Rattle.std.proofs.Common.{◌≡◌, ◌+◌, ◌-◌, ◌<◌, ℕ, zero, suc, Bool, true, cond, Some, length, sym, subst, ap, ◌∙◌, inl, inr, refl, arith, lt-ltb, le-ltb}
 use Rattle.in_net.specs.Interactions.{Redex, Side, Outer, Inner, other}
 use Rattle.in_net.specs.Nets.{Point, Port, Free, Signature, Net, IsPoint}

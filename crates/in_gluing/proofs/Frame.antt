@@ -33,7 +33,7 @@ map_some (x ∷ xs) (y ∷ ys) e =
     cc
 
 module _ {A B C : Type 0} (sig : Signature) (parts : ℕ → Net A) (name : ℕ → A → C) (cuts : Cuts) (i : ℕ) (x : Redex A B) (new : B → A) where
-  -- what joins points of the parts
+  -- the relation that joins points of the parts
   abbrev Joined : Type 1
   Joined = ℕ × Point A → ℕ × Point A → Type 0
 
@@ -283,7 +283,7 @@ module _ {A B C : Type 0} (sig : Signature) (parts : ℕ → Net A) (name : ℕ 
       start Inner u [] v w = ((i, stands_for sig x new w.0), at_member w.0 u w.2)
       start Inner u (f ∷ fs) v w = ((i, stands_for sig x new w.0.0), at_member w.0.0 u w.0.2)
 
-      -- what is linked in the parts after is joined in the whole, and the other way round
+      -- points that are linked in the parts after are joined in the whole, and the other way round
       joined_forth : (u v : Point C) → (p q : ℕ × Point A) × IsPlaced cuts name p.0 p.1 u × IsPlaced cuts name q.0 q.1 v × AreLinked after cuts p q → AreJoined sig whole x' new' u v
       joined_forth u v h =
           let c = joints_first h.0 h.1 h.4 in

@@ -1,4 +1,4 @@
--- The nets glued from the same parts are one up to names.
+-- The nets glued from the same parts are equal up to names.
 use Rattle.std.proofs.Common.{◌≡◌, ℕ, Option, Some, None, IsSome, List, [], ◌∷◌, map, refl, sym, subst, ap, ◌∙◌}
 use Rattle.in_net.specs.Interactions.{Side, Outer, Inner, other, Alternates}
 use Rattle.in_net.specs.Nets.{Point, Port, Free, Signature, Net, IsPoint, IsNet}
@@ -75,7 +75,7 @@ module _ (sig : Signature) (parts : ℕ → Net ℕ) (cuts : Cuts) (nets : (i : 
         let same = apart_b r.0 q.0 r.1 q.1 hr hq (sym (rename_at r.0 r.1 hr) ∙ ap rename r.2 ∙ e ∙ ap rename (sym q.2) ∙ rename_at q.0 q.1 hq) in
         sym r.2 ∙ ap (λ j. a j r.1) same.0 ∙ ap (a q.0) same.1 ∙ q.2
 
-    -- where a point is placed under one and the other
+    -- the place of a point under one and the other
     placed_forth : (i : ℕ) (u p : Point ℕ) → Present i u → IsPlaced cuts a i u p → IsPlaced cuts b i u (renamed rename p)
     placed_forth i (Port x k) p h g = ap (renamed rename) g ∙ ap (λ y. Port y k) (rename_at i x h)
     placed_forth i (Free e) p h g = (g.0, ap (renamed rename) g.1, g.2)

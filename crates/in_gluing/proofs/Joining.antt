@@ -206,7 +206,7 @@ module _ {A C : Type 0} (parts : ℕ → Net A) (name : ℕ → A → C) (number
   after_wire : (p q : Spot) (u v : Point C) → At p u → At q v → After p q → m.partner u ≡ Some v
   after_wire p q u v h k g = (joined.wires u v).1 (p, q, h, k, (g.0, g.1, (g.2.0, g.2.1, from_way (glue_wire parts cuts) (IsJointEnd cuts) g.2.0 p g.2.1 g.2.2 q g.2.3)))
 
-  -- what is in use stays so
+  -- a free end in use stays in use
   used_more : (p : Spot) → UsedAt parts cuts p → UsedAt parts more p
   used_more p used e h = elim (used e h) [
     | inl w ↦ inl w
@@ -240,7 +240,7 @@ module _ {A C : Type 0} (parts : ℕ → Net A) (name : ℕ → A → C) (number
   at_two : (p : Spot) → p ≡ P2 → At p (Free (number two))
   at_two p e = subst (λ z. At z (Free (number two))) (sym e) refl
 
-  -- a wire between the two ends would come back to where the path came from
+  -- a wire between the two ends would come back to the path's start
   no_more : (u : Point C) (a b : ℕ) → m.partner u ≡ Some (Free a) → (u ≡ Free b → ⊥) → (k : ℕ) → (k ≡ a) ⊎ (k ≡ b) → m.partner (Free b) ≡ Some (Free k) → ⊥
   no_more u a b e differ k (inr h) f = m_apart (Free b) (f ∙ ap (λ k. Some (Free k)) h)
   no_more u a b e differ k (inl h) f =

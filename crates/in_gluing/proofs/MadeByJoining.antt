@@ -1,4 +1,4 @@
--- Where the boundary ends are joined from the highest to the lowest, each new pair is made at the lowest end of its path.
+-- If the boundary ends are joined from the highest to the lowest, each new pair is made at the lowest end of its path.
 use Rattle.std.proofs.Common.{◌≡◌, ◌≢◌, ◌⊎◌, ◌<◌, ◌≤◌, ℕ, zero, suc, true, Some, List, [], ◌∷◌, ◌++◌, length, reverse, slice_get, refl, sym, subst, ap, ◌∙◌, inl, inr, arith}
 use Rattle.std.proofs.lemmas.List.{length-map, reverse-append}
 use Rattle.std.proofs.lemmas.Option.{same_Some}
@@ -45,7 +45,7 @@ module _ (sig : Signature) (n : Net ℕ) (x : Redex ℕ ℕ) (name : ℕ → ℕ
       let r = through.through_ends sig n x name site.net site.inside site.redex site.naming s u es v w (pt d) i in
       subst (λ k. k < length x.member.free) (sym (through.pt_same sig n x name site.net site.inside site.redex site.naming d r.0 r.2)) r.1
 
-  -- ---- wires between ports, where the boundary ends from one on are joined
+  -- ---- wires between ports, if the boundary ends from one on are joined
 
   module _ (e : ℕ) (m : Net ℕ) (h : HasJoined sig n x name (ends_from x e) m) where
     abbrev At : Spot → Point ℕ → Type 0
@@ -62,7 +62,7 @@ module _ (sig : Signature) (n : Net ℕ) (x : Redex ℕ ℕ) (name : ℕ → ℕ
         at_port : (s : Side) (p : Point ℕ) (a y i : ℕ) → p ≡ Port a i → old_and_new name (part_of s) a ≡ y → At (part_of s, p) (Port y i)
         at_port s p a y i is named = subst (λ p. At (part_of s, p) (Port y i)) (sym is) (ap (λ (y : ℕ). Port y i) (sym named))
 
-    -- the port that a numbered point is
+    -- the port of a numbered point
     numbered_port : (p : Spot) (y i : ℕ) (s : Side) (u : Point ℕ) → p.0 ≡ part_of s → At p (Port y i) → ((a k : ℕ) → p.1 ≡ Port a k → u ≡ Port (old_and_new name (part_of s) a) k) → u ≡ Port y i
     numbered_port p y i s u is at from = go p.1 refl (subst (λ k. IsAtNumber (number n x) (old_and_new name) k p.1 (Port y i)) is at)
       where
@@ -142,7 +142,7 @@ module _ (sig : Signature) (n : Net ℕ) (x : Redex ℕ ℕ) (name : ℕ → ℕ
         ends : (p : Point ℕ) → IsAmong p path.ends → (d : ℕ) × (d < length x.member.free) × (p ≡ pt d)
         ends = through.through_ends sig n x name site.net site.inside site.redex site.naming path.side (Port y i) path.ends (Port z j) path.way
 
-        -- else it was there before
+        -- otherwise it was there before
         old : Passes (λ d. suc e ≤ d) path.ends → ⊥
         old goes =
             let w = wire_of_path (suc e) m h y i z j hy hz (record { side = path.side; ends = path.ends; way = path.way; goes = goes }) in

@@ -19,7 +19,7 @@ module _ (parts : ℕ → Net ℕ) (name : ℕ → ℕ → ℕ) (cuts : Cuts) wh
       let r = last g gs q h w.2.2 cut in
       (r.0, joint_later e f g r.0 w.0 w.2.0 r.1, r.2, r.3)
 
-  -- a free end that is joined is one
+  -- a joined end is a free end
   free_of : (i : ℕ) (u : Point ℕ) → IsJointEndAt cuts i u → (e : ℕ) × (u ≡ Free e)
   free_of i (Port x k) h = absurd h
   free_of i (Free e) h = (e, refl)

@@ -1,4 +1,4 @@
--- What tells points apart, and options; and a sum turned round.
+-- Tests that tell points and options apart; and a sum with its sides exchanged.
 use Rattle.std.proofs.Common.{◌≡◌, ◌⊎◌, ℕ, Option, Some, None, option_map, refl, sym, inl, inr, ◌∙◌}
 use Rattle.std.proofs.lemmas.Option.{same_Some}
 use Rattle.in_net.specs.Nets.{Point, Port, Free}

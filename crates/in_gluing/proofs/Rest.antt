@@ -37,7 +37,7 @@ module _ (sig : Signature) (n : Net ℕ) (x : Redex ℕ ℕ) (net : IsNet sig n)
   abbrev kind : (y : ℕ) → Kind y
   kind y = kind_by y (ℕ_discrete y x.one) (ℕ_discrete y x.two)
 
-  -- where a port of an agent of this kind goes
+  -- the target of a port of an agent of this kind
   abbrev PortMap : Type 0
   PortMap = (y i : ℕ) → Kind y → Option (Point ℕ)
 
@@ -77,7 +77,7 @@ module _ (sig : Signature) (n : Net ℕ) (x : Redex ℕ ℕ) (net : IsNet sig n)
     free = map opposite x.member.free ++ n.free;
   }
 
-  -- ---- these are where points stand
+  -- ---- the places of points
 
   pt_first : (j : ℕ) → j < sig.arity x.first → pt j ≡ Port x.one (suc j)
   pt_first j h = go (of_first sig x j) (lt-ltb j (sig.arity x.first) h)

@@ -37,9 +37,9 @@ module _ (one two m : Net ℕ) (name : ℕ → ℕ) (ends : List (ℕ × ℕ)) (
       let t = at_index m.free k low in
       slice_get_within (both q.0).free q.1 t.0 (sym (end_type k q at) ∙ t.1)
 
-  -- ---- where the points of the parts are
+  -- ---- the places of the points of the parts
 
-  -- where a part's point is
+  -- the place of a part's point
   abbrev pub image : ℕ → Point ℕ → Point ℕ
   image i (Port x k) = Port (in_whole i x) k
   image i (Free e) = Free (h.number (i, e))
@@ -58,7 +58,7 @@ module _ (one two m : Net ℕ) (name : ℕ → ℕ) (ends : List (ℕ × ℕ)) (
   pub symbol_kept : (i x s : ℕ) → (both i).symbol x ≡ Some s → m.symbol (in_whole i x) ≡ Some s
   symbol_kept i x s e = (h.beside.agents (in_whole i x) s).1 (i, x, refl, e)
 
-  -- different points are at different ones
+  -- different points are at different places
   pub one_place : (i j : ℕ) (q r : Point ℕ) → IsThere (both i) q → IsThere (both j) r → image i q ≡ image j r → (i ≡ j) × (q ≡ r)
   one_place i j (Port x k) (Port y l) a b e =
       let same = h.apart i j x y a b (port_agent (in_whole i x) (in_whole j y) k l e) in

@@ -26,7 +26,7 @@ module _ (sig : Signature) (n : Net ℕ) (x : Redex ℕ ℕ) (name : ℕ → ℕ
   abbrev At : ℕ → Point ℕ → Point ℕ → Type 0
   At i p u = IsAtNumber (number n x) (old_and_new name) i p u
 
-  -- where points of the rest, and of the right member under its new names, are
+  -- the places of points of the rest, and of the right member under its new names
   abbrev outer : Point ℕ → Point ℕ
   outer (Port y i) = Port y i
   outer (Free f) = Free (end_number n x 0 f)

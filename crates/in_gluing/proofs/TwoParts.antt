@@ -83,7 +83,7 @@ module _ (sig : Signature) (n : Net ℕ) (x : Redex ℕ ℕ) (rest : Net ℕ) (i
   below Outer e l = let k = ends_rest in omega (arith, k, l)
   below Inner e l = l
 
-  -- what is declared on the two sides of a boundary end
+  -- the types declared on the two sides of a boundary end
   rest_type : (e : ℕ) (t : PortType) → slice_get x.member.free e ≡ Some t → slice_get rest.free e ≡ Some (opposite t)
   rest_type e t h = ap (λ ts. slice_get ts e) is_rest.free ∙ kept_at (map opposite x.member.free) n.free e (opposite t) (to_mapped opposite x.member.free e t h)
 

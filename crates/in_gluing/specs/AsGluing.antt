@@ -1,4 +1,4 @@
--- An interaction is a gluing of two nets: the net without the active pair, which is open where the pair's auxiliary ports were, and the right
+-- An interaction is a gluing of two nets: the net without the active pair, which is open at the pair's auxiliary ports, and the right
 -- member of the rule. Lafont 1990: the right member takes the place of the pair on the same boundary ends. How the free ends of the net
 -- without the pair are numbered is this project's own choice.
 use Rattle.std.specs.Prelude.{◌≡◌, ◌≢◌, ◌⊎◌, ◌↔◌, ◌+◌, ◌<◌, ℕ, zero, suc, Bool, false, cond, nat_lt, List, [], ◌∷◌, ◌++◌, length, map, Option, Some, None}
@@ -9,18 +9,18 @@ use Rattle.in_gluing.specs.Gluing.{Cuts, IsGlued, AreCuts}
 
 -- ---- the two parts
 
--- the port of the pair that is the boundary end of this number
+-- the port of the pair at the boundary end of this number
 abbrev pub boundary_port : Signature → Redex ℕ ℕ → ℕ → Point ℕ
 boundary_port sig x e = Port (end_agent sig x e) (end_place sig x e)
 
--- where a point of the net is in the rest: the port of the pair that is a boundary end is the free end of that number, the net's own free
--- ends come after these, and the pair's principal ports are nowhere
+-- the point of the rest for a point of the net: the port of the pair at a boundary end is the free end of that number, the net's own free
+-- ends come after these, and the pair's principal ports have none
 abbrev pub IsInRest : Signature → Redex ℕ ℕ → Point ℕ → Point ℕ → Type 0
 IsInRest sig x (Port y i) u = ((y ≢ x.one) × (y ≢ x.two) × (u ≡ Port y i)) ⊎ ((e : ℕ) × (e < length x.member.free) × (boundary_port sig x e ≡ Port y i) × (u ≡ Free e))
 IsInRest sig x (Free k) u = u ≡ Free (length x.member.free + k)
 
--- what is left of the net without the active pair: its other agents, and the wires but the one between the pair's principal ports, open
--- where the pair's auxiliary ports were
+-- the rest of the net without the active pair: its other agents, and the wires except the one between the pair's principal ports. It is open
+-- at the pair's auxiliary ports
 pub record IsRestOf (sig : Signature) (n : Net ℕ) (x : Redex ℕ ℕ) (rest : Net ℕ) : Type 0 where
   pub agents : (y s : ℕ) → (rest.symbol y ≡ Some s) ↔ ((y ≢ x.one) × (y ≢ x.two) × (n.symbol y ≡ Some s))
   pub wires : (u v : Point ℕ) → (rest.partner u ≡ Some v) ↔ ((p q : Point ℕ) × IsInRest sig x p u × IsInRest sig x q v × (n.partner p ≡ Some q))
@@ -74,7 +74,7 @@ pub record CanStep (sig : Signature) (n : Net ℕ) (x : Redex ℕ ℕ) (name : �
   pub redex : IsRedex sig n x
   pub naming : IsNaming n x name
 
--- the net after an interaction is the rest and the right member, glued along all boundary ends; and what these are glued to is the net after it
+-- a net is the one after an interaction exactly when the rest and the right member are glued to it along all boundary ends
 abbrev pub InteractionsAreGluings : Type 0
 InteractionsAreGluings = (sig : Signature) (n : Net ℕ) (x : Redex ℕ ℕ) (name : ℕ → ℕ) (rest after : Net ℕ) → CanStep sig n x name → IsRestOf sig n x rest →
     IsStep sig n x name after ↔ IsGlued (two_parts rest x.member) (old_and_new name) (boundary n x (all_ends x)) after

@@ -1,6 +1,6 @@
--- The boundary ends of an interaction joined one after another, in place and in any order: the rest of the net and the right member stand
+-- The boundary ends of an interaction joined one after another, in place and in any order: the rest of the net and the right member are
 -- side by side in one net, and each joint makes the partners of the two sides of a boundary end partners of one another. No path is
--- followed. That an interaction is done so is this project's own choice.
+-- followed. Doing an interaction so is this project's own choice.
 use Rattle.std.specs.Prelude.{◌≡◌, ◌≢◌, ◌⊎◌, ◌↔◌, ◌+◌, ◌-◌, ◌<◌, ℕ, zero, suc, Bool, true, false, cond, nat_lt, List, [], ◌∷◌, length, Some}
 use Rattle.in_base.specs.Lists.{IsAmong}
 use Rattle.in_interaction.specs.Pieces.{AreDifferent}
@@ -17,7 +17,7 @@ outer_end n x e = length n.free + e
 abbrev pub inner_end : Net ℕ → Redex ℕ ℕ → ℕ → ℕ
 inner_end n x e = length n.free + length x.member.free + e
 
--- .. by the part and the number there
+-- .. by the part and the number in that part
 abbrev pub end_number : Net ℕ → Redex ℕ ℕ → ℕ → ℕ → ℕ
 end_number n x zero f = cond (nat_lt f (length x.member.free)) (outer_end n x f) (f - length x.member.free)
 end_number n x (suc i) f = inner_end n x f
@@ -30,13 +30,13 @@ pub record HasJoined (sig : Signature) (n : Net ℕ) (x : Redex ℕ ℕ) (name :
   pub joins : IsJoinedBy (two_parts rest x.member) (old_and_new name) (λ p. end_number n x p.0 p.1) (boundary n x joined) m
   pub leads_back : WiresLeadBack m
 
--- these boundary ends, and this one besides
+-- these boundary ends and this one
 pub record IsOneEndMore (joined more : ℕ → Bool) (e : ℕ) : Type 0 where
   pub before : joined e ≡ false
   pub now : more e ≡ true
   pub others : (d : ℕ) → d ≢ e → more d ≡ joined d
 
--- where a point of the net, and one of the right member, is when the two are side by side
+-- the place of a point of the net, and of one of the right member, in the net in which they are side by side
 abbrev pub IsOuterAt : Signature → Net ℕ → Redex ℕ ℕ → Point ℕ → Point ℕ → Type 0
 IsOuterAt sig n x (Port y i) u = ((y ≢ x.one) × (y ≢ x.two) × (u ≡ Port y i)) ⊎ ((e : ℕ) × (e < length x.member.free) × (boundary_port sig x e ≡ Port y i) × (u ≡ Free (outer_end n x e)))
 IsOuterAt sig n x (Free k) u = u ≡ Free k
@@ -61,7 +61,7 @@ abbrev pub TakenApartHasJoinedNone : Type 0
 TakenApartHasJoinedNone = (sig : Signature) (n : Net ℕ) (x : Redex ℕ ℕ) (name : ℕ → ℕ) (joined : ℕ → Bool) (m : Net ℕ) → CanStep sig n x name →
     ((e : ℕ) → joined e ≡ false) → IsTakenApart sig n x name m → HasJoined sig n x name joined m
 
--- nor is one where the rest and the right member are side by side
+-- none is joined either if the rest and the right member are side by side
 abbrev pub BesideHasJoinedNone : Type 0
 BesideHasJoinedNone = (sig : Signature) (n : Net ℕ) (x : Redex ℕ ℕ) (name : ℕ → ℕ) (joined : ℕ → Bool) (rest m : Net ℕ) →
     CanStep sig n x name → IsRestOf sig n x rest →
@@ -73,7 +73,7 @@ EndsAreJoinedInTurn = (sig : Signature) (n : Net ℕ) (x : Redex ℕ ℕ) (name 
     e < length x.member.free → HasJoined sig n x name joined m → IsOneEndMore joined more e → JoinsEnds m (outer_end n x e) (inner_end n x e) w →
     HasJoined sig n x name more w
 
--- the boundary ends from one on are those from the next one on, and it besides
+-- the boundary ends from one on are those from the next one on, and that one
 abbrev pub EndsFromHaveOneMore : Type 0
 EndsFromHaveOneMore = (x : Redex ℕ ℕ) (e : ℕ) → e < length x.member.free → IsOneEndMore (ends_from x (suc e)) (ends_from x e) e
 
@@ -81,7 +81,7 @@ EndsFromHaveOneMore = (x : Redex ℕ ℕ) (e : ℕ) → e < length x.member.free
 abbrev pub EndsFromNoneToAll : Type 0
 EndsFromNoneToAll = (x : Redex ℕ ℕ) → ((e : ℕ) → ends_from x (length x.member.free) e ≡ false) × ((e : ℕ) → e < length x.member.free → ends_from x 0 e ≡ true)
 
--- where all have been joined, in whatever order, the net is the one after the interaction
+-- if all have been joined, in any order, the net is the one after the interaction
 abbrev pub AllJoinedIsStep : Type 0
 AllJoinedIsStep = (sig : Signature) (n : Net ℕ) (x : Redex ℕ ℕ) (name : ℕ → ℕ) (joined : ℕ → Bool) (m : Net ℕ) → CanStep sig n x name →
     HasJoined sig n x name joined m → ((e : ℕ) → e < length x.member.free → joined e ≡ true) → m.free ≡ n.free → IsStep sig n x name m

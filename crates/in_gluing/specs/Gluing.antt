@@ -1,4 +1,4 @@
--- A net that is glued from parts: each part is a net with free ends of its own, and some of these are joined, two and two. Lafont 1990
+-- A net that is glued from parts: each part is a net with free ends, and some of these are joined in pairs. Lafont 1990
 -- reduces nets locally, and leaves the rest of a net unchanged; that a net is cut into parts and glued again is this project's own choice.
 use Rattle.std.specs.Prelude.{◌≡◌, ◌≢◌, ◌↔◌, ◌<◌, ℕ, List, length, map, slice_get, Option, Some, None, IsSome}
 use Rattle.in_symbols.specs.declared.symbols.PortType.{PortType}
@@ -12,7 +12,7 @@ pub record Cuts : Type 0 where
   pub across : ℕ × ℕ → Option (ℕ × ℕ)
   pub outer : List (ℕ × ℕ)
 
--- a free end that is joined to one
+-- a free end that is joined to another one
 abbrev pub IsJointEndAt : {A : Type 0} → Cuts → ℕ → Point A → Type 0
 IsJointEndAt cuts i (Port x k) = ⊥
 IsJointEndAt cuts i (Free e) = IsSome (cuts.across (i, e))
@@ -30,7 +30,7 @@ abbrev pub AreLinked : {A : Type 0} → (ℕ → Net A) → Cuts → ℕ × Poin
 AreLinked {A} parts cuts p q = (IsJointEnd cuts p → ⊥) × (IsJointEnd cuts q → ⊥) ×
     ((side : Side) × (es : List (ℕ × Point A)) × Alternates (glue_wire parts cuts) (IsJointEnd cuts) side p es q)
 
--- the point of the glued net that a part's point is: agents have names by their part, and the free ends that stay have their numbers
+-- the point of the glued net for a part's point: agents have names by their part, and the free ends that stay have their numbers
 abbrev pub IsPlaced : {A C : Type 0} → Cuts → (ℕ → A → C) → ℕ → Point A → Point C → Type 0
 IsPlaced cuts name i (Port x k) u = u ≡ Port (name i x) k
 IsPlaced cuts name i (Free e) u = (k : ℕ) × (u ≡ Free k) × (slice_get cuts.outer k ≡ Some (i, e))
@@ -59,6 +59,6 @@ pub record AreCuts {A : Type 0} (parts : ℕ → Net A) (cuts : Cuts) : Type 0 w
 abbrev pub placed_pair : {A B C : Type 0} → (ℕ → A → C) → ℕ → Redex A B → Redex C B
 placed_pair name i x = record { one = name i x.one; two = name i x.two; first = x.first; second = x.second; member = x.member }
 
--- one part is another net now, and the others are as they were
+-- one part is another net now, and the others are unchanged
 abbrev pub AreOthers : {A : Type 0} → ℕ → (ℕ → Net A) → (ℕ → Net A) → Type 0
 AreOthers i parts after = (j : ℕ) → j ≢ i → after j ≡ parts j

@@ -1,10 +1,10 @@
--- Gluing joint by joint, in place: the parts are side by side in one net, whose free ends have numbers of their own, and one joint after
+-- Gluing joint by joint, in place: the parts are side by side in one net, whose free ends have their own numbers, and one joint after
 -- another joins two of these. A free end that is joined has no wire from then on.
 use Rattle.std.specs.Prelude.{◌≡◌, ◌≢◌, ◌⊎◌, ◌↔◌, ℕ, List, map, slice_get, Some, None}
 use Rattle.in_net.specs.Nets.{Point, Port, Free, Net}
 use Rattle.in_gluing.specs.Gluing.{Cuts, AreLinked, IsGlued}
 
--- the point that a part's point is
+-- the point of the net for a part's point
 abbrev pub IsAtNumber : {A C : Type 0} → (ℕ × ℕ → ℕ) → (ℕ → A → C) → ℕ → Point A → Point C → Type 0
 IsAtNumber number name i (Port x k) u = u ≡ Port (name i x) k
 IsAtNumber number name i (Free e) u = u ≡ Free (number (i, e))
@@ -31,7 +31,7 @@ pub record IsOneMore (cuts more : Cuts) (one other : ℕ × ℕ) : Type 0 where
 abbrev pub IsNeither : {C : Type 0} → ℕ → ℕ → Point C → Type 0
 IsNeither a b u = (u ≢ Free a) × (u ≢ Free b)
 
--- they were partners before, or one was that of the one free end and the other that of the other one
+-- they were partners before, or one was the partner of one free end and the other that of the other free end
 abbrev pub ArePartnersAfter : {C : Type 0} → Net C → ℕ → ℕ → Point C → Point C → Type 0
 ArePartnersAfter m a b u v = (m.partner u ≡ Some v) ⊎ ((m.partner u ≡ Some (Free a)) × (m.partner (Free b) ≡ Some v)) ⊎ ((m.partner u ≡ Some (Free b)) × (m.partner (Free a) ≡ Some v))
 
@@ -40,7 +40,7 @@ pub record JoinsEnds {C : Type 0} (m : Net C) (a b : ℕ) (w : Net C) : Type 0 w
   pub agents : HasSameAgents w m
   pub wires : (u v : Point C) → (w.partner u ≡ Some v) ↔ (IsNeither a b u × IsNeither a b v × ArePartnersAfter m a b u v)
 
--- partners lead back, and no point is its own
+-- partners lead back, and no point is its own partner
 abbrev pub WiresLeadBack : {C : Type 0} → Net C → Type 0
 WiresLeadBack {C} m = ((u v : Point C) → m.partner u ≡ Some v → m.partner v ≡ Some u) × ((u : Point C) → m.partner u ≢ Some u)
 
@@ -48,7 +48,7 @@ WiresLeadBack {C} m = ((u v : Point C) → m.partner u ≡ Some v → m.partner 
 abbrev pub IsInUse : {A : Type 0} → (ℕ → Net A) → Cuts → ℕ × ℕ → Type 0
 IsInUse {A} parts cuts p = ((u : Point A) × ((parts p.0).partner (Free p.1) ≡ Some u)) ⊎ ((u : Point A) × ((parts p.0).partner u ≡ Some (Free p.1))) ⊎ ((q : ℕ × ℕ) × (cuts.across q ≡ Some p))
 
--- no other one that is in use has this one's number
+-- no other free end in use has this one's number
 abbrev pub HasOwnNumber : {A : Type 0} → (ℕ → Net A) → Cuts → (ℕ × ℕ → ℕ) → ℕ × ℕ → Type 0
 HasOwnNumber parts cuts number r = (p : ℕ × ℕ) → IsInUse parts cuts p → number p ≡ number r → p ≡ r
 
@@ -58,14 +58,14 @@ JoinsNext = (parts : ℕ → Net ℕ) (name : ℕ → ℕ → ℕ) (number : ℕ
     HasOwnNumber parts more number one → HasOwnNumber parts more number other → ((p q : ℕ × ℕ) → cuts.across p ≡ Some q → cuts.across q ≡ Some p) → WiresLeadBack m →
     IsJoinedBy parts name number cuts m → IsOneMore cuts more one other → JoinsEnds m (number one) (number other) w → IsJoinedBy parts name number more w
 
--- ---- where gluing begins, and where it ends
+-- ---- the beginning and the end of gluing
 
 -- the parts are side by side: the wires are those of the parts
 pub record IsBeside {A C : Type 0} (parts : ℕ → Net A) (name : ℕ → A → C) (number : ℕ × ℕ → ℕ) (m : Net C) : Type 0 where
   pub agents : HasAgentsOfParts parts name m
   pub wires : (u v : Point C) → (m.partner u ≡ Some v) ↔ ((i : ℕ) × (p q : Point A) × IsAtNumber number name i p u × IsAtNumber number name i q v × ((parts i).partner p ≡ Some q))
 
--- .. so that they are joined by no joint
+-- .. so that no joint joins them
 abbrev pub BesideJoinsNone : Type 0
 BesideJoinsNone = (parts : ℕ → Net ℕ) (name : ℕ → ℕ → ℕ) (number : ℕ × ℕ → ℕ) (cuts : Cuts) (m : Net ℕ) →
     ((p : ℕ × ℕ) → cuts.across p ≡ None) → IsBeside parts name number m → IsJoinedBy parts name number cuts m
@@ -80,23 +80,23 @@ pub record Renumbers {A C : Type 0} (parts : ℕ → Net A) (number : ℕ × ℕ
   pub wires : (u v : Point C) → (w.partner u ≡ Some v) ↔ ((x y : Point C) × IsRenumbered number cuts.outer x u × IsRenumbered number cuts.outer y v × (m.partner x ≡ Some y))
   pub free : map (λ t. Some t) w.free ≡ map (λ p. slice_get (parts p.0).free p.1) cuts.outer
 
--- where all joints are made, the net is glued
+-- if all joints are made, the net is glued
 abbrev pub AllJoinedIsGlued : Type 0
 AllJoinedIsGlued = (parts : ℕ → Net ℕ) (name : ℕ → ℕ → ℕ) (number : ℕ × ℕ → ℕ) (cuts : Cuts) (m w : Net ℕ) →
     ((k : ℕ) (p : ℕ × ℕ) → slice_get cuts.outer k ≡ Some p → HasOwnNumber parts cuts number p) →
     IsJoinedBy parts name number cuts m → Renumbers parts number cuts m w → IsGlued parts name cuts w
 
--- ---- a joint can always be made, and a wire be cut
+-- ---- each joint can be made, and undoes a cut
 
--- what a joint makes of a net exists, and its partners lead back. Where the two free ends are partners of one another, the cycle is gone
+-- there is a net that a joint makes, and its partners lead back. If the two free ends are partners of one another, the cycle is gone
 abbrev pub JoinExists : Type 0
 JoinExists = (m : Net ℕ) (a b : ℕ) → a ≢ b → WiresLeadBack m → (w : Net ℕ) × JoinsEnds m a b w × WiresLeadBack w
 
--- .. whatever net a joint makes
+-- .. for each net that a joint makes
 abbrev pub JoinsLeadBack : Type 0
 JoinsLeadBack = (m : Net ℕ) (a b : ℕ) (w : Net ℕ) → a ≢ b → WiresLeadBack m → JoinsEnds m a b w → WiresLeadBack w
 
--- the wire between these two points is cut: the first one is at this new free end, the second one at that
+-- the wire between these two points is cut: the first one is at the first new free end, the second one at the second
 pub record CutsWire {C : Type 0} (w : Net C) (u v : Point C) (a b : ℕ) (m : Net C) : Type 0 where
   pub agents : HasSameAgents w m
   pub wires : (x y : Point C) → (m.partner x ≡ Some y) ↔

@@ -21,14 +21,14 @@ FramesGlue = (sig : Signature) (parts after : ℕ → Net ℕ) (name : ℕ → �
 abbrev pub KeepsApart : (ℕ → Net ℕ) → (ℕ → ℕ → ℕ) → Type 0
 KeepsApart parts name = (i j x y : ℕ) → IsSome ((parts i).symbol x) → IsSome ((parts j).symbol y) → name i x ≡ name j y → (i ≡ j) × (x ≡ y)
 
--- each net has, under names that keep its agents apart, a net under these names
+-- under names that keep its agents apart, each net has a renamed net
 abbrev pub RenamedExists : Type 0
 RenamedExists = (sig : Signature) (n : Net ℕ) (f : ℕ → ℕ) → IsNet sig n → ((x y : ℕ) → IsSome (n.symbol x) → IsSome (n.symbol y) → f x ≡ f y → x ≡ y) →
     (m : Net ℕ) × IsRenamed f n m
 
 -- ---- names
 
--- there are names that stay apart
+-- there are names that keep all agents apart
 abbrev pub NamesExist : Type 0
 NamesExist = (name : ℕ → ℕ → ℕ) × AreAllApart name
 
@@ -53,7 +53,7 @@ abbrev pub IsPairAcross : (ℕ → Net ℕ) → (ℕ → ℕ → ℕ) → Cuts �
 IsPairAcross parts name cuts a b = (i x e j y f : ℕ) × (name i x ≡ a) × (name j y ≡ b) × ((parts i).partner (Port x 0) ≡ Some (Free e)) ×
     ((parts j).partner (Free f) ≡ Some (Port y 0)) × MeetByJoints parts cuts (i, Free e) (j, Free f)
 
--- the active pairs of the whole are those of the parts, and those that are made where they are joined
+-- the active pairs of the whole are those of the parts, and those that joints make
 abbrev pub PairsAreOfPartsOrMade : Type 0
 PairsAreOfPartsOrMade = (parts : ℕ → Net ℕ) (name : ℕ → ℕ → ℕ) (cuts : Cuts) (whole : Net ℕ) →
     IsGlued parts name cuts whole → ((p q : ℕ × ℕ) → cuts.across p ≡ Some q → cuts.across q ≡ Some p) →

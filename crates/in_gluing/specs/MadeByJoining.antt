@@ -1,4 +1,4 @@
--- The active pairs that an interaction makes, where its boundary ends are joined from the highest to the lowest: each is made at its lowest
+-- The active pairs that an interaction makes, if its boundary ends are joined from the highest to the lowest: each is made at its lowest
 -- one. The order is this project's own choice.
 use Rattle.std.specs.Prelude.{◌≡◌, ◌⊎◌, ◌↔◌, ◌<◌, ◌≤◌, ◌++◌, ℕ, suc, List, [], ◌∷◌, length, reverse, slice_get, Some}
 use Rattle.in_symbols.specs.Tables.{Tables}
@@ -13,13 +13,13 @@ use Rattle.in_interaction.specs.Made.{AtAgents, IsLowestEnd, HasSymbolAfter, IsM
 use Rattle.in_gluing.specs.AsGluing.{CanStep, ends_from}
 use Rattle.in_gluing.specs.EndByEnd.{HasJoined, outer_end, inner_end}
 
--- the one point is the partner of one side of this boundary end, and the other point that of its other side
+-- one point is the partner of one side of this boundary end, and the other point that of the other side
 abbrev pub AreAtSides : Net ℕ → Redex ℕ ℕ → ℕ → Net ℕ → Point ℕ → Point ℕ → Type 0
 AreAtSides n x e m u v = ((m.partner (Free (outer_end n x e)) ≡ Some u) × (m.partner (Free (inner_end n x e)) ≡ Some v))
     ⊎ ((m.partner (Free (inner_end n x e)) ≡ Some u) × (m.partner (Free (outer_end n x e)) ≡ Some v))
 
--- where the boundary ends above one are joined, the two ports at its sides, which joining it makes partners, are those between which it is
--- the lowest end
+-- if the boundary ends above one are joined, joining it makes two ports at its sides partners exactly if it is the lowest end between
+-- them
 abbrev pub JoinsAtLowestEnd : Type 0
 JoinsAtLowestEnd = (sig : Signature) (n : Net ℕ) (x : Redex ℕ ℕ) (name : ℕ → ℕ) (e : ℕ) (m : Net ℕ) (y i z j : ℕ) →
     CanStep sig n x name → e < length x.member.free → HasJoined sig n x name (ends_from x (suc e)) m →
@@ -31,7 +31,7 @@ JoinsAtLowestEnd = (sig : Signature) (n : Net ℕ) (x : Redex ℕ ℕ) (name : �
 abbrev pub CanStepAt : AtAgents
 CanStepAt t n r a b name = CanStep (signature_of t) (net_of n) (redex_at r a.0 b.0) name
 
--- how many boundary ends there are
+-- the number of boundary ends
 abbrev pub ends_of : RuleParts → ℕ
 ends_of r = length r.member.free
 
@@ -44,39 +44,39 @@ pub record IsPairAtSides (t : Tables) (n : Parts) (r : RuleParts) (a b : AgentNo
   pub sides : AreAtSides (net_of n) (redex_at r a.0 b.0) e m (Port q.0.0 0) (Port q.1.0 0)
   pub order : StandsFirst t first second q.0 q.1
 
--- joining this boundary end, after those above it, makes a pair exactly when two principal ports are at its sides: the one that has it
--- for its lowest end
+-- joining this boundary end, after those above it, makes a pair exactly when two principal ports are at its sides: the pair that has it
+-- as its lowest end
 abbrev pub PairsAreMadeWhereJoined : Type 0
 PairsAreMadeWhereJoined = (t : Tables) (n : Parts) (r : RuleParts) (a b : AgentNo) (name : ℕ → ℕ) (e : ℕ) (m : Net ℕ) →
     CanStepAt t n r a b name → e < ends_of r →
     HasJoined (signature_of t) (net_of n) (redex_at r a.0 b.0) name (ends_from (redex_at r a.0 b.0) (suc e)) m →
     (q : AgentNo × AgentNo) → IsMade t n r a b name e q ↔ IsPairAtSides t n r a b name e m q
 
--- these are all pairs that have this boundary end or a higher one for their lowest, each once, in the order of these
+-- these are all pairs whose lowest boundary end is this one or a higher one, each once, in the order of these ends
 pub record AreMadeFrom (t : Tables) (n : Parts) (r : RuleParts) (a b : AgentNo) (name : ℕ → ℕ) (end : ℕ) (qs : List (AgentNo × AgentNo)) : Type 0 where
   pub each : (k : ℕ) (q : AgentNo × AgentNo) → slice_get qs k ≡ Some q → (e : ℕ) × (end ≤ e) × IsMade t n r a b name e q
   pub all : (e : ℕ) (q : AgentNo × AgentNo) → end ≤ e → IsMade t n r a b name e q → (k : ℕ) × (slice_get qs k ≡ Some q)
   pub rising : HaveRisingEnds t n r a b name qs
 
--- .. as they are made, the highest end first
+-- .. in the order in which they are made, the highest end first
 abbrev pub AreMadeSoFar : Tables → Parts → RuleParts → AgentNo → AgentNo → (ℕ → ℕ) → ℕ → List (AgentNo × AgentNo) → Type 0
 AreMadeSoFar t n r a b name end made = AreMadeFrom t n r a b name end (reverse made)
 
--- before any is joined none is made
+-- before any boundary end is joined, no pair is made
 abbrev pub NoneIsMadeFirst : Type 0
 NoneIsMadeFirst = (t : Tables) (n : Parts) (r : RuleParts) (a b : AgentNo) (name : ℕ → ℕ) → CanStepAt t n r a b name → AreMadeSoFar t n r a b name (ends_of r) []
 
--- the pair that is made at the next boundary end is the one more
+-- the pair that is made at the next boundary end is the only one more
 abbrev pub OneMoreIsMade : Type 0
 OneMoreIsMade = (t : Tables) (n : Parts) (r : RuleParts) (a b : AgentNo) (name : ℕ → ℕ) (end : ℕ) (made : List (AgentNo × AgentNo)) (q : AgentNo × AgentNo) →
     CanStepAt t n r a b name → AreMadeSoFar t n r a b name (suc end) made → IsMade t n r a b name end q → AreMadeSoFar t n r a b name end (made ++ q ∷ [])
 
--- .. and if none is made there, there is no more
+-- .. and if no pair is made there, there is no pair more
 abbrev pub NoMoreIsMade : Type 0
 NoMoreIsMade = (t : Tables) (n : Parts) (r : RuleParts) (a b : AgentNo) (name : ℕ → ℕ) (end : ℕ) (made : List (AgentNo × AgentNo)) →
     AreMadeSoFar t n r a b name (suc end) made → ((q : AgentNo × AgentNo) → IsMade t n r a b name end q → ⊥) → AreMadeSoFar t n r a b name end made
 
--- when all are joined, the pairs turned round are those that the interaction makes over boundary ends
+-- when all are joined, the pairs in reverse order are those that the interaction makes over boundary ends
 abbrev pub AllMadeAreOverEnds : Type 0
 AllMadeAreOverEnds = (t : Tables) (n : Parts) (r : RuleParts) (a b : AgentNo) (name : ℕ → ℕ) (made : List (AgentNo × AgentNo)) → AreMadeSoFar t n r a b name 0 made →
     AreMadeOverEnds t n r a b name (reverse made)

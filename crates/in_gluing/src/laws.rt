@@ -8,7 +8,7 @@ ghost use Rattle.in_gluing.specs.MadeByJoining.{AllMadeAreOverEnds, JoinsAtLowes
 ghost use Rattle.in_gluing.specs.Orders.{InteractionsCommute, OrdersAreBothAtOnce, OrdersAreOne};
 ghost use Rattle.in_gluing.specs.SideBySide.{BesideIsOne, BesidePartsAreAlike, BesidePartsAreNets};
 
-/// Under birth names, two interactions on different active pairs lead, each followed by the other, to one net.
+/// Under birth names, two interactions on different active pairs, in either order, lead to one net.
 pub fn interactions_commute()
     ensures { InteractionsCommute }
 {}
@@ -44,7 +44,7 @@ pub fn names_exist()
     ensures { NamesExist }
 {}
 
-/// Under names that keep a net's agents apart there is a net.
+/// Under names that keep a net's agents apart, the net has a renamed net.
 pub fn renamed_exists()
     ensures { RenamedExists }
 {}
@@ -54,18 +54,18 @@ pub fn glued_once()
     ensures { GluedOnce }
 {}
 
-/// A net in which parts are side by side is these parts joined by no joint.
+/// A net in which parts are side by side is these parts without any joint.
 pub fn beside_joins_none()
     ensures { BesideJoinsNone }
 {}
 
-/// The next joint is made by making the partners of its two free ends partners of one another. Each is to be the only free end in use of its
+/// The next joint is made by making the partners of its two free ends partners of one another. Each has to be the only free end in use of its
 /// number.
 pub fn joins_next()
     ensures { JoinsNext }
 {}
 
-/// Where all joints are made, and the free ends that stay have their numbers, the net is glued.
+/// If all joints are made, and the free ends that stay have their numbers, the net is glued.
 pub fn all_joined_is_glued()
     ensures { AllJoinedIsGlued }
 {}
@@ -85,7 +85,7 @@ pub fn cuts_are_joined()
     ensures { CutsAreJoined }
 {}
 
-/// There is a net that is left of a net without an active pair of it.
+/// The rest of a net without one of its active pairs exists.
 pub fn rest_exists()
     ensures { RestExists }
 {}
@@ -125,7 +125,7 @@ pub fn ends_are_joined_in_turn()
     ensures { EndsAreJoinedInTurn }
 {}
 
-/// The boundary ends from one on are those from the next one on, and it besides.
+/// The boundary ends from one on are those from the next one on, and that one.
 pub fn ends_from_have_one_more()
     ensures { EndsFromHaveOneMore }
 {}
@@ -135,7 +135,7 @@ pub fn ends_from_none_to_all()
     ensures { EndsFromNoneToAll }
 {}
 
-/// Where all boundary ends are joined, the net is the one after the interaction.
+/// If all boundary ends are joined, the net is the one after the interaction.
 pub fn all_joined_is_step()
     ensures { AllJoinedIsStep }
 {}
@@ -145,12 +145,12 @@ pub fn any_order_is_step()
     ensures { AnyOrderIsStep }
 {}
 
-/// Where the boundary ends are joined from the highest to the lowest, one makes two ports partners exactly if it is the lowest end between them.
+/// If the boundary ends are joined from the highest to the lowest, one makes two ports partners exactly if it is the lowest end between them.
 pub fn joins_at_lowest_end()
     ensures { JoinsAtLowestEnd }
 {}
 
-/// Where the boundary ends are joined from the highest to the lowest, one makes an active pair exactly if two principal ports are at its sides;
+/// If the boundary ends are joined from the highest to the lowest, one makes an active pair exactly if two principal ports are at its sides;
 /// it is the pair of which this is the lowest end.
 pub fn pairs_are_made_where_joined()
     ensures { PairsAreMadeWhereJoined }
@@ -161,17 +161,17 @@ pub fn none_is_made_first()
     ensures { NoneIsMadeFirst }
 {}
 
-/// The pair that is made at the next boundary end is the one pair more.
+/// The pair that is made at the next boundary end is the only pair more.
 pub fn one_more_is_made()
     ensures { OneMoreIsMade }
 {}
 
-/// Where none is made at the next boundary end there is no pair more.
+/// If no pair is made at the next boundary end, there is no pair more.
 pub fn no_more_is_made()
     ensures { NoMoreIsMade }
 {}
 
-/// When all boundary ends are joined, the pairs turned round are those that the interaction makes over boundary ends, in their order.
+/// When all boundary ends are joined, the pairs in reverse order are those that the interaction makes over boundary ends, in their order.
 pub fn all_made_are_over_ends()
     ensures { AllMadeAreOverEnds }
 {}
@@ -181,8 +181,8 @@ pub fn beside_parts_are_nets()
     ensures { BesidePartsAreNets }
 {}
 
-/// The symbols of the first part determine which nets are side by side in a net, but for the numbers that agents of the second have by
-/// themselves.
+/// The symbols of the first part determine which nets are side by side in a net, except for the numbers that agents of the second have in
+/// it.
 pub fn beside_parts_are_alike()
     ensures { BesidePartsAreAlike }
 {}

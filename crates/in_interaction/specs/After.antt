@@ -12,11 +12,11 @@ use Rattle.in_net.specs.Nets as nets
 use Rattle.in_net.specs.Parts.{Parts, cell_in}
 use Rattle.in_net.specs.Rules.{RuleParts}
 
--- the ends lead, one by one, to where the paths lead that begin at the ports of this agent
+-- the ends of this agent lead to the ends of the paths from its ports
 abbrev pub AreEndsAfter : SiteParts → ℕ → List Point → Type 0
 AreEndsAfter s y ends = (i : ℕ) (q : Point) → slice_get ends i ≡ Some q → IsPartnerAfter s (nets.Port y i) q
 
--- an agent under this number with the symbol of one, and as many places
+-- an agent under this number, with the symbol and the number of places of the other cell
 pub record IsAgentAfter (s : SiteParts) (y : ℕ) (c d : Cell) : Type 0 where
   pub symbol : d.symbol ≡ c.symbol
   pub many : length d.ends ≡ length c.ends
@@ -35,7 +35,7 @@ pub record IsNewAt (s : SiteParts) (y : ℕ) (c : Cell) : Type 0 where
   pub name : unused s.net.cells agent ≡ y
   pub there : cell_in s.rule.member agent ≡ Some c
 
--- the cell of that number after: that of an agent that stays or of a new one, and of no other
+-- the cell of that number after the interaction: that of an agent that stays, or of a new one, and of no other
 pub record IsCellAfter (s : SiteParts) (y : ℕ) (o : Option Cell) : Type 0 where
   pub stays : (c : Cell) → StaysAt s y c → (d : Cell) × (o ≡ Some d) × IsAgentAfter s y c d
   pub fresh : (c : Cell) → IsNewAt s y c → (d : Cell) × (o ≡ Some d) × IsAgentAfter s y c d
@@ -68,7 +68,7 @@ pub record IsAfterPair (n : Parts) (r : RuleParts) (a b : AgentNo) (x : After) :
   pub site : IsSite (record { net = n; rule = r; one = a; two = b; first = first; names = names })
   pub after : IsAfter (record { net = n; rule = r; one = a; two = b; first = first; names = names }) x
 
--- a free end keeps its name and type, and leads to where its path lands
+-- a free end keeps its name and type, and leads to the end of its path
 pub record IsFreeAfter (s : SiteParts) (k : ℕ) (f g : FreeEnd) : Type 0 where
   pub name : g.name ≡ f.name
   pub kind : g.kind ≡ f.kind
@@ -89,7 +89,7 @@ AreUnused cs count names = (length names ≡ count) × ((k : ℕ) → k < count 
 abbrev pub AreFirstUnused : List (Option Cell) → List AgentNo → Type 0
 AreFirstUnused cs found = (k : ℕ) → k < length found → slice_get found k ≡ Some (record { 0 = unused cs k })
 
--- no more of them than `count`, of which the rest is past the last cell
+-- they are no more than `count`, and the rest of `count` numbers is past the last cell
 pub record AreEmptyNumbers (cs : List (Option Cell)) (count : ℕ) (found : List AgentNo) : Type 0 where
   pub few : length found ≤ count
   pub names : AreFirstUnused cs found

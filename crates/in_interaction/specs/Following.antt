@@ -1,4 +1,4 @@
--- Where an interaction takes place, and the path that continues from a point, between the net outside the pair and the right member inside
+-- A site of an interaction, and the path that continues from a point, between the net outside the pair and the right member inside
 -- it. Words of the inner contracts of `interact`.
 use Rattle.std.specs.Prelude.{◌≡◌, ◌<◌, ◌≤◌, ℕ, zero, suc, ◌+◌, ◌-◌, ◌*◌, nat_eq, nat_lt, cond, List, length, slice_get, Option, Some, None, count_by, is_some}
 use Rattle.in_syntax.specs.Grammar.{max_ports}
@@ -15,7 +15,7 @@ use Rattle.in_net.specs.NetFaults.{max_member_agents}
 use Rattle.in_net.specs.Parts.{Parts, IsPointOf, IsWhole, cell_in, partner_in}
 use Rattle.in_net.specs.Rules.{RuleParts}
 
--- a net, a rule, two agents, how many auxiliary places the first of them has, and the numbers of the new agents
+-- a net, a rule, two agents, the number of auxiliary places of the first one, and the numbers of the new agents
 pub record SiteParts : Type 0 where
   pub net : Parts
   pub rule : RuleParts
@@ -24,7 +24,7 @@ pub record SiteParts : Type 0 where
   pub first : ℕ
   pub names : List AgentNo
 
--- the two can interact, over some tables, and the numbers are the least that are unused
+-- the two can interact, over some tables, and the numbers are the least unused ones
 pub record IsSite (s : SiteParts) : Type 0 where
   pub over : (t : Tables) × CanInteract t s.net s.rule s.one s.two
   pub whole : IsWhole s.net
@@ -35,7 +35,7 @@ pub record IsSite (s : SiteParts) : Type 0 where
   pub many : length s.names ≡ length s.rule.member.cells
   pub names : (k : ℕ) → k < length s.names → slice_get s.names k ≡ Some (record { 0 = unused s.net.cells k })
 
--- the boundary end that a port of the pair is: the first agent's auxiliary places come first
+-- the boundary end of a port of the pair: the first agent's auxiliary places come first
 abbrev pub end_by : AgentNo → AgentNo → ℕ → AgentNo → ℕ → Option ℕ
 end_by one two first x zero = None
 end_by one two first x (suc i) = cond (nat_eq x.0 one.0) (Some i) (cond (nat_eq x.0 two.0) (Some (first + i)) None)
@@ -47,12 +47,12 @@ end_of one two first (Free k) = None
 abbrev pub port_of : AgentNo → AgentNo → ℕ → ℕ → Point
 port_of one two first e = cond (nat_lt e first) (Port one (e + 1)) (Port two (e - first + 1))
 
--- the point to which a turn continues from inside: a new agent's port, where the path ends, or a boundary end that is left outside
+-- a turn continues from inside to this point: a new agent's port, where the path ends, or a boundary end that is left outside
 abbrev pub OnInner : SiteParts → (Point → Type 0) → Point → Point → Type 0
 OnInner s Rest v (Port l j) = (y : AgentNo) × (slice_get s.names l.0 ≡ Some y) × (Port y j ≡ v)
 OnInner s Rest v (Free f) = (r : Point) × (partner_in s.net (port_of s.one s.two s.first f) ≡ Some r) × Rest r
 
--- .. from a point outside: it is where the path ends, or a boundary end that is entered
+-- .. from a point outside: the path ends there, or it enters a boundary end
 abbrev pub OnEnd : SiteParts → (Point → Type 0) → Point → Point → Option ℕ → Type 0
 OnEnd s Rest at v None = at ≡ v
 OnEnd s Rest at v (Some e) = (q : Point) × (partner_in s.rule.member (Free e) ≡ Some q) × OnInner s Rest v q

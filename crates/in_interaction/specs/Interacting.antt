@@ -1,5 +1,5 @@
--- What `interact` makes of the parts of a net. Lafont 1990: the right member of the rule takes the place of the active pair. Which
--- numbers the new agents get, and how wires are numbered, is this project's own choice.
+-- The parts of a net after `interact`. Lafont 1990: the right member of the rule takes the place of the active pair. The numbers of the new
+-- agents and of the wires are this project's own choice.
 use Rattle.std.specs.Prelude.{◌≡◌, ◌≤◌, ◌<◌, ℕ, zero, suc, max, false, List, [], ◌∷◌, ◌++◌, length, map, Option, Some, None, count_by, is_some}
 use Rattle.in_symbols.specs.Tables.{Tables}
 use Rattle.in_net.specs.declared.nets.AgentNo.{AgentNo}
@@ -20,7 +20,7 @@ unused (Some c ∷ cs) k = suc (unused cs k)
 unused (None ∷ cs) zero = zero
 unused (None ∷ cs) (suc k) = suc (unused cs k)
 
--- the numbers are as many as they were, or as many as the last of a given number of new agents needs
+-- how many numbers there are after: as many as before, or as many as the last of a given number of new agents needs
 abbrev pub numbers_after : List (Option Cell) → ℕ → ℕ
 numbers_after cs zero = length cs
 numbers_after cs (suc k) = max (length cs) (suc (unused cs k))
@@ -55,7 +55,7 @@ pub record InteractsAs (t : Tables) (n : Parts) (r : RuleParts) (a b : AgentNo) 
   pub over : IsOver t m
   pub names : map (λ f. f.name) m.free ≡ map (λ f. f.name) n.free
 
--- the net after the interaction, whichever tables the two are over: the new agents have the least numbers that the old net doesn't have,
+-- the net after the interaction, for any tables that the two are over: the new agents have the least numbers that the old net doesn't have,
 -- in the order of the right member. It has the same free ends, is no longer as built, and its wires are numbered anew
 pub record Interacts (n : Parts) (r : RuleParts) (a b : AgentNo) (m : Parts) : Type 0 where
   pub step : (t : Tables) → CanInteract t n r a b → IsStep (signature_of t) (net_of n) (redex_at r a.0 b.0) (unused n.cells) (net_of m)

@@ -19,7 +19,7 @@ abbrev pub CirclesFallApart : Type 0
 CirclesFallApart = (sig : Signature) (n : Net ℕ) (x : Redex ℕ ℕ) (name : ℕ → ℕ) (after : Net ℕ) → AreClasses sig → IsNet sig n → IsNet sig x.member → IsRedex sig n x → IsStep sig n x name after →
     (circle : CrossingCircle (graph_of sig after)) → IsMadeOf sig n x name (circle.first ∷ circle.rest)
 
--- where the net before has no crossing circle, a walk round the pair joins two boundary ends of one class node
+-- if the net before has no crossing circle, a walk round the pair joins two boundary ends of one class node
 abbrev pub OuterPiecesArePassages : Type 0
 OuterPiecesArePassages = (sig : Signature) (n : Net ℕ) (x : Redex ℕ ℕ) → AreClasses sig → IsNet sig n → IsRedex sig n x → (CrossingCircle (graph_of sig n) → ⊥) →
     (e f : ℕ) (ps : List (Passage ℕ)) → IsOuterPiece sig n x e f ps → (class_node sig x e ≡ class_node sig x f) × (e ≢ f)

@@ -22,7 +22,7 @@ AreEndsOf ends free = map (λ f. f.end) free ≡ ends
 abbrev pub wire_between : Point → Point → Wire
 wire_between p q = record { one = p; other = q; place = record { from = 0; to = 0; line = 0; col = 0 } }
 
--- the wire goes last, if its first point comes first
+-- the wire is added at the end, if its first point comes first
 abbrev pub AddsWire : Point → Point → List Wire → List Wire → Type 0
 AddsWire p q old new = (ComesBefore p q × (new ≡ old ++ wire_between p q ∷ [])) ⊎ ((ComesBefore p q → ⊥) × (new ≡ old))
 

@@ -1,5 +1,5 @@
 -- The active pairs that an interaction makes. Lafont 1990: the right member takes the place of the active pair on the same boundary ends;
--- where this joins two principal ports by one wire, there is a new active pair. Which of the two is first, and the order of the new
+-- if this joins two principal ports by one wire, there is a new active pair. Which of the two is first, and the order of the new
 -- pairs, is this project's own choice. All this is under any names of the new agents.
 use Rattle.std.specs.Prelude.{◌≡◌, ◌≢◌, ◌⊎◌, ◌<◌, ◌≤◌, ◌++◌, ℕ, List, map, slice_get, Some}
 use Rattle.in_base.specs.Lists.{IsAmong}
@@ -13,7 +13,7 @@ use Rattle.in_net.specs.Parts.{Parts, symbol_in}
 use Rattle.in_net.specs.Rules.{RuleParts}
 use Rattle.in_interaction.specs.Queues.{agents_at, both, IsFirstQueue}
 
--- what is said of a rule at two agents of a net, under names of the new agents
+-- a property of a rule at two agents of a net, under names of the new agents
 abbrev pub AtAgents : Type 1
 AtAgents = Tables → Parts → RuleParts → AgentNo → AgentNo → (ℕ → ℕ) → Type 0
 
@@ -43,7 +43,7 @@ pub record IsMade (t : Tables) (n : Parts) (r : RuleParts) (a b : AgentNo) (name
   pub path : IsLowestEnd (signature_of t) (net_of n) (redex_at r a.0 b.0) name e (Port q.0.0 0) (Port q.1.0 0)
   pub order : StandsFirst t first second q.0 q.1
 
--- of two of these that are made at boundary ends, the end of the earlier one is lower
+-- of two of these pairs that are made at boundary ends, the earlier one has the lower end
 abbrev pub HaveRisingEnds : Tables → Parts → RuleParts → AgentNo → AgentNo → (ℕ → ℕ) → List (AgentNo × AgentNo) → Type 0
 HaveRisingEnds t n r a b name qs = (j k d e : ℕ) (p q : AgentNo × AgentNo) → j < k → slice_get qs j ≡ Some p → slice_get qs k ≡ Some q →
     IsMade t n r a b name d p → IsMade t n r a b name e q → d < e

@@ -25,14 +25,14 @@ side_of code_side.Inner = Inner
 abbrev pub redex_of : SiteParts → Redex ℕ ℕ
 redex_of s = redex_at s.rule s.one.0 s.two.0
 
--- the port of the pair that is this boundary end
+-- the port of the pair at this boundary end
 abbrev pub end_point : Tables → SiteParts → ℕ → Point ℕ
 end_point t s e = Port (end_agent (signature_of t) (redex_of s) e) (end_place (signature_of t) (redex_of s) e)
 
 abbrev pub SiteWire : Tables → SiteParts → Side → Point ℕ → Point ℕ → Type 0
 SiteWire t s = wire_of (signature_of t) (net_of s.net) (redex_of s) (unused s.net.cells)
 
--- a path leaves this boundary end by that side, goes through these and ends at a point that stays
+-- a path leaves this boundary end by that side, goes through these ends, and ends at a point that stays
 abbrev pub Leaves : Tables → SiteParts → Side → ℕ → List (Point ℕ) → Point ℕ → Type 0
 Leaves t s side e es v = Alternates (SiteWire t s) (IsOfPair (redex_of s)) side (end_point t s e) es v × (IsOfPair (redex_of s) v → ⊥)
 
@@ -40,12 +40,12 @@ Leaves t s side e es v = Alternates (SiteWire t s) (IsOfPair (redex_of s)) side 
 abbrev pub Over : SiteParts → Tables → Type 0
 Over s t = CanInteract t s.net s.rule s.one s.two
 
--- where the wire of a boundary end leads on a side
+-- the wire of a boundary end on a side leads there
 abbrev pub LeadsTo : SiteParts → Side → ℕ → Reached → Type 0
 LeadsTo s side e (End f) = (f < length s.rule.member.free) × ((t : Tables) → Over s t → SiteWire t s side (end_point t s e) (end_point t s f))
 LeadsTo s side e (Staying p) = (t : Tables) → Over s t → SiteWire t s side (end_point t s e) (point_of p) × (IsOfPair (redex_of s) (point_of p) → ⊥)
 
--- none of the boundary ends that this path goes through is lower
+-- no boundary end that this path goes through is lower
 abbrev pub NoneLower : Tables → SiteParts → ℕ → List (Point ℕ) → Type 0
 NoneLower t s e es = (d : ℕ) → IsAmong (end_point t s d) es → e ≤ d
 
@@ -66,7 +66,7 @@ abbrev pub IsLanding : SiteParts → Side → ℕ → Option coded.Point → Typ
 IsLanding s side e None = LandsNowhere s side e
 IsLanding s side e (Some p) = LandsAt s side e p
 
--- after at least `count` wires of the path from a boundary end it leaves another one, and has gone through no lower one
+-- after at least `count` wires, the path from a boundary end leaves another one, and has gone through no lower one
 pub record IsOnWay (s : SiteParts) (side : Side) (e : ℕ) (by : Side) (at count : ℕ) : Type 0 where
   pub within : at < length s.rule.member.free
   pub ahead : (t : Tables) → Over s t → (es : List (Point ℕ)) (v : Point ℕ) → Leaves t s side e es v →
@@ -74,7 +74,7 @@ pub record IsOnWay (s : SiteParts) (side : Side) (e : ℕ) (by : Side) (at count
   pub behind : (t : Tables) → Over s t → (fs : List (Point ℕ)) (v : Point ℕ) → Leaves t s by at fs v → NoneLower t s e fs →
       (es : List (Point ℕ)) × Leaves t s side e es v × NoneLower t s e es
 
--- the agent whose principal port a point is
+-- the agent with this principal port
 abbrev pub principal_of : coded.Point → Option AgentNo
 principal_of (coded_point.Port x zero) = Some x
 principal_of (coded_point.Port x (suc i)) = None
@@ -101,6 +101,6 @@ pub record AreMadeBelow (t : Tables) (s : SiteParts) (end : ℕ) (qs : List (Age
 abbrev pub renumbered : SiteParts → ℕ × ℕ → AgentNo × AgentNo
 renumbered s q = agents_at (both (unused s.net.cells) q)
 
--- the right member's own pairs come after those that were there
+-- the right member's own pairs come after the earlier ones
 abbrev pub AddsOwn : Tables → SiteParts → List (AgentNo × AgentNo) → List (AgentNo × AgentNo) → Type 0
 AddsOwn t s before after = (own : List (ℕ × ℕ)) × IsFirstQueue t s.rule.member own × (after ≡ before ++ map (renumbered s) own)

@@ -26,14 +26,14 @@ MadePairsAreListedOnce = (t : Tables) (n : Parts) (r : RuleParts) (a b : AgentNo
 abbrev pub IsOtherPair : Tables → Parts → AgentNo → AgentNo → AgentNo × AgentNo → Type 0
 IsOtherPair t n a b q = IsActivePair t n q × (q.0 ≢ a) × (q.0 ≢ b) × (q.1 ≢ a) × (q.1 ≢ b)
 
--- the active pairs after an interaction, whatever the new agents' names are, are those of other agents, the pairs that it makes over
+-- the active pairs after an interaction, for any names of the new agents, are those of other agents, the pairs that it makes over
 -- boundary ends, and the right member's own
 abbrev pub PairsAreKeptOrMade : Type 0
 PairsAreKeptOrMade = (t : Tables) (n : Parts) (r : RuleParts) (a b : AgentNo) (name : ℕ → ℕ) (m : Parts) (made : List (AgentNo × AgentNo)) →
     IsNet (signature_of t) (net_of n) → IsNet (signature_of t) (net_of r.member) → CanInteract t n r a b → InteractsAs t n r a b name m → AreMadeOverEnds t n r a b name made →
     (q : AgentNo × AgentNo) → IsActivePair t m q ↔ (IsOtherPair t n a b q ⊎ ((k : ℕ) × (slice_get made k ≡ Some q)) ⊎ IsOwn t r name q)
 
--- interacting as `interact` does is one way of it: the new agents have the least numbers that the old net doesn't have
+-- `interact` does an interaction: the new agents have the least numbers that the old net doesn't have
 abbrev pub LeastNumbersAreNames : Type 0
 LeastNumbersAreNames = (t : Tables) (n : Parts) (r : RuleParts) (a b : AgentNo) (m : Parts) → CanInteract t n r a b → Interacts n r a b m → InteractsAs t n r a b (unused n.cells) m
 

@@ -1,4 +1,4 @@
--- What a cycle after an interaction is made of: pieces outside and inside, cut at the boundary ends, and what they leave of the cycle in
+-- The parts of a cycle after an interaction: pieces outside and inside, cut at the boundary ends, and the closed walk that they leave in
 -- the right member with its class nodes. This project's own.
 use Rattle.std.specs.Prelude.{◌≡◌, ◌≢◌, ◌⊎◌, ℕ, Bool, List, [], ◌∷◌, ◌++◌, map}
 use Rattle.std.specs.List.{AllByRecursion}
@@ -84,20 +84,20 @@ pub record PieceCycle {A B : Type 0} (sig : Signature) (n : Net A) (x : Redex A 
   pub agents : AreApart (passages_of (first ∷ rest))
   pub boundary : AreDifferent (map begins (first ∷ rest))
 
--- one list, begun elsewhere, is the other
+-- one list is the other with another beginning
 abbrev pub IsTurned : {X : Type 0} → List X → List X → Type 0
 IsTurned {X} xs ys = (front back : List X) × (xs ≡ front ++ back) × (ys ≡ back ++ front)
 
--- what a cycle of these agents after the interaction is: one of the net before, or of the right member, unchanged; or pieces in a
+-- a cycle of these agents after the interaction is one of the net before, or of the right member, unchanged; or it is made of pieces in a
 -- cycle, whose agents are the cycle's, each once
 pub data IsMadeOf {A B : Type 0} (sig : Signature) (n : Net A) (x : Redex A B) (name : B → A) (cycle : List (Passage A)) : Type 0 where
   wholly_outside : (c : CrossingCircle (graph_of sig n)) → c.first ∷ c.rest ≡ cycle → IsMadeOf sig n x name cycle
   wholly_inside : (c : CrossingCircle (graph_of sig x.member)) → map (renamed name) (c.first ∷ c.rest) ≡ cycle → IsMadeOf sig n x name cycle
   of_pieces : (r : PieceCycle sig n x) → IsTurned cycle (map (renamed (name_after name)) (passages_of (r.first ∷ r.rest))) → IsMadeOf sig n x name cycle
 
--- ---- what is left of a cycle inside
+-- ---- the part of a cycle inside
 
--- where each outer piece is a passage through one class node, by two different ports
+-- the piece, if it is an outer one, is a passage through one class node, by two different ports
 abbrev pub IsPassage : {A B : Type 0} → Signature → Redex A B → Piece A B → Type 0
 IsPassage sig x (Outside e ps f) = (class_node sig x e ≡ class_node sig x f) × (e ≢ f)
 IsPassage sig x (Inside e ps f) = Unit {0}
@@ -107,7 +107,7 @@ abbrev pub ports_of : {V : Type 0} → List (Passage V) → List (V × ℕ)
 ports_of [] = []
 ports_of (p ∷ ps) = entered p ∷ left p ∷ ports_of ps
 
--- the two passages are not at one agent
+-- the first passage isn't at an agent, or the second one is at another node
 abbrev pub AtOtherAgent : {B : Type 0} → Passage (B ⊎ (Bool × ℕ)) → Passage (B ⊎ (Bool × ℕ)) → Type 0
 AtOtherAgent p q = elim p.node [ inl y ↦ p.node ≢ q.node | inr c ↦ Unit {0} ]
 

@@ -1,5 +1,5 @@
--- Queues of active pairs, by the numbers of their two agents, the constructor first. That those of a net as built come in the order of their
--- wires is this project's own choice.
+-- Queues of active pairs, by the numbers of their two agents, the constructor first. The pairs of a net as built are in the order of their
+-- wires: this is this project's own choice.
 use Rattle.std.specs.Prelude.{◌≡◌, ◌<◌, ℕ, List, Some, slice_get}
 use Rattle.in_symbols.specs.Tables.{Tables}
 use Rattle.in_net.specs.declared.nets.AgentNo.{AgentNo}

@@ -12,7 +12,7 @@ use std::marker::Model;
 /// it lands.
 const MOST_TURNS: u32 = 2 * MAX_PORTS as u32 + 1;
 
-/// Where an interaction takes place: an active pair of a net, the rule of their symbols, how many auxiliary places the first of the two
+/// A site of an interaction: an active pair of a net, the rule of their symbols, how many auxiliary places the first of the two
 /// has, and the numbers that the right member's agents get.
 #[derive(Drop)]
 pub(crate) struct Site<'a> {

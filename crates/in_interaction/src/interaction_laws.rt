@@ -13,7 +13,7 @@ pub fn circles_fall_apart()
     ensures { CirclesFallApart }
 {}
 
-/// Where the net before has no crossing circle, a walk round the active pair from a boundary end to one is a passage through one
+/// If the net before has no crossing circle, a walk round the active pair from a boundary end to one is a passage through one
 /// class node, by two different ports.
 pub fn outer_pieces_are_passages()
     ensures { OuterPiecesArePassages }

@@ -1,7 +1,7 @@
 //! Interactions: an active pair is replaced by the right member of its rule.
 //!
 //! `interacting` builds the agents and wires after an interaction from the old net and the right member; only then does it put them into
-//! the net (`Net::renew` of `in_net`), so that a refusal changes nothing. A `Site` (`following`) is where an interaction takes place; its
+//! the net (`Net::renew` of `in_net`), so that a refusal changes nothing. A `Site` (`following`) is an active pair in its net with its rule; its
 //! type keeps that the two agents can interact and that the new numbers are the least unused ones.
 //!
 //! Each end of each agent finds its partner for itself: `outer` continues from a wire outside the pair, `inner` from a wire of the right

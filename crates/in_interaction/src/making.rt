@@ -34,14 +34,14 @@ impl Side {
     }
 }
 
-/// Where a wire of a boundary end leads: to another one, or to a point that stays.
+/// The end of a boundary end's wire: another boundary end, or a point that stays.
 #[derive(Clone, Copy)]
 enum Reached {
     End(u32),
     Staying(Point),
 }
 
-/// The agent whose principal port this is.
+/// The agent with this principal port.
 fn principal(point: Point) -> Option<AgentNo>
     ensures { result ≡ principal_of point }
 {
@@ -52,7 +52,7 @@ fn principal(point: Point) -> Option<AgentNo>
 }
 
 impl<'a> Site<'a> {
-    /// Where the wire of a boundary end leads on this side.
+    /// The end of a boundary end's wire on this side.
     fn reached(&self, side: Side, end: u32) -> Reached
         requires { end < length self.now.rule.member.free }
         ensures { LeadsTo self.now (side_of side) end result }
@@ -74,7 +74,7 @@ impl<'a> Site<'a> {
         }
     }
 
-    /// Where the path ends that leaves a boundary end by this side, if it goes through no lower one.
+    /// The end of the path that leaves a boundary end by this side, if it goes through no lower one.
     fn landing(&self, side: Side, end: u32) -> Option<Point>
         requires { end < length self.now.rule.member.free }
         ensures { IsLanding self.now (side_of side) end result }

@@ -1,4 +1,4 @@
--- Active pairs, and the boundary ends of what replaces them.
+-- Active pairs, and the boundary ends of the right members that replace them.
 pub mod ActivePairs
 pub mod BoundaryTypes
 pub mod PairOfWire

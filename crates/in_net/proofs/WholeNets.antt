@@ -1,4 +1,4 @@
--- The parts of a net are whole, and the net of a text is one.
+-- The parts of a net are whole, and a text has one net.
 pub mod Frees
 pub mod OneNet
 pub mod OneText

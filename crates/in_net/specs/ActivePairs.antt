@@ -1,4 +1,4 @@
--- The active pairs of a net. Lafont 1990: two agents whose principal ports are joined by a wire are an active pair. Which of the two stands
+-- The active pairs of a net. Lafont 1990: two agents whose principal ports are joined by a wire are an active pair. Which of the two comes
 -- first, and the order of the pairs, is this project's own choice.
 use Rattle.std.specs.Prelude.{◌≡◌, ◌⊎◌, ◌<◌, ℕ, min, true, false, List, slice_get, Some}
 use Rattle.in_symbols.specs.Tables.{Tables, is_constructor}

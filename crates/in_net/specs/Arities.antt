@@ -16,7 +16,7 @@ fits_arity t (Some s) n = n == arity_of t s
 abbrev pub arities_fit : Tables → Term → Bool
 arities_fit t = fold-Term Bool (λ f. fits_arity t (number_in f.name.text t.names) (length f.args) && all_true f.args)
 
--- as many terms as auxiliary places are at the head
+-- the head has as many terms as its symbol has auxiliary places
 abbrev pub head_fits : Tables → LeftHead → Bool
 head_fits t h = fits_arity t (number_in h.head.name.text t.names) (length h.head.terms) && list_all (arities_fit t) h.head.terms
 

@@ -1,4 +1,4 @@
--- The parts of a net out of what is read and joined: no public contract names this.
+-- The parts of a net from its reading and its links. No public contract names this.
 use Rattle.std.specs.Prelude.{◌≡◌, ◌≢◌, ℕ, zero, suc, ◌+◌, ◌^◌, ◌<◌, cond, nat_lt, List, [], ◌∷◌, ◌++◌, length, map, Option, Some, None, option_to_list, slice_index_or}
 use Rattle.std.specs.List.{AllByRecursion}
 use Rattle.in_syntax.specs.declared.tree.SourceFree.{SourceFree}
@@ -65,15 +65,15 @@ IsSmall (spot.Occurrence m p) = Unit {0}
 abbrev pub AreSmallSpots : List TextSpot → Type 0
 AreSmallSpots = AllByRecursion IsSmall
 
--- what each spot is joined to is a spot
+-- each spot is joined to a spot
 abbrev pub LeadToSpots : List TextSpot → List Link → Type 0
 LeadToSpots spots links = (i : ℕ) → i < length spots → (nth_link links i).to < length spots
 
--- .. and leads back, with the same place
+-- .. and its partner leads back, with the same place
 abbrev pub LeadBack : List TextSpot → List Link → Type 0
 LeadBack spots links = (i : ℕ) → i < length spots → nth_link links (nth_link links i).to ≡ record { to = i; place = (nth_link links i).place }
 
--- once all is joined: points are joined to other points, each of which leads back, and no occurrence is joined to anything
+-- all is joined: points are joined to other points, each of which leads back, and no occurrence is joined to anything
 pub record IsJoined (spots : List TextSpot) (links : List Link) : Type 0 where
   pub count : length links ≡ length spots
   pub inside : LeadToSpots spots links

@@ -27,7 +27,7 @@ use Rattle.in_syntax.specs.declared.faults.Code.TheVariants.{E09}
 use Rattle.in_syntax.specs.declared.faults.Fault.TheVariants.{Refused, Memory}
 use Rattle.in_syntax.specs.Tokens.{text_limit}
 
--- the tree of a text, and its tables, without fault in its names: its net can be read
+-- the tree of a text, and its tables, without a fault of names: its net can be read
 pub record IsReadableNet (source : Source) (t : Tables) : Type 0 where
   pub sized : IsSized source
   pub order : IsWrittenInOrder source
@@ -56,7 +56,7 @@ IsEnd (spot.Free k m) j = k ≡ j
 IsEnd (spot.End k) j = k ≡ j
 IsEnd (spot.Occurrence m p) j = ⊥
 
--- which spots stand for which points
+-- the spots of the points
 pub record IsNumbered (t : Tables) (free : ℕ) (r : Reading) : Type 0 where
   pub port : (k a i : ℕ) (p : Place) → k < length r.spots → nth_spot r.spots k ≡ spot.Port a i p → IsPortOf t r k a i p
   pub end : (k j : ℕ) → k < length r.spots → IsEnd (nth_spot r.spots k) j → (j ≡ k) × (j < free)
@@ -69,7 +69,7 @@ pub record IsNumbered (t : Tables) (free : ℕ) (r : Reading) : Type 0 where
 abbrev pub HaveFewPorts : Tables → Type 0
 HaveFewPorts t = (s : ℕ) → arity_of t s ≤ max_ports
 
--- what was read, with `free` free or boundary ends, is in range, and not too much
+-- a reading with `free` free or boundary ends: its numbers are in range, and it is not too large
 pub record IsReadFrom (t : Tables) (free : ℕ) (r : Reading) : Type 0 where
   pub numbered : IsNumbered t free r
   pub agents : AgentsOf t r.spots r.agents
@@ -85,7 +85,7 @@ pub record AreListedOf (found listed : List Wire) : Type 0 where
   pub same : IsPermutation found listed
   pub by_place : IsNonDecreasingBy (λ w. w.place.from) listed
 
--- the free ends are joined to what the first spots are joined to
+-- the free ends have the partners of the first spots
 abbrev pub AreJoinedTo : List TextSpot → List Link → List FreeEnd → Type 0
 AreJoinedTo spots links free = map (λ f. f.end) free ≡ ends_from spots links 0 (length free)
 
@@ -110,8 +110,8 @@ pub record IsOver (t : Tables) (n : Parts) : Type 0 where
 abbrev pub closed_at : Place → Fault
 closed_at p = Refused (refusal_of E09 p)
 
--- where it is Ok, there is no fault of agents and names and no closed wire, and the net is over the program's tables, and is the net
--- of the text; it is refused for the first such fault, or, where there is none, for the first closed wire
+-- Ok: there is no fault of agents and names and no closed wire, the net is over the program's tables, and it is the net of the text. A refusal
+-- is for the first such fault, or, if there is none, for the first closed wire
 abbrev pub Builds : Source → Tables → Result Parts Fault → Type 0
 Builds source t (Ok n) = IsOver t n × IsNetOf t source.net n × HasNoNetFault max_agents t (body_of source.net) × HasNoClosedWire t (body_of source.net)
 Builds source t (Err (Refused r)) = IsFirstNetFault max_agents t (body_of source.net) r.code r.place × (r.other ≡ None)

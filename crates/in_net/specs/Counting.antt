@@ -1,4 +1,4 @@
--- How often each name of a net occurs: no public contract names this.
+-- How often each name of a net occurs. No public contract names this.
 use Rattle.std.specs.Prelude.{ℕ, zero, suc, ◌+◌, ◌<◌, List, [], ◌∷◌, map, Option, Some, None, option_map, slice_get, slice_set, slice_index_or}
 use Rattle.std.specs.List.{AllByRecursion}
 use Rattle.in_syntax.specs.declared.tree.SourceFree.{SourceFree}
@@ -34,12 +34,12 @@ count_name seen at (Some m) = slice_set seen m (seen_again (slice_index_or seen 
 abbrev pub counted : List Seen → ℕ → TextSpot → List Seen
 counted seen at s = count_name seen at (name_of s)
 
--- these spots, of which the first has that number
+-- counts these spots, of which the first has this number
 abbrev pub counted_from : ℕ → List TextSpot → List Seen → List Seen
 counted_from at [] seen = seen
 counted_from at (s ∷ ss) seen = counted_from (at + 1) ss (counted seen at s)
 
--- the spot is the third one of its name, by what was seen of that before
+-- the spot is the third one of its name, if two were seen before
 abbrev pub third_time : Seen → TextSpot → Option Place
 third_time Never s = None
 third_time (Once one) s = None
@@ -61,7 +61,7 @@ counts_named c at s (Some m) =
 abbrev pub counts_spot : Counting → ℕ → TextSpot → Counting
 counts_spot c at s = counts_named c at s (name_of s)
 
--- these spots, of which the first has that number
+-- counts these spots, and the first third occurrence among them; the first spot has this number
 abbrev pub counts_from : ℕ → List TextSpot → Counting → Counting
 counts_from at [] c = c
 counts_from at (s ∷ ss) c = counts_from (at + 1) ss (counts_spot c at s)
@@ -73,7 +73,7 @@ place_at free (Some (spot.Free k m)) = option_map (λ f. f.name.place) (slice_ge
 place_at free (Some (spot.End k)) = None
 place_at free (Some (spot.Occurrence m p)) = Some p
 
--- the only spot of a name, at its place
+-- the place of the only spot of a name
 abbrev pub lonely_place : List TextSpot → List SourceFree → Seen → Option Place
 lonely_place spots free Never = None
 lonely_place spots free (Once at) = place_at free (slice_get spots at)
@@ -83,13 +83,13 @@ lonely_place spots free Often = None
 abbrev pub lonely : List TextSpot → List SourceFree → List Seen → Option Place
 lonely spots free seen = earliest None (map (lonely_place spots free) seen)
 
--- the first name that occurs once or for the third time
+-- the first name that occurs only once or a third time
 abbrev pub miscounted : ℕ → List TextSpot → List SourceFree → Option Place
 miscounted names spots free =
     let c = counts_from 0 spots (nothing_counted names) in
     earlier c.third (lonely spots free c.seen)
 
--- ---- numbers are in range
+-- ---- the numbers are in range
 
 abbrev pub IsNumberInside : ℕ → Option ℕ → Type 0
 IsNumberInside names None = Unit {0}

@@ -1,6 +1,6 @@
--- What an interaction makes of a net. Lafont 1990: two agents whose principal ports are joined by a wire are an active pair. Only active
--- pairs interact: both agents go, and the rule's right member takes their place on the same boundary ends. That agents which stay keep
--- their names, and new ones have any names that the net doesn't have, is this project's own choice.
+-- The net after an interaction. Lafont 1990: two agents whose principal ports are joined by a wire are an active pair. Only active
+-- pairs interact: both agents go, and the rule's right member takes their place on the same boundary ends. The agents that stay keep
+-- their names, and new ones have any names that the net doesn't have: this is this project's own choice.
 use Rattle.std.specs.Prelude.{◌≡◌, ◌≢◌, ◌⊎◌, ◌↔◌, ℕ, suc, ◌+◌, ◌-◌, nat_lt, Bool, cond, List, [], ◌∷◌, length, slice_get, Some, None}
 use mathlib.Core.Logic.{inl, inr}
 use Rattle.in_symbols.specs.declared.symbols.PortType.{PortType}
@@ -21,7 +21,7 @@ pub record Redex (A B : Type 0) : Type 0 where
 abbrev pub redex_at : {A : Type 0} → RuleParts → A → A → Redex A ℕ
 redex_at r a b = record { one = a; two = b; first = r.heads.0.0; second = r.heads.1.0; member = net_of r.member }
 
--- the free ends are numbered the first agent's places first: the agent, symbol and place of one
+-- the agent, the symbol and the place of a free end: the first agent's places are numbered first
 module _ {A B : Type 0} (sig : Signature) (x : Redex A B) (end : ℕ) where
   abbrev pub of_first : Bool
   of_first = nat_lt end (sig.arity x.first)
@@ -58,7 +58,7 @@ abbrev pub Alternates : {P : Type 0} → (Side → P → P → Type 0) → (P �
 Alternates wire IsEnd side u [] v = wire side u v
 Alternates wire IsEnd side u (e ∷ es) v = wire side u e × IsEnd e × Alternates wire IsEnd (other side) e es v
 
--- the point of the net that a point of the right member stands for: a new agent's port, or an auxiliary port of the pair
+-- the point of the net for a point of the right member: a new agent's port, or an auxiliary port of the pair
 abbrev pub stands_for : {A B : Type 0} → Signature → Redex A B → (B → A) → Point B → Point A
 stands_for sig x name (Port k i) = Port (name k) i
 stands_for sig x name (Free e) = Port (end_agent sig x e) (end_place sig x e)
@@ -90,7 +90,7 @@ pub record IsNaming {A B : Type 0} (before : Net A) (x : Redex A B) (name : B �
   pub fresh : (k : B) (s : ℕ) → x.member.symbol k ≡ Some s → before.symbol (name k) ≡ None
   pub apart : (k l : B) (s t : ℕ) → x.member.symbol k ≡ Some s → x.member.symbol l ≡ Some t → name k ≡ name l → k ≡ l
 
--- the pair is gone, the new agents are there, and the others are those of before
+-- the pair is gone, the new agents are there, and the others are unchanged
 abbrev pub HasAgentsAfter : {A B : Type 0} → Net A → Redex A B → (B → A) → Net A → Type 0
 HasAgentsAfter {A} {B} before x name after = (y : A) (s : ℕ) → (after.symbol y ≡ Some s) ↔ (((y ≢ x.one) × (y ≢ x.two) × (before.symbol y ≡ Some s)) ⊎ ((k : B) × (name k ≡ y) × (x.member.symbol k ≡ Some s)))
 
@@ -102,8 +102,8 @@ pub record IsStep {A B : Type 0} (sig : Signature) (before : Net A) (x : Redex A
   pub wires : (u v : Point A) → (after.partner u ≡ Some v) ↔ AreJoined sig before x name u v
   pub free : after.free ≡ before.free
 
--- the right member with a node for each class of the two symbols, each of whose ports is a class by itself: this project's own condition
--- on rules speaks of it
+-- the node of a boundary end, where the right member has a node for each class of the two symbols, each of whose ports is a class by itself:
+-- this project's own condition on rules uses it
 abbrev pub class_node : {A B : Type 0} → Signature → Redex A B → ℕ → Bool × ℕ
 class_node sig x e = (of_first sig x e, sig.class_of (end_symbol sig x e) (end_place sig x e))
 
@@ -123,8 +123,8 @@ abbrev pub EndWire : {A B : Type 0} → Signature → Net A → Redex A B → Si
 EndWire sig n x Outer e f = n.partner (Port (end_agent sig x e) (end_place sig x e)) ≡ Some (Port (end_agent sig x f) (end_place sig x f))
 EndWire sig n x Inner e f = x.member.partner (Free e) ≡ Some (Free f)
 
--- a wire, or wires that change sides at each of these boundary ends in turn: the first one is left on this side, the last one entered
--- on that
+-- a wire, or wires that change sides at each of these boundary ends in turn: it leaves the first one on the first side, and enters the last
+-- one on the second side
 abbrev pub EndPath : (Side → ℕ → ℕ → Type 0) → Side → ℕ → List ℕ → Side → ℕ → Type 0
 EndPath wire s e [] t f = (s ≡ t) × wire s e f
 EndPath wire s e (g ∷ gs) t f = wire s e g × EndPath wire (other s) g gs t f

@@ -1,4 +1,4 @@
--- How the joints of a text become wires: no public contract names this.
+-- How the joints of a text become wires. No public contract names this.
 use Rattle.std.specs.Prelude.{ℕ, zero, suc, cond, nat_lt, ◌==◌, ◌+◌, ◌<◌, List, [], ◌∷◌, length, slice_set, slice_index_or, Option, Some, None}
 use Rattle.std.specs.List.{AllByRecursion}
 use Rattle.in_syntax.specs.declared.places.Place.{Place}
@@ -42,7 +42,7 @@ abbrev pub apart : List Link → ℕ → ℕ → List Link
 apart links one other =
     slice_set (slice_set links one (record { to = one; place = (slice_index_or links one no_link).place })) other (record { to = other; place = (slice_index_or links other no_link).place })
 
--- what two spots are joined to is joined, at the later place; or the wire is closed, at its place
+-- the partners of two spots are joined, at the later place; or the wire is closed, at its place
 abbrev pub merged : List Link → ℕ → ℕ → List Link × Option Place
 merged links one other =
     let p = slice_index_or links one no_link in
@@ -69,12 +69,12 @@ joins_named j at (Some m) =
 abbrev pub joins : Joining → ℕ → TextSpot → Joining
 joins j at s = joins_named j at (name_of s)
 
--- these spots, of which the first has that number
+-- joins these spots, of which the first has this number
 abbrev pub joins_from : ℕ → List TextSpot → Joining → Joining
 joins_from at [] j = j
 joins_from at (s ∷ ss) j = joins_from (at + 1) ss (joins j at s)
 
--- what the spots are joined to by equations and arguments
+-- the links of the spots by equations and arguments
 abbrev pub links_of : Reading → List Link
 links_of r = with_joints (self_links 0 (length r.spots)) r.joints
 
@@ -84,7 +84,7 @@ joining_of r = joins_from 0 r.spots (not_named (links_of r) (length r.names))
 abbrev pub joined_spots : Reading → Joined
 joined_spots r = record { links = (joining_of r).links; closed = (joining_of r).closed }
 
--- ---- numbers are in range
+-- ---- the numbers are in range
 
 abbrev pub JointsInside : ℕ → List TextJoint → Type 0
 JointsInside spots = AllByRecursion (λ j. (j.one + j.port < spots) × (j.other < spots))

@@ -47,7 +47,7 @@ TextNetsAreOne = (t : Tables) (text : SourceNet) (n m : Parts) → IsNetOf t tex
 abbrev pub NetsAreBuiltOnce : Type 0
 NetsAreBuiltOnce = (s : Source) (t : Tables) → IsOfText s → Tabulates s (Ok t) → IsOne (Builds s t)
 
--- .. and a rule of it
+-- .. and all results of building a rule of it agree
 abbrev pub RulesAreBuiltOnce : Type 0
 RulesAreBuiltOnce = (s : Source) (t : Tables) (i : ℕ) → IsOfText s → Tabulates s (Ok t) → IsOne (BuildsRule s t i)
 
@@ -55,6 +55,6 @@ RulesAreBuiltOnce = (s : Source) (t : Tables) (i : ℕ) → IsOfText s → Tabul
 abbrev pub WiresJoinOnePair : Type 0
 WiresJoinOnePair = (t : Tables) (n : Parts) (w : ℕ) (p q : AgentNo × AgentNo) → IsActivePair t n p → IsActivePair t n q → JoinsAgents n w p → JoinsAgents n w q → p ≡ q
 
--- .. and of the result of renewing a net
+-- .. and all results of renewing a net agree
 abbrev pub NetsAreRenewedOnce : Type 0
 NetsAreRenewedOnce = (old n m : Parts) (cells : List (Option Cell)) (ends : List Point) (wires : List Wire) → length ends ≡ length old.free → IsRenewed old cells ends wires n → IsRenewed old cells ends wires m → n ≡ m

@@ -1,4 +1,4 @@
--- Faults of a net or a rule: what is wrong with its agents, its names and its wires, and which of its faults is the first one. Lafont
+-- Faults of a net or a rule: those of its agents, of its names and of its wires, and the first one among them. Lafont
 -- 1990 gives each symbol a number of auxiliary ports, and has each variable of a net or a rule occur twice. The limits on agents, the
 -- codes, and the place of a fault are this project's own choice.
 use Rattle.std.specs.Prelude.{◌≡◌, ◌≢◌, ◌⊎◌, ℕ, ◌<◌, ◌≤◌, List, length, Some, slice_get}
@@ -20,7 +20,7 @@ max_agents = 4000
 abbrev pub max_member_agents : ℕ
 max_member_agents = 64
 
--- the place is that of the name of the first agent that is one too many
+-- the place is that of the name of the first agent past the limit
 abbrev pub IsTooManyAt : ℕ → Tables → Body → Place → Type 0
 IsTooManyAt most t b p = (w : Written) × (slice_get (agents_of_body t b) most ≡ Some w) × (w.place ≡ p)
 
@@ -75,11 +75,11 @@ pub data IsNetFaultAt (most : ℕ) (t : Tables) (b : Body) : Code → Place → 
 abbrev pub HasNoNetFault : ℕ → Tables → Body → Type 0
 HasNoNetFault most t b = HasNone (IsNetFaultAt most t b)
 
--- a fault of agents or names is there, and none of these is earlier; of two at one place the lower code counts
+-- a fault of agents or names is there, none is earlier, and none at its place has a lower code
 abbrev pub IsFirstNameFault : ℕ → Tables → Body → Code → Place → Type 0
 IsFirstNameFault most t b = IsFirstOf (IsNetFaultAt most t b)
 
--- of the faults of a net or a rule: the first one of agents and names; if there is none of these, the first closed wire
+-- the first fault of a net or a rule: the first one of agents and names; if there is none of these, the first closed wire
 pub data IsFirstNetFault (most : ℕ) (t : Tables) (b : Body) : Code → Place → Type 0 where
   of_names : (c : Code) (p : Place) → IsFirstNameFault most t b c p → IsFirstNetFault most t b c p
   of_wires : (p : Place) → HasNoNetFault most t b → IsClosedWireOf t b p → ((q : Place) → IsClosedWireOf t b q → p.from ≤ q.from) → IsFirstNetFault most t b E09 p

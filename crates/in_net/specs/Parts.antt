@@ -52,12 +52,12 @@ free_type_in n k = option_map (λ f. f.kind) (slice_get n.free k)
 abbrev pub free_name_in : Parts → ℕ → Option (List ℕ)
 free_name_in n k = option_map (λ f. f.name) (slice_get n.free k)
 
--- the wire of that number joins these two points, whichever is named first
+-- the wire of that number joins these two points, in either order
 abbrev pub IsWireBetween : Parts → ℕ → Point → Point → Type 0
 IsWireBetween n w p q = (wire_in n w ≡ Some (p, q)) ⊎ (wire_in n w ≡ Some (q, p))
 
 -- numbers fit: an agent has no more ends than a symbol may have ports, and there are no more free ends than a net may have. Each point is
--- in exactly one wire: its partner's partner is the point, never itself, and just one listed wire joins them; as built each agent has a
+-- in exactly one wire: its partner's partner is the point, never itself, and just one listed wire joins them. As built, each agent has a
 -- place
 pub record IsWhole (n : Parts) : Type 0 where
   pub agents : length n.cells < 2 ^ 32

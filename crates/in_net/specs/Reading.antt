@@ -1,4 +1,4 @@
--- How a net is read from its text, term by term: no public contract names this.
+-- How a net is read from its text, term by term. No public contract names this.
 use Rattle.std.specs.Prelude.{ℕ, zero, suc, ◌+◌, List, [], ◌∷◌, ◌++◌, length, map, Option, Some, None, unwrap_or, cond, is_some, false, if◌then◌else◌}
 use Rattle.in_syntax.specs.declared.places.Place.{Place}
 use Rattle.in_syntax.specs.declared.tree.Name.{Name}
@@ -32,11 +32,11 @@ with_agent r symbol arity place = record r {
   agents = r.agents ++ record { symbol = symbol; place = place; first = length r.spots } ∷ [];
 }
 
--- a new name goes last
+-- a new name is added at the end
 abbrev pub with_name : List (List ℕ) → List ℕ → List (List ℕ)
 with_name names name = cond (is_some (number_in name names)) names (names ++ name ∷ [])
 
--- the number of a name, once it is there
+-- the number of a name, once it is added
 abbrev pub number_with : List (List ℕ) → List ℕ → ℕ
 number_with names name = unwrap_or (number_in name names) (length names)
 
@@ -52,7 +52,7 @@ with_joint r one port other place = record r { joints = r.joints ++ record { one
 
 -- ---- a term is read name by name, each agent before its arguments
 
--- how a term is read, with the place of its first token: what is read then, and the number of its spot
+-- how a term is read, with the place of its first token: the reading after it, and the number of its spot
 pub record TermReader : Type 0 where
   pub place : Place
   pub reads : Reading → Reading × ℕ
@@ -64,7 +64,7 @@ reads_arguments first (a ∷ more) port r =
     let there = a.reads r in
     reads_arguments first more (port + 1) (with_joint there.0 first port there.1 a.place)
 
--- a symbol's name is an agent's, another one a variable's or a free end's
+-- a symbol's name is an agent's; another name is a variable's or a free end's
 abbrev pub with_named : Tables → Reading → Name → Option ℕ → Reading
 with_named t r n None = with_occurrence r n
 with_named t r n (Some s) = with_agent r (record { 0 = s }) (arity_of t s) n.place
@@ -115,7 +115,7 @@ abbrev pub reads_heads : Tables → List LeftHead → Reading → Reading
 reads_heads t [] r = r
 reads_heads t (h ∷ hs) r = reads_heads t hs (reads_arguments h.first (map (reader_of t) h.head.terms) 0 r)
 
--- how many auxiliary places a head's symbol has
+-- the number of auxiliary places of a head's symbol
 abbrev pub head_arity : Tables → LeftHead → ℕ
 head_arity t h = arity_of t (unwrap_or (number_in h.head.name.text t.names) 0)
 
@@ -124,13 +124,13 @@ abbrev pub ends_of : Tables → List LeftHead → ℕ
 ends_of t [] = 0
 ends_of t (h ∷ hs) = head_arity t h + ends_of t hs
 
--- what is read of a body
+-- the reading of a body
 abbrev pub reading_of : Tables → Body → Reading
 reading_of t b = reads_equations t b.equations (reads_heads t b.heads (with_ends (reads_free b.free) (ends_of t b.heads)))
 
 -- ---- how a walk reads it
 
--- the reading is that one now
+-- the reader with this reading
 abbrev pub reads_on : NetReader → Reading → NetReader
 reads_on n r = record n { reading = r }
 

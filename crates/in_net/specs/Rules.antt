@@ -21,7 +21,7 @@ use Rattle.in_net.specs.Parts.{Parts, IsWhole}
 use Rattle.in_net.specs.TextNet.{Body, heads_at, HasAgentsOf, HasWiresOf}
 use Rattle.in_syntax.specs.Tokens.{text_limit}
 
--- ---- what contracts see of a rule
+-- ---- the view of a rule
 
 -- the two symbols in the order of the text, the same with the constructor first, where the heads' names are in the order of the
 -- text, and the right member
@@ -31,7 +31,7 @@ pub record RuleParts : Type 0 where
   pub head_places : Place × Place
   pub member : Parts
 
--- what holds of rules over tables
+-- a property of rules over tables
 abbrev pub RulesProperty : Type 1
 RulesProperty = Tables → List RuleParts → Type 0
 
@@ -51,15 +51,15 @@ abbrev pub is_turned : Tables → ℕ → ℕ → Bool
 is_turned t c d = matching t c d && not (is_constructor t c)
 
 module _ (t : Tables) (r : SourceRule) where
-  -- the two symbols, as they are written
+  -- the two symbols, as written
   abbrev pub written_of : SymbolNo × SymbolNo
   written_of = (record { 0 = symbol_of t r.first }, record { 0 = symbol_of t r.second })
 
-  -- .. and the constructor first, where they match
+  -- .. and with the constructor first, if they match
   abbrev pub heads_of : SymbolNo × SymbolNo
   heads_of = cond (is_turned t (symbol_of t r.first) (symbol_of t r.second)) (written_of.1, written_of.0) written_of
 
-  -- a rule's body: its heads as they are written, and its equations. Boundary ends are numbered from 0, first those of the first of the
+  -- a rule's body: its heads as written, and its equations. Boundary ends are numbered from 0, first those of the first of the
   -- two symbols
   abbrev pub body_of_rule : Body
   body_of_rule =
@@ -106,8 +106,8 @@ pub record IsRuleOver (t : Tables) (p : RuleParts) : Type 0 where
   pub member : IsOver t p.member
   pub built : p.member.built ≡ true
 
--- where it is Ok, there is no fault of agents and names and no closed wire, and the rule is over the program's tables, and is that of the
--- text; else it is refused for the first such fault, or, where there is none, for the first closed wire
+-- Ok: there is no fault of agents and names and no closed wire, the rule is over the program's tables, and it is the rule of the text. A
+-- refusal is for the first such fault, or, if there is none, for the first closed wire
 abbrev pub BuildsRuleOf : Tables → SourceRule → Result RuleParts Fault → Type 0
 BuildsRuleOf t r (Ok p) = IsRuleOver t p × IsRuleOf t r p × HasNoNetFault max_member_agents t (body_of_rule t r) × HasNoClosedWire t (body_of_rule t r)
 BuildsRuleOf t r (Err (Refused f)) = IsFirstNetFault max_member_agents t (body_of_rule t r) f.code f.place × (f.other ≡ None)
@@ -117,7 +117,7 @@ BuildsRuleOf t r (Err (Memory e)) = Unit {0}
 abbrev pub BuildsRule : Source → Tables → ℕ → Result RuleParts Fault → Type 0
 BuildsRule source t index answer = (r : SourceRule) × (slice_get source.rules index ≡ Some r) × BuildsRuleOf t r answer
 
--- what a rule of a parsed and tabled program is: its names are known and are in order, they are no more than its text has bytes,
+-- a rule of a parsed and tabled program: its names are known and in order, they are no more than its text has bytes,
 -- and each symbol has few places
 pub record IsReadable (t : Tables) (r : SourceRule) : Type 0 where
   pub known : IsRuleKnown t.names r

@@ -1,4 +1,4 @@
--- How the code searches for the first fault of a net's agents and names: no public contract names this.
+-- How the code searches for the first fault of a net's agents and names. No public contract names this.
 use Rattle.std.specs.Prelude.{ℕ, ◌==◌, cond, List, length, map, Option, Some, None, option_map, slice_get}
 use Rattle.in_syntax.specs.declared.faults.Code.TheVariants.{E03, E07, E08}
 use Rattle.in_syntax.specs.declared.faults.Refusal.{Refusal}
@@ -19,7 +19,7 @@ use Rattle.in_net.specs.TextNet.{Body, LeftHead}
 abbrev pub too_many : ℕ → List Agent → Option Place
 too_many most agents = option_map (λ a. a.place) (slice_get agents most)
 
--- an agent of that symbol with n arguments, at the place
+-- the misfit of an agent of that symbol with n arguments, at the place
 abbrev pub misfit_here : Tables → Option ℕ → ℕ → Place → Option Place
 misfit_here t None n p = None
 misfit_here t (Some s) n p = cond (n == arity_of t s) None (Some p)
@@ -30,7 +30,7 @@ misfit t = fold-Term (Option Place) (λ f. earliest (misfit_here t (number_in f.
 abbrev pub misfit_in_equation : Tables → Equation → Option Place
 misfit_in_equation t e = earlier (misfit t e.left) (misfit t e.right)
 
--- a head with its symbol and its number of terms, at its place, and then its terms
+-- the misfit of a head with its symbol and its number of terms, at its place, or that of its terms
 abbrev pub misfit_in_head : Tables → Head → Option Place
 misfit_in_head t h = earliest (misfit_here t (number_in h.name.text t.names) (length h.terms) h.name.place) (map (misfit t) h.terms)
 
@@ -43,7 +43,7 @@ misfit_in_heads t hs = earliest None (map (λ h. misfit_in_head t h.head) hs)
 abbrev pub misfit_in_body : Tables → Body → Option Place
 misfit_in_body t b = earlier (misfit_in_heads t b.heads) (misfit_in_equations t b.equations)
 
--- the first of the faults, where `most` agents are allowed and the first misfit is this one
+-- the first fault, if `most` agents are allowed and this is the first misfit
 abbrev pub fault_of : ℕ → Option Place → List SourceFree → Reading → Option Refusal
 fault_of most misfit free r =
     earlier_refusal (earlier_refusal (refused E03 (too_many most r.agents)) (refused E07 misfit)) (refused E08 (miscounted (length r.names) r.spots free))

@@ -1,5 +1,5 @@
--- The net that a text has. Lafont 1990 writes a net as equations between terms: a term stands for a point, an agent's for its
--- principal port, and two occurrences of one variable for one wire. The place of a wire in the text is this project's own choice.
+-- The net that a text has. Lafont 1990 writes a net as equations between terms: a term is a point, an agent's term its
+-- principal port, and two occurrences of one variable are one wire. The place of a wire in the text is this project's own choice.
 use Rattle.std.specs.Prelude.{◌≡◌, ◌≢◌, ◌⊎◌, ℕ, suc, ◌+◌, ◌≤◌, true, List, [], ◌∷◌, ◌++◌, length, map, Option, Some, None, IsSome, slice_get, slice_index_or, ◌<◌}
 use Rattle.std.specs.List.{AllByRecursion, flat_map}
 use Rattle.in_base.specs.Lists.{IsAmong}
@@ -25,19 +25,19 @@ pub data IsPartOf : Term → Term → Type 0 where
   itself : (u : Term) → IsPartOf u u
   deeper : (u v t : Term) → IsAmong v (out-Term t).args → IsPartOf u v → IsPartOf u t
 
--- a head of a rule, and the number of its first boundary end: at each of its symbol's auxiliary places there is one, from left to
+-- a head of a rule, and the number of its first boundary end: each of its symbol's auxiliary places has one, from left to
 -- right
 pub record LeftHead : Type 0 where
   pub first : ℕ
   pub head : Head
 
--- what a text joins: the free names and the equations of a net, or the heads and the equations of a rule
+-- a text's parts that join spots: the free names and the equations of a net, or the heads and the equations of a rule
 pub record Body : Type 0 where
   pub free : List SourceFree
   pub heads : List LeftHead
   pub equations : List Equation
 
--- the heads of a rule as they are written, whose first boundary ends have these numbers
+-- the heads of a rule as written, whose first boundary ends have these numbers
 abbrev pub heads_at : SourceRule → ℕ → ℕ → List LeftHead
 heads_at r first second = record { first = first; head = r.first } ∷ record { first = second; head = r.second } ∷ []
 
@@ -65,7 +65,7 @@ IsAgentOfTerm t u s = number_in (name_of u) t.names ≡ Some s
 abbrev pub IsVariable : Tables → Term → Type 0
 IsVariable t u = number_in (name_of u) t.names ≡ None
 
--- what is joined in a text: a port of the agent whose name is at a place, a free or boundary end by its number, the occurrence
+-- a spot of a text: a port of the agent whose name is at a place, a free or boundary end by its number, the occurrence
 -- of a variable or free name at a place
 pub data TextSpot : Type 0 where
   port_at : Place → ℕ → TextSpot
@@ -76,7 +76,7 @@ abbrev pub spot_by : Option ℕ → Place → TextSpot
 spot_by None place = occurrence place
 spot_by (Some s) place = port_at place 0
 
--- the spot that a term stands for: an agent's principal port, or the occurrence
+-- the spot of a term: an agent's principal port, or the occurrence
 abbrev pub spot_of : Tables → Term → TextSpot
 spot_of t u = spot_by (number_in (name_of u) t.names) (place_of u)
 
@@ -202,7 +202,7 @@ ComesBefore (Free k) (Port y j) = Unit {0}
 ComesBefore (Port x i) (Free l) = ⊥
 ComesBefore (Port x i) (Port y j) = (x.0 < y.0) ⊎ ((x.0 ≡ y.0) × (i < j))
 
--- each wire is listed with the point first that comes first
+-- each listed wire has the point first that comes first
 abbrev pub EndsInOrder : Parts → Type 0
 EndsInOrder m = (w : ℕ) (x y : Point) → wire_in m w ≡ Some (x, y) → ComesBefore x y
 

@@ -30,7 +30,7 @@ fn point_of(spot: TextSpot) -> Option<Point>
     }
 }
 
-/// The point that a spot is joined to: once all is joined, no spot is joined to an occurrence.
+/// The point that a spot is joined to. Once all is joined, no spot is joined to an occurrence.
 pub(crate) fn partner(spots: &[TextSpot], links: &[Link], at: usize) -> Point
     requires at { at < length spots.now }
     requires point { IsPointSpot (nth_spot spots.now at) }
@@ -114,7 +114,7 @@ fn free_ends(
     Ok(ends)
 }
 
-/// The wire that begins at a spot, where the spot is joined to a later one.
+/// The wire that begins at a spot, if the spot is joined to a later one.
 fn wire_from(spots: &[TextSpot], links: &[Link], at: usize) -> Option<Wire>
     requires at { at < length spots.now }
     requires joined { IsJoined spots.now links.now }

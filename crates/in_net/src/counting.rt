@@ -6,7 +6,7 @@ use in_syntax::{Place, SourceFree, with_room};
 use sqlite_items::Items;
 use std::alloc::{AllocError, Global};
 
-/// How often a name was met, and at which spot first.
+/// How often a name was met, and its spot if it was met once.
 #[derive(Clone, Copy)]
 pub(crate) enum Seen {
     Never,
@@ -15,7 +15,7 @@ pub(crate) enum Seen {
     Often,
 }
 
-/// The number of a spot's name, where it has one.
+/// The number of a spot's name, if it has one.
 pub(crate) fn name_of(spot: TextSpot) -> Option<usize>
     ensures { result ≡ name_of spot }
 {

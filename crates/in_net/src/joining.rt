@@ -62,7 +62,7 @@ fn later(one: Place, other: Place) -> Place
     if other.from < one.from { one } else { other }
 }
 
-/// Connects the partners of two spots of one name, so that the wire leads on through both. If the two spots are each other's partners, the wire is
+/// Connects the partners of two spots of one name, so that the wire continues through both. If the two spots are each other's partners, the wire is
 /// closed, and its place is returned.
 fn merge(links: &mut Items<Link>, one: usize, other: usize) -> Option<Place>
     requires one { one < length links.old }

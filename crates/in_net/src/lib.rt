@@ -5,7 +5,7 @@
 //! agent, and the occurrences of variables and free names. `faults` then looks for the first fault: it counts the agents and their arguments, and
 //! `counting` counts how often each name occurs.
 //!
-//! Where there is no fault, `joining` first joins the spots of equations, arguments and heads' terms, and then takes the names one by one: the
+//! If there is no fault, `joining` first joins the spots of equations, arguments and heads' terms, and then takes the names one by one: the
 //! partners of the two spots of a name are joined, at the later of the two places. So a chain of any length costs its length, and the links that are
 //! left at the end join points alone. `building` makes the agents' ends and the wires, in the order of their places; `members` does the same for a
 //! rule, whose boundary ends are numbered with the constructor's places first.

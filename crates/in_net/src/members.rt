@@ -189,7 +189,7 @@ fn rule_from(
     }
 }
 
-/// The rule that is written so.
+/// The rule of this text.
 fn rule_of(alloc: Global, symbols: &Symbols, rule: &SourceRule) -> Result<Rule, Fault>
     requires { IsReadable symbols.now rule.now }
     ensures { BuildsRuleOf symbols.now rule.now result }

@@ -79,7 +79,7 @@ impl Drop for Net {
     }
 }
 
-// Contracts see all that an accessor reads. Which net that is, `specs/Parts.antt` says.
+// Contracts see all that an accessor reads. `specs/Parts.antt` says which net that is.
 impl Model for Net {
     ghost use Rattle.in_net.specs.Parts.{Parts, IsWhole};
 
@@ -110,7 +110,7 @@ impl Net {
         }
     }
 
-    /// The agents by number, with the partner of each of their places; `None` where a number has no agent.
+    /// The agents by number, with the partner of each of their places; `None` if a number has no agent.
     pub fn cells(&self) -> &[Option<Cell>]
         ensures cells { result.now ≡ self.now.cells }
         ensures whole { IsWhole self.now }
@@ -130,7 +130,7 @@ impl Net {
             .count() as u32
     }
 
-    /// The symbol of the agent of that number, where there is one.
+    /// The symbol of the agent of that number, if there is one.
     pub fn symbol(&self, agent: AgentNo) -> Option<SymbolNo>
         ensures { result ≡ symbol_in self.now agent.0 }
     {
@@ -162,7 +162,7 @@ impl Net {
         self.wires.len() as u32
     }
 
-    /// The two points of a wire. As built, wires are numbered from 0 by their places, no two of which are one, and the first of the
+    /// The two points of a wire. As built, wires are numbered from 0 by their places, no two of which are equal, and the first of the
     /// two points comes first: free ends by number, then the ports of each agent in turn, by place.
     pub fn wire(&self, number: u32) -> (Point, Point)
         requires { number < length self.now.wires }

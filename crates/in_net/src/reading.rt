@@ -79,7 +79,7 @@ impl Reading {
     }
 }
 
-/// How many terms these are, with all terms within them. It is the room that reading them takes, so no contract speaks of it.
+/// The number of these terms, with all terms within them. It is the room that reading them takes, so no contract names it.
 fn count_terms(terms: &[Term]) -> usize {
     let mut count = terms.len();
     for term in terms {
@@ -124,7 +124,7 @@ fn add_agent(
     Ok(first)
 }
 
-/// The number of a name, which is added where it is new.
+/// The number of a name, which is added if it is new.
 fn number_of(alloc: Global, names: &mut Names, name: &str) -> Result<usize, AllocError>
     ensures { IfOk result (λ number. (number ≡ unwrap_or (number_in name.now names.old) (length names.old)) × (names.new ≡ with_name names.old name.now)) }
 {

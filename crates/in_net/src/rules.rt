@@ -41,14 +41,14 @@ impl Rule {
         self.written
     }
 
-    /// The two symbols, the constructor first; in the order of the text where their principal types aren't opposite.
+    /// The two symbols, the constructor first; in the order of the text if their principal types aren't opposite.
     pub fn heads(&self) -> (SymbolNo, SymbolNo)
         ensures { result ≡ self.now.heads }
     {
         self.heads
     }
 
-    /// The place of a head's name: of the first one in the text, which is number 0, or of the second one.
+    /// The place of a head's name: number 0 is the first head in the text, 1 the second.
     pub fn head_place(&self, number: u8) -> Place
         requires { number < 2 }
         ensures { result ≡ place_of_head self.now number }

@@ -12,25 +12,25 @@ use Rattle.in_open_nets.specs.ClassGraphs.{Vertex, Hub, Class, HasClass, IsClass
 abbrev pub no_hub : HubNumbers
 no_hub = record { vertex = 0; edge = 0 }
 
--- a vertex by its number: the classes of a node follow its hub
+-- the number of a vertex: the classes of a node follow its hub
 abbrev pub vertex_in : List HubNumbers → Vertex ℕ → ℕ
 vertex_in hubs (Hub n) = (slice_index_or hubs n no_hub).vertex
 vertex_in hubs (Class n c) = (slice_index_or hubs n no_hub).vertex + 1 + c
 
--- a hub edge by its number: those of a node follow one another
+-- the number of a hub edge: those of a node follow one another
 abbrev pub hub_edge_in : List HubNumbers → ℕ → ℕ → ℕ
 hub_edge_in hubs n c = (slice_index_or hubs n no_hub).edge + c
 
 abbrev pub IsClassGraphOf : OpenNet → List Bool → ClassGraph → Type 0
 IsClassGraphOf o part g = IsClassGraph (open_graph o) (HasClass o) (nodes_in part) (vertex_in g.hubs) (hub_edge_in g.hubs) g.edges
 
--- .. whose edges are between its vertices, and where there is a hub for each node
+-- .. whose edges are between its vertices, with a hub for each node
 pub record IsGraphOf (o : OpenNet) (part : List Bool) (g : ClassGraph) : Type 0 where
   pub graph : IsClassGraphOf o part g
   pub within : AreWithin g.count g.edges
   pub hubs : length o.nodes ≤ length g.hubs
 
--- ---- what the code keeps true
+-- ---- the code's invariants
 
 -- the vertices of each node of the part below b come after those of the nodes before it, and are below count; a node has a hub and at
 -- most 256 classes
@@ -49,7 +49,7 @@ pub record AreHubEdges (o : OpenNet) (part : List Bool) (b : ℕ) (hubs : List H
   pub hub : (m k : ℕ) → m < b → IsIn m (nodes_in part) → HasClass o m k → IsHubEdge hubs edges m k
   pub only : (e : ℕ) (edge : ℕ × ℕ) → slice_get edges e ≡ Some edge → (m : ℕ) × (k : ℕ) × (m < b) × IsIn m (nodes_in part) × HasClass o m k × (e ≡ hub_edge_in hubs m k)
 
--- edges from a hub to the classes below width come last
+-- edges from a hub to the classes below width are added at the end
 pub record AddsHubEdges (hub width : ℕ) (old new : List (ℕ × ℕ)) : Type 0 where
   pub size : length new ≡ length old + width
   pub kept : (e : ℕ) (p : ℕ × ℕ) → slice_get old e ≡ Some p → slice_get new e ≡ Some p
@@ -60,7 +60,7 @@ abbrev pub IsEdgeOf : OpenNet → List Bool → List HubNumbers → ℕ → ℕ 
 IsEdgeOf o part hubs n i edge = (w : ℕ) × (m : ℕ) × (j : ℕ) × IsWire o w (Port n i) (Port m j) × IsIn m (nodes_in part)
     × (edge ≡ (vertex_in hubs (Class n (class_in o n i)), vertex_in hubs (Class m (class_in o m j))))
 
--- a wire is listed at the one of its points that comes first
+-- a wire is listed at its first point
 abbrev pub ComesFirst : ℕ → ℕ → ℕ → ℕ → Type 0
 ComesFirst n i m j = (n < m) ⊎ ((n ≡ m) × (i ≤ j))
 
@@ -68,11 +68,11 @@ ComesFirst n i m j = (n < m) ⊎ ((n ≡ m) × (i ≤ j))
 abbrev pub ListsNone : OpenNet → List Bool → ℕ → ℕ → Type 0
 ListsNone o part n i = (w m j : ℕ) → IsWire o w (Port n i) (Port m j) → IsIn m (nodes_in part) → ComesFirst n i m j → ⊥
 
--- the port is one of a node below b, or one of b below k
+-- the port is one of a node below b, or a port of b below k
 abbrev pub IsPast : ℕ → ℕ → ℕ → ℕ → Type 0
 IsPast b k n i = (n < b) ⊎ ((n ≡ b) × (i < k))
 
--- these are the hub edges of the part, and the edges of the wires that are listed at its ports that are past
+-- these are the hub edges of the part, and the edges of the wires that are listed at the past ports
 pub record AreEdges (o : OpenNet) (part : List Bool) (b k : ℕ) (hubs : List HubNumbers) (edges : List (ℕ × ℕ)) : Type 0 where
   pub hub : (m h : ℕ) → IsIn m (nodes_in part) → HasClass o m h → IsHubEdge hubs edges m h
   pub wire : (n i w m j : ℕ) → IsPast b k n i → IsIn n (nodes_in part) → IsWire o w (Port n i) (Port m j) → IsIn m (nodes_in part) → ComesFirst n i m j → (e : ℕ) × (edge : ℕ × ℕ) × (slice_get edges e ≡ Some edge) × IsEdgeOf o part hubs n i edge

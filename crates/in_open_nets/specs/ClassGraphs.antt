@@ -1,5 +1,5 @@
 -- The class graph of a set of nodes: a hub for each node, a vertex for each of its classes, an edge from the hub to each of these,
--- and the wires between the classes of their ports. This project's own: by its bridges it is decided which nodes split the set.
+-- and the wires between the classes of their ports. This project's own: its bridges decide which nodes split the set.
 use Rattle.std.specs.Prelude.{◌≡◌, ◌⊎◌, ℕ, suc, ◌<◌, Bool, List, length, slice_get, Option, Some, None}
 use Rattle.in_base.specs.Graphs.{Graph}
 use Rattle.in_simple_bridges.specs.Walks.{EdgeWalk, HasTwoEnds, IsOnCycle}
@@ -12,11 +12,11 @@ pub data Vertex (V : Type 0) : Type 0 where
   Hub : V → Vertex V
   Class : V → ℕ → Vertex V
 
--- which numbers are classes of a node, those of its wired ports among them
+-- the numbers of the classes of a node, those of its wired ports among them
 abbrev pub AreNodeClasses : (g : Graph) → (g.Node → ℕ → Type 0) → Type 0
 AreNodeClasses g Has = (m : g.Node) (i : ℕ) (q : g.Node × ℕ) → g.Wire (m, i) q → Has m (g.class m i)
 
--- the edge from the hub of m to its class k, where that isn't the one from n to c
+-- the edge from the hub of m to its class k, if that isn't the one from n to c
 abbrev pub OtherHubEdge : (g : Graph) → (g.Node → ℕ → Type 0) → (g.Node → Bool) → g.Node → ℕ → g.Node → ℕ → Type 0
 OtherHubEdge g Has s n c m k = IsIn m s × Has m k × ((m ≡ n) × (k ≡ c) → ⊥)
 
@@ -37,7 +37,7 @@ abbrev pub IsVertex : (g : Graph) → (g.Node → ℕ → Type 0) → (g.Node �
 IsVertex g Has s (Hub m) = IsIn m s
 IsVertex g Has s (Class m k) = IsIn m s × Has m k
 
--- the vertices have numbers of their own, each hub edge has one place in the list, and all else there is a wire between nodes of s
+-- the vertices have different numbers, each hub edge has one place in the list, and every other edge there is a wire between nodes of s
 pub record IsClassGraph (g : Graph) (Has : g.Node → ℕ → Type 0) (s : g.Node → Bool) (number : Vertex g.Node → ℕ) (hub_edge : g.Node → ℕ → ℕ) (es : List (ℕ × ℕ)) : Type 0 where
   pub apart : (u v : Vertex g.Node) → IsVertex g Has s u → IsVertex g Has s v → number u ≡ number v → u ≡ v
   pub hub : (m : g.Node) (k : ℕ) → IsIn m s → Has m k → slice_get es (hub_edge m k) ≡ Some (number (Hub m), number (Class m k))

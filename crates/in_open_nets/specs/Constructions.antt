@@ -1,4 +1,4 @@
--- Which sets of nodes the constructions build. Lafont 1990: a semi-simple net is built up by EMPTY, LINK, MIX, CUT and GRAFT. The
+-- The sets of nodes that the constructions build. Lafont 1990: a semi-simple net is built up by EMPTY, LINK, MIX, CUT and GRAFT. The
 -- leaf for a class node of an open right member is this project's own.
 use Rattle.std.specs.Prelude.{◌≡◌, ◌≢◌, ◌⊎◌, ◌↔◌, ℕ, zero, suc, ◌+◌, ◌<◌, ◌≤◌, cond, Bool, true, false, ◌&&◌, nat_eq}
 use Rattle.in_base.specs.Graphs.{Graph}

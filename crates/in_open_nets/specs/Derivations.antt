@@ -32,7 +32,7 @@ own_links (Graft n steps) = []
 own_links (Cut w a b) = []
 own_links (Mix a b) = []
 
--- what a step builds: its nodes, the wires of its Links, and how many open ends it has for each point
+-- the part that a step builds: its nodes, the wires of its Links, and the number of its open ends for each point
 pub record Part : Type 0 where
   pub nodes : ℕ → Bool
   pub links : ℕ → Bool
@@ -91,9 +91,9 @@ AreEarlier parts k [] (x ∷ xs) = ⊥
 AreEarlier parts k (i ∷ is) [] = ⊥
 AreEarlier parts k (i ∷ is) (x ∷ xs) = (i < k) × (slice_get parts i ≡ Some x) × AreEarlier parts k is xs
 
--- Which open ends a step makes of those of the steps that it names. A wire's ends are each for one of its two points
+-- How the open ends of a step come from those of the steps that it names. A wire's ends are each for one of its two points
 
--- the end of a for q, where p is a's own port, and the end of b for p
+-- a has an end for q, where p is a's own port, and b has an end for p
 pub record IsCut (o : OpenNet) (w : ℕ) (a b : Part) : Type 0 where
   pub p : OpenPoint
   pub q : OpenPoint

@@ -27,7 +27,7 @@ SplitsOffCycles = (o : OpenNet) → IsOpenNet o → (s : ℕ → Bool) (number :
 abbrev pub DerivableHasNoCircle : Type 0
 DerivableHasNoCircle = (o : OpenNet) → IsOpenNet o → IsDerivable o → CrossingCircle (open_graph o) → ⊥
 
--- it splits and no sub-net is the first stuck one, or it doesn't split and exactly one is
+-- it splits and has no first stuck sub-net, or it doesn't split and has exactly one
 abbrev pub HasNoFirstStuck : OpenNet → Type 0
 HasNoFirstStuck o = (t : ℕ → Bool) → IsFirstStuck o t → ⊥
 
@@ -39,11 +39,11 @@ SplitsOrFirstStuck = (o : OpenNet) → IsOpenNet o → (NetSplits o × HasNoFirs
 
 -- ---- one result
 
--- a set of nodes is its members: with as many tests one set has them
+-- a set of nodes is determined by its members and its number of tests
 abbrev pub SetIsItsMembers : Type 0
 SetIsItsMembers = (a b : List Bool) → length a ≡ length b → ((n : ℕ) → IsIn n (nodes_in a) ↔ IsIn n (nodes_in b)) → a ≡ b
 
--- of a set of an open net's nodes one node is the first that splits it, or none is
+-- the first node that splits a set of an open net's nodes is determined, and so is whether there is one
 abbrev pub FirstSplittingIsOne : Type 0
 FirstSplittingIsOne = (o : OpenNet) (part : List Bool) (a b : Option ℕ) → length part ≡ length o.nodes → IsFirstIn o part a → IsFirstIn o part b → a ≡ b
 
@@ -51,11 +51,11 @@ FirstSplittingIsOne = (o : OpenNet) (part : List Bool) (a b : Option ℕ) → le
 abbrev pub ComponentIsOne : Type 0
 ComponentIsOne = (o : OpenNet) (within : List Bool) (from : ℕ) (a b : List Bool) → length a ≡ length o.nodes → length b ≡ length o.nodes → IsReached o within from a → IsReached o within from b → a ≡ b
 
--- two sets have one union, as large as the second one
+-- two sets have one union of the size of the second one
 abbrev pub UnionIsOne : Type 0
 UnionIsOne = (more old a b : List Bool) → length a ≡ length old → length b ≡ length old → IsUnion more old a → IsUnion more old b → a ≡ b
 
--- a node leaves one set of a set
+-- a set without a node is one set
 abbrev pub RestIsOne : Type 0
 RestIsOne = (n : ℕ) (part a b : List Bool) → length a ≡ length part → length b ≡ length part → IsRest n part a → IsRest n part b → a ≡ b
 

@@ -30,7 +30,7 @@ pub record AreMarks (marks : List ℕ) (last out : ℕ) : Type 0 where
   pub absent : out ≡ missing (marked last marks)
   pub few : length marks < 2 ^ 64
 
--- of `count` nodes these are members
+-- the tests of `count` nodes of which these are members
 abbrev pub tests_of : ℕ → List ℕ → NodeBits
 tests_of count [] = replicate count false
 tests_of count (n ∷ ns) = slice_set (tests_of count ns) n true

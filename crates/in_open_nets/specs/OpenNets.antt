@@ -91,11 +91,11 @@ open_graph o = record { Node = ℕ; class = class_in o; Wire = λ u v. (w : ℕ)
 abbrev pub IsDerivable : OpenNet → Type 0
 IsDerivable o = (s : NodeTest) × ((n : ℕ) → IsIn n s ↔ IsNode o n) × Built (open_graph o) (IsAgent o) (classes_of o) s
 
--- some node splits it, and with the first one taken out each component splits
+-- some node splits it, and without the first such node each component splits
 abbrev pub NetSplits : OpenNet → Type 0
 NetSplits o = (s : NodeTest) × ((n : ℕ) → IsIn n s ↔ IsNode o n) × Splits (open_graph o) (λ m n. m < n) s
 
--- ---- what the accessors read
+-- ---- the results of the accessors
 
 abbrev pub node_in : OpenNet → ℕ → Option Node
 node_in o n = option_map (λ m. m.node) (slice_get o.nodes n)

@@ -1,4 +1,4 @@
--- Parts of open nets: the wires by port, the nodes that a search reaches, and what splits a part. Sets of nodes are lists of tests, node by node.
+-- Parts of open nets: wires by port, the nodes that a search reaches, the nodes that split a part. Sets of nodes are lists of tests, node by node.
 use Rattle.std.specs.Prelude.{◌≡◌, ◌⊎◌, ◌↔◌, ℕ, ◌+◌, ◌*◌, ◌<◌, ◌≤◌, Bool, true, false, List, [], ◌∷◌, ◌++◌, length, drop, slice_set, slice_index_or, Option, Some, None, MatchOption}
 use Rattle.in_open_nets.specs.declared.open_nets.OpenPoint.{OpenPoint}
 use Rattle.in_open_nets.specs.declared.open_nets.OpenPoint.TheVariants.{Port, Free}
@@ -31,7 +31,7 @@ abbrev pub HasSlot : List Slot → OpenPoint → Type 0
 HasSlot slots (Port n i) = n * (max_ports + 1) + i < length slots
 HasSlot slots (Free k) = Unit {0}
 
--- the slot of a port has this
+-- the slots with this wire at a port
 abbrev pub led : List Slot → ℕ → OpenPoint → OpenPoint → List Slot
 led slots w (Port n i) q = slice_set slots (n * (max_ports + 1) + i) (Some (w, q))
 led slots w (Free k) q = slots
@@ -58,7 +58,7 @@ IsNeighbour o within n i near = MatchOption near
     ((w l j : ℕ) → IsWire o w (Port n i) (Port l j) → IsIn l (nodes_in within) → ⊥)
     (λ l. (w : ℕ) × (j : ℕ) × IsWire o w (Port n i) (Port l j) × IsIn l (nodes_in within) × (l < length o.nodes))
 
--- l is reached, and pending where it is so only now
+-- l is reached; it is pending if it wasn't reached before
 abbrev pub Reaches : ℕ → List Bool → List ℕ → List Bool → List ℕ → Type 0
 Reaches l reached pending reached' pending' =
     (IsIn l (nodes_in reached) × (reached' ≡ reached) × (pending' ≡ pending))
@@ -74,7 +74,7 @@ pub record Spreads (o : OpenNet) (within : List Bool) (n b : ℕ) (reached : Lis
   pub all : (i w l j : ℕ) → i < b → IsWire o w (Port n i) (Port l j) → IsIn l (nodes_in within) → IsIn l (nodes_in reached')
   pub fewer : 2 * missing reached' + length pending' ≤ 2 * missing reached + length pending
 
--- .. wherever among those that are found the search is
+-- .. for any place of the search among the found nodes
 pub record SpreadsOver (o : OpenNet) (within : List Bool) (n b : ℕ) (reached : List Bool) (found : List ℕ) (reached' : List Bool) (found' : List ℕ) : Type 0 where
   pub size : length reached' ≡ length reached
   pub longer : length found ≤ length found'
@@ -98,7 +98,7 @@ IsReached o within from c = (k : ℕ) → IsIn k (nodes_in c) ↔ Linked (open_g
 
 -- ---- splitting
 
--- rest has the nodes of part but n
+-- rest has the nodes of part without n
 abbrev pub IsRest : ℕ → List Bool → List Bool → Type 0
 IsRest n part rest = (m : ℕ) → IsIn m (nodes_in rest) ↔ Without n (nodes_in part) m
 

@@ -1,4 +1,4 @@
--- Sets of nodes that are in one piece. What a node leaves of such a set is in one piece too, where its neighbours are joined without it.
+-- Sets of nodes that are in one piece. Such a set without a node is in one piece too, if the node's neighbours are joined without it.
 use Rattle.std.specs.Prelude.{◌≡◌, ℕ, ◌<◌, length}
 use Rattle.in_open_nets.specs.declared.open_nets.OpenPoint.TheVariants.{Port}
 use Rattle.in_open_nets.specs.Constructions.{IsIn}
@@ -16,7 +16,7 @@ module _ (o : OpenNet) (within : NodeBits) where
   abbrev pub AreTogether : NodeBits → Type 0
   AreTogether these = (k l : ℕ) → IsIn k (nodes_in these) → IsIn l (nodes_in these) → AreJoinedWithin k l
 
-  -- .. from and one of these
+  -- .. `from` and one of these
   abbrev pub IsJoinedTo : ℕ → NodeBits → Type 0
   IsJoinedTo from these = (k : ℕ) × IsIn k (nodes_in these) × AreJoinedWithin from k
 
@@ -44,7 +44,7 @@ IsOnePiece o s = AreTogether o s s
 abbrev pub IsPieceOrWhole : OpenNet → NodeBits → Type 0
 IsPieceOrWhole o s = 0 < missing s → IsOnePiece o s
 
--- s is what n leaves of a set that is in one piece, or of the whole net
+-- s is a set that is in one piece, or the whole net, without n
 abbrev pub IsLeftOf : OpenNet → ℕ → NodeBits → Type 0
 IsLeftOf o n s = (set : NodeBits) × (length set ≡ length s) × IsRest n set s × IsPieceOrWhole o set
 

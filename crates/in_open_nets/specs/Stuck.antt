@@ -23,7 +23,7 @@ module _ (o : OpenNet) (n : ℕ) where
   abbrev pub turn : ℕ → ℕ
   turn i = elim (slice_get o.nodes n) [ None ↦ i | Some m ↦ elim m.node [ AgentNode y ↦ cond (nat_eq i 0) (length m.class_of) i | ClassNode y c ↦ i ] ]
 
-  -- the turn of a component: that of the first port of n that touches it; after these come those that n doesn't touch, by their first nodes
+  -- the turn of a component: that of the first port of n that touches it; then come the components that n doesn't touch, by their first nodes
   abbrev pub ComesAt : NodeTest → ℕ → Type 0
   ComesAt c k = ((i : ℕ) × Touches c i × (turn i ≡ k) × ((j : ℕ) → Touches c j → k ≤ turn j))
       ⊎ (((i : ℕ) → Touches c i → ⊥) × ((m : ℕ) × IsIn m c × (suc ports_of + m ≡ k) × ((l : ℕ) → IsIn l c → m ≤ l)))
@@ -41,8 +41,8 @@ module _ (o : OpenNet) (n : ℕ) (s : NodeTest) where
   abbrev pub EarlierSplit : ℕ → Type 0
   EarlierSplit k = (d : NodeTest) (l : ℕ) → IsPart d → ComesAt o n d l → l < k → Splits (open_graph o) (λ m n. m < n) d
 
--- t is the first stuck sub-net of s: s, where it has nodes and none splits it; else that of the first component, with the first
--- splitting node taken out, that doesn't split
+-- t is the first stuck sub-net of s: s itself, if it has nodes and none splits it; otherwise that of the first component that doesn't split
+-- once the first splitting node is taken out
 pub data FirstStuck (o : OpenNet) : NodeTest → NodeTest → Type 0 where
   whole : (s : NodeTest) → IsStuck (open_graph o) s → FirstStuck o s s
   within : (s : NodeTest) (n : ℕ) (c : NodeTest) (k : ℕ) (t : NodeTest) → IsFirstToSplit o n s → IsPart o n s c → ComesAt o n c k → EarlierSplit o n s k → FirstStuck o c t → FirstStuck o s t
@@ -53,7 +53,7 @@ IsFirstStuck o t = (s : NodeTest) × ((n : ℕ) → IsIn n s ↔ IsNode o n) × 
 
 -- ---- the result
 
--- n is one of them
+-- n is an element of the list
 abbrev pub Among : ℕ → List ℕ → Type 0
 Among n [] = ⊥
 Among n (m ∷ ms) = (n ≡ m) ⊎ Among n ms

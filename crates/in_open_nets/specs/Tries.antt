@@ -1,4 +1,4 @@
--- Whether one node splits a part, by what a search from the node alone found: a cycle shows that it does not, and labels show that it does.
+-- Whether one node splits a part, by a search from the node alone: a cycle shows that it does not, and labels show that it does.
 use Rattle.std.specs.Prelude.{◌≡◌, ◌≢◌, ℕ, ◌<◌, Bool, cond, nat_eq, List, slice_get, slice_index_or, Option, Some, None, MatchOption, IsSomeAnd, length}
 use Rattle.in_open_nets.specs.declared.labels.Labels.{Labels}
 use Rattle.in_open_nets.specs.declared.labels.Mark.{Mark}
@@ -28,7 +28,7 @@ AreIn part ms = (m : ℕ) → Among m ms → IsIn m (nodes_in part)
 abbrev pub KeepsWhole : OpenNet → ℕ → List ℕ → Type 0
 KeepsWhole o n ms = (part : List Bool) → AreIn part ms → SplitsIt o part n → ⊥
 
--- the nodes that are kept for a node do so; and none is kept for any
+-- the nodes kept for a node are such ones; and none are kept for any node
 abbrev pub KeepWhole : OpenNet → List (Option (List ℕ)) → Type 0
 KeepWhole o found = (n : ℕ) (ms : List ℕ) → slice_index_or found n None ≡ Some ms → KeepsWhole o n ms
 
@@ -37,7 +37,7 @@ AreNone found = (n : ℕ) → slice_index_or found n None ≡ None
 
 -- ---- labels
 
--- the mark of a node, where the last trial made it
+-- the mark of a node, if the last trial made it
 abbrev pub mark_in : Labels → ℕ → Option Mark
 mark_in labels n = elim (slice_get labels.marks n) [ None ↦ None | Some m ↦ cond (nat_eq m.trial labels.trial) (Some m) None ]
 
@@ -46,27 +46,27 @@ abbrev pub HasLabel : Labels → ℕ → ℕ → Type 0
 HasLabel labels c n = IsSomeAnd (mark_in labels n) (λ m. m.class ≡ c)
 
 module _ (o : OpenNet) (part : List Bool) (n : ℕ) (labels : Labels) where
-  -- what the ports of l below b lead to in the part, but n, has this label
+  -- the nodes of the part, without n, that the ports of l below b lead to have this label
   abbrev pub AreLabelled : ℕ → ℕ → ℕ → Type 0
   AreLabelled c l b = (i w m j : ℕ) → i < b → IsWire o w (Port l i) (Port m j) → IsIn m (nodes_in part) → m ≢ n → HasLabel labels c m
 
-  -- the label of a node of the part is that of its neighbours; and so it is for each node
+  -- the label of a node of the part is that of its neighbours; and this holds of each node
   abbrev pub LabelSpreads : ℕ → Type 0
   LabelSpreads l = (c : ℕ) → IsIn l (nodes_in part) → HasLabel labels c l → AreLabelled c l (ports_of o l)
 
   abbrev pub LabelsSpread : Type 0
   LabelsSpread = (l : ℕ) → LabelSpreads l
 
-  -- port i of n leads to n itself by a port of its class, and to no other node of the part but those with its class as label
+  -- port i of n leads to n itself only by a port of its class, and to other nodes of the part only if they have its class as label
   abbrev pub LeadsToLabel : ℕ → Type 0
   LeadsToLabel i = (w m j : ℕ) → IsWire o w (Port n i) (Port m j) → (m ≡ n → class_in o n j ≡ class_in o n i) × (IsIn m (nodes_in part) → m ≢ n → HasLabel labels (class_in o n i) m)
 
   abbrev pub LeadToLabels : ℕ → Type 0
   LeadToLabels b = (i : ℕ) → i < b → LeadsToLabel i
 
--- ---- what is found
+-- ---- the results
 
--- whether the node splits the part, where that is found
+-- the result says whether the node splits the part, if the search decides it
 abbrev pub IsTried : OpenNet → List Bool → ℕ → Option Bool → Type 0
 IsTried o part n None = Unit {0}
 IsTried o part n (Some b) = cond b (SplitsIt o part n) (SplitsIt o part n → ⊥)
@@ -75,7 +75,7 @@ IsTried o part n (Some b) = cond b (SplitsIt o part n) (SplitsIt o part n → �
 abbrev pub IsFirstIn : OpenNet → List Bool → Option ℕ → Type 0
 IsFirstIn o part found = MatchOption found (NoneSplits o part (length o.nodes)) (IsFirst o part)
 
--- .. where that is found
+-- .. if the search decides it
 abbrev pub AreTried : OpenNet → List Bool → Option (Option ℕ) → Type 0
 AreTried o part None = Unit {0}
 AreTried o part (Some found) = IsFirstIn o part found

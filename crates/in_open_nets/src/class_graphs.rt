@@ -13,7 +13,7 @@ use in_base::use_promise;
 use sqlite_items::Items;
 use std::alloc::{AllocError, Global};
 
-/// The number of a node's hub, which those of its classes follow, and that of its first hub edge.
+/// The number of a node's hub, which the numbers of its classes follow, and that of its first hub edge.
 #[derive(Clone, Copy, Drop)]
 pub(crate) struct HubNumbers {
     pub(crate) vertex: usize,
@@ -61,7 +61,7 @@ impl ClassGraph {
         }
     }
 
-    /// Numbers for that many nodes: nothing is to be done but the first time.
+    /// Numbers for that many nodes: it does something only the first time.
     fn make_room(&mut self, nodes: usize) -> Result<(), AllocError>
         ensures { OnOk result (nodes ≤ length self.new.hubs) }
     {
@@ -118,7 +118,7 @@ impl ClassGraph {
         self.hubs.as_slice()[node].vertex + 1 + wired.class(node, port)
     }
 
-    /// The edge of the wire at a port, if it leads to a node of the part. It is listed at the one of its points that comes first.
+    /// The edge of the wire at a port, if it leads to a node of the part. It is listed at its first point.
     fn port_edge(&self, part: &Part, node: usize, port: usize) -> Option<(usize, usize)>
         requires node { node < length part.now.wired.now.nodes }
         requires port { port < ports_of part.now.wired.now node }

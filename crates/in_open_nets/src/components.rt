@@ -14,7 +14,7 @@ use in_base::use_promise;
 use std::alloc::{AllocError, Global};
 use std::marker::Model;
 
-/// The node at the other end of the wire at a port, where it is in the part.
+/// The node at the other end of the wire at a port, if it is in the part.
 pub(crate) fn neighbour(part: &Part, node: usize, port: usize) -> Option<u32>
     requires node { node < length part.now.wired.now.nodes }
     requires port { port < ports_of part.now.wired.now node }
@@ -79,7 +79,7 @@ pub(crate) fn begin(
     Ok(found)
 }
 
-/// Reaches the nodes of the component of a node of the part, and lists them. Once they are all of the part, nothing is left to be looked for.
+/// Reaches the nodes of the component of a node of the part, and lists them. Once they are all of the part, it looks for no more.
 fn reach_from(
     alloc: Global,
     part: &Part,
@@ -106,7 +106,7 @@ fn reach_from(
     Ok(found)
 }
 
-/// The component of a node of the part, with a set that is lent for the search: all of the part, where that is known to be in one piece.
+/// The component of a node of the part, with a set that is lent for the search: all of the part, if that is known to be in one piece.
 fn component(
     alloc: Global,
     part: &Part,
@@ -214,7 +214,7 @@ impl DoneNodes {
         joins_neighbours(alloc, part, node, &mut self.near, &mut self.reached)
     }
 
-    /// The component of the node `from` of the part, which is derived too now. The part is what the node `node` left.
+    /// The component of the node `from` of the part, whose nodes count as derived then. The part is a set without the node `node`.
     pub fn add(
         &mut self,
         alloc: Global,

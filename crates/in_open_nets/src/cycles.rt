@@ -9,7 +9,7 @@ use std::alloc::{AllocError, Global};
 use std::marker::Model;
 
 /// For each node the other nodes of a cycle, if one was found: it leads through these from one class of the node to another one, so that
-/// the node splits no part that has them. That is checked when a cycle is kept, so that later only its nodes are looked for.
+/// the node splits no part that has them. This is checked when a cycle is kept, so that later only its nodes are looked for.
 #[derive(Drop)]
 pub struct Cycles<'a> {
     wired: &'a Wired<'a>,
@@ -108,7 +108,7 @@ impl<'a> Cycles<'a> {
         }
     }
 
-    /// Keeps the walk that leaves one node after the other by these ports, from this one on, where it is such a cycle.
+    /// Keeps the walk that leaves one node after the other by these ports, from this one on, if it is such a cycle.
     pub(crate) fn keep(
         &mut self,
         alloc: Global,

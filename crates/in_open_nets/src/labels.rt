@@ -9,7 +9,7 @@ use crate::open_nets::OpenPoint;
 use crate::parts::Candidate;
 use sqlite_items::Items;
 
-/// By which class of the node that was tried a node was reached, in which trial, and its place among those that were reached.
+/// The class of the tried node by which a node was reached, the number of the trial, and the node's place among those that were reached.
 #[derive(Clone, Copy, Drop)]
 pub(crate) struct Mark {
     pub(crate) trial: usize,
@@ -103,7 +103,7 @@ fn leads_to_label(candidate: &Candidate, labels: &Labels, port: usize) -> bool
     }
 }
 
-/// Whether each port of the candidate leads to its class.
+/// Whether each port of the candidate leads to a node with the port's class as label, or to a port of that class, or out of the part.
 fn lead_to_labels(candidate: &Candidate, labels: &Labels) -> bool
     ensures leads { IsTrue result → LeadToLabels candidate.now.part.wired.now candidate.now.part.nodes.now candidate.now.node labels.now (ports_of candidate.now.part.wired.now candidate.now.node) }
     ensures net { IsOrderly candidate.now.part.wired.now }
@@ -116,7 +116,7 @@ fn lead_to_labels(candidate: &Candidate, labels: &Labels) -> bool
     true
 }
 
-/// Whether the labels show that the candidate splits the part: none is beside another one, and its ports lead to their own.
+/// Whether the labels show that the candidate splits the part: no two labels are adjacent, and each port of it leads to its class.
 pub(crate) fn show_splitting(candidate: &Candidate, labels: &Labels) -> bool
     ensures { IsTrue result → SplitsIt candidate.now.part.wired.now candidate.now.part.nodes.now candidate.now.node }
 {

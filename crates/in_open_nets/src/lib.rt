@@ -1,4 +1,4 @@
-//! Open nets: their parts, which nodes split these, and the steps that build a net.
+//! Open nets: their parts, the nodes that split these, and the steps that build a net.
 //!
 //! This crate has open nets, their parts and the nodes that split these, and the types of a derivation (`Derivation`, `Step`, `Stuck`). It
 //! knows no nets, so that it is proved beside `in_net`.
@@ -8,18 +8,18 @@
 //! split it).
 //!
 //! `splitting` looks for the first node that splits the part, by trying its nodes one after another. `cycles` keeps for each node the nodes of a
-//! walk from one class of the node to another, which it checked when it was found: where the part has them all, the node does not split it. Where
-//! all ports of the node that lead into the part are of one class, it splits the part, however the rest is connected. Else `trials` searches from
+//! walk from one class of the node to another, which it checked when it was found: if the part has them all, the node does not split it. If
+//! all ports of the node that lead into the part are of one class, it splits the part, for any other wires. Otherwise `trials` searches from
 //! all its ports at once: either it meets two classes, and keeps the walk by which they met for the parts to come, or it reaches all that it can,
 //! and `labels` checks that no two labels are adjacent.
 //!
-//! Only where this takes too long, `class_graphs` lists the part's class graph (a hub for each node, a vertex for each of its classes, a
+//! Only if this takes too long, `class_graphs` lists the part's class graph (a hub for each node, a vertex for each of its classes, a
 //! hub edge between the two, and the wires between classes), `in_simple_bridges` finds which of its edges are on a cycle, and the first node
 //! none of whose hub edges is on a cycle splits the part.
 //!
 //! Each part that is derived, except the whole net, is a component, and so connected. The rest of such a part without a node is connected too if the
 //! node's neighbours are joined without it: `pieces` tries that by short searches, from each neighbour until it meets the nodes gathered about the
-//! first one. If all meet, the component is all that is left; else `components` searches for it, until it has all of the part.
+//! first one. If all meet, the component is all that is left; otherwise `components` searches for it, until it has all of the part.
 //!
 //! `nodes` has the nodes of a part: on the stack as a list of their numbers (`NodeList`), and, while the part is in use, also as a set with a
 //! membership test in constant time (`NodeSet`). Such a set (`scratch`: `Scratch`, a mark for each node of the net; the members are those with the

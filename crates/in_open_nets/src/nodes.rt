@@ -63,7 +63,7 @@ impl NodeList {
         self.members.as_slice()
     }
 
-    /// The same nodes once more.
+    /// A copy of these nodes.
     fn copy(&self, alloc: Global) -> Result<NodeList, AllocError>
         ensures { IfOk result (λ set. set ≡ self.now) }
     {
@@ -106,7 +106,7 @@ impl NodeList {
         })
     }
 
-    /// Makes these members of a set of the same size too.
+    /// Also makes these nodes members of a set of the same size.
     pub(crate) fn add_to(&self, set: &mut Scratch)
         requires { length self.now ≡ length set.old }
         ensures size { length set.new ≡ length set.old }
@@ -169,7 +169,7 @@ impl NodeSet {
         self.tests.has(node)
     }
 
-    /// The list of these nodes once more.
+    /// A copy of the list of these nodes.
     pub(crate) fn copy(&self, alloc: Global) -> Result<NodeList, AllocError>
         ensures { IfOk result (λ set. set ≡ self.now) }
     {
@@ -217,7 +217,7 @@ impl NodeSet {
         }
     }
 
-    /// These but one, and the list of these.
+    /// These without one, and the list of these.
     pub fn without(self, alloc: Global, node: usize) -> Result<(NodeSet, NodeList), AllocError>
         requires { node < length self }
         ensures size { IfOk result (λ r. length r.0 ≡ length self) }

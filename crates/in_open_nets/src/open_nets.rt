@@ -132,7 +132,7 @@ impl OpenNet {
         self.nodes.as_slice()[node].classes as usize
     }
 
-    /// How many numbers its classes have: an agent's principal port is class 0.
+    /// How many class numbers it has: an agent's principal port is class 0.
     pub(crate) fn width(&self, node: usize) -> usize
         requires { node < length self.now.nodes }
         ensures width { result ≡ width_of self.now node }
@@ -145,7 +145,7 @@ impl OpenNet {
         }
     }
 
-    /// Whether the node is an agent; else it is a class node.
+    /// Whether the node is an agent. Otherwise it is a class node.
     pub fn is_agent(&self, node: usize) -> bool
         requires { node < length self.now.nodes }
         ensures agent { IsTrue result → IsAgent self.now node }

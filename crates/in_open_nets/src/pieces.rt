@@ -12,7 +12,7 @@ use crate::scratch::Scratch;
 use in_base::use_promise;
 use std::alloc::{AllocError, Global};
 
-/// How many nodes a search finds in a small part before it goes no further, and for how many nodes of a part it finds one more.
+/// The number of nodes that a search finds in a small part before it stops, and the number of nodes of a part for which it finds one more.
 const FEW: usize = 32;
 
 const SHARE: usize = 16;
@@ -32,7 +32,7 @@ fn leads_to(part: &Part, node: usize, these: &Scratch) -> bool
     false
 }
 
-/// About `enough` nodes that are joined to one, the nearest ones, with itself.
+/// About `enough` of the nearest nodes that are joined to one node, with it among them.
 fn gather(
     alloc: Global,
     part: &Part,

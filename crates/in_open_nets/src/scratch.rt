@@ -38,7 +38,7 @@ impl Model for Scratch {
 }
 
 impl Scratch {
-    /// None of `count` nodes.
+    /// No members of `count` nodes.
     pub fn new(alloc: Global, count: usize) -> Result<Scratch, AllocError>
         ensures size { IfOk result (λ set. length set ≡ count) }
         ensures none { IfOk result (λ set. (n : ℕ) → nodes_in set n ≡ false) }
@@ -87,7 +87,7 @@ impl Scratch {
         }
     }
 
-    /// Takes the number out.
+    /// Removes the number.
     pub(crate) fn take(&mut self, number: usize)
         ensures { self.new ≡ slice_set self.old number false }
     {
@@ -97,7 +97,7 @@ impl Scratch {
         }
     }
 
-    /// Takes all out. More than 4,294,967,294 times are no memory.
+    /// Removes all members. After more than 4,294,967,294 times it is out of memory.
     pub(crate) fn clear(&mut self) -> Result<(), AllocError>
         ensures size { length self.new ≡ length self.old }
         ensures none { OnOk result ((n : ℕ) → nodes_in self.new n ≡ false) }

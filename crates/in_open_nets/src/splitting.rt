@@ -14,7 +14,7 @@ use in_simple_bridges::on_cycles;
 use sqlite_items::Items;
 use std::alloc::{AllocError, Global};
 
-/// Whether all ports of the candidate that lead into the part are of one class: then it splits the part, however the rest is connected.
+/// Whether all ports of the candidate that lead into the part are of one class: then it splits the part, for any other wires.
 fn touches_by_one_class(candidate: &Candidate) -> bool
     ensures splits { IsTrue result → SplitsIt candidate.now.part.wired.now candidate.now.part.nodes.now candidate.now.node }
     ensures net { IsOrderly candidate.now.part.wired.now }
@@ -131,7 +131,7 @@ fn first_by_bridges(
     first_in(alloc, part, graph)
 }
 
-/// The first node of the part that splits it. Its class graph is listed only where trying its nodes one by one takes too long.
+/// The first node of the part that splits it. Its class graph is listed only if trying its nodes one by one takes too long.
 pub fn first_splitting(
     alloc: Global,
     part: &Part,

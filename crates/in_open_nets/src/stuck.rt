@@ -5,7 +5,7 @@ use crate::open_nets::OpenNet;
 use in_syntax::Place;
 
 impl Stuck {
-    /// The place of the first node of the stuck sub-net in the text: there its program is refused. That it is the first node is
+    /// The place of the first node of the stuck sub-net in the text: its program is refused there. That it is the first node is
     /// this project's own choice.
     pub fn place(&self, open: &OpenNet) -> Place
         requires { IsStuckNet «open».now self.now }

@@ -13,14 +13,14 @@ use crate::wired::Wired;
 use sqlite_items::Items;
 use std::alloc::{AllocError, Global};
 
-/// The most nodes of a cycle on either side of where a search met.
+/// The most nodes of a cycle on either side of its meeting.
 const MOST_STEPS: usize = 64;
 
 /// How many ports are visited for each node of a part, before all of its nodes are decided at once.
 const PORTS_FOR_A_NODE: usize = 32;
 
-/// A node that a search reached, by a class of the candidate: from which one before it, if not from that node itself, by which
-/// port of that one, and at which port of its own.
+/// A node that a search reached, by a class of the candidate: the reached node before it, if that isn't the candidate, the port by which
+/// that one was left, and the port by which this one was entered.
 #[derive(Clone, Copy, Drop)]
 struct ReachedNode {
     node: usize,
@@ -30,7 +30,7 @@ struct ReachedNode {
     entered: u8,
 }
 
-/// Where two classes met: at the port of the one that was reached, or of the candidate, and at another one that was reached, or the candidate.
+/// A meeting of two classes: at the port of a node that was reached, or of the candidate, and at another node that was reached, or the candidate.
 #[derive(Clone, Copy, Drop)]
 struct Meeting {
     from: Option<usize>,
@@ -143,7 +143,7 @@ impl Search {
         }
     }
 
-    /// Follows the wire at a port of the node `at`, reached by a class. Returns where it meets another class.
+    /// Follows the wire at a port of the node `at`, reached by a class. Returns the meeting with another class.
     fn visit(
         &mut self,
         candidate: &Candidate,
@@ -262,7 +262,7 @@ impl Search {
         Ok(SearchResult::Apart)
     }
 
-    /// By which ports the search left and entered each node on its way, the last one first.
+    /// The ports by which the search left and entered each node on its way, the last one first.
     fn way(&self, alloc: Global, last: Option<usize>) -> Result<Items<(u8, u8)>, AllocError> {
         let mut way = Items::new(alloc);
         let mut next = last;

@@ -24,7 +24,7 @@ pub(crate) enum Target {
     ToFree,
 }
 
-/// The wire at a port and its other point, if there is one, in twelve bytes: a search reads one for each port that it comes by.
+/// The wire at a port and its other point, if there is one, in twelve bytes: a search reads one for each port that it visits.
 #[derive(Drop)]
 pub(crate) struct Slot {
     wire: u32,
@@ -142,7 +142,7 @@ fn empty(alloc: Global, count: usize) -> Result<Items<Slot>, AllocError>
     Ok(slots)
 }
 
-/// From this point the wire leads to that one.
+/// The wire leads from this point to that one.
 fn lead(slots: &mut Items<Slot>, wire: u32, from: OpenPoint, to: OpenPoint)
     requires { HasSlot slots.old from }
     ensures { slots.new ≡ led slots.old wire from to }
@@ -223,7 +223,7 @@ impl<'a> Wired<'a> {
         self.open.classes(node)
     }
 
-    /// How many numbers its classes have: an agent's principal port is class 0.
+    /// How many class numbers the node has: an agent's principal port is class 0.
     pub(crate) fn width(&self, node: usize) -> usize
         requires { node < length self.now.nodes }
         ensures width { result ≡ width_of self.now node }
@@ -233,7 +233,7 @@ impl<'a> Wired<'a> {
         self.open.width(node)
     }
 
-    /// Whether the node is an agent; else it is a class node.
+    /// Whether the node is an agent. Otherwise it is a class node.
     pub fn is_agent(&self, node: usize) -> bool
         requires { node < length self.now.nodes }
         ensures agent { IsTrue result → IsAgent self.now node }
@@ -252,7 +252,7 @@ impl<'a> Wired<'a> {
     {
         match self.slots.as_slice()[node * MOST_PORTS + port].get() {
             Some(found) => found,
-            // Each port has a wire: so an open net is.
+            // Each port has a wire in an open net.
             None => unreachable!(),
         }
     }

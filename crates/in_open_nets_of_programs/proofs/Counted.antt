@@ -1,4 +1,4 @@
--- How many agents a net has in which each number is one.
+-- The number of agents of a net in which each number has one.
 use Rattle.std.proofs.Common.{◌≡◌, suc, true, Some, None, Option, List, [], ◌∷◌, length, filter, refl, sym, ap, ◌∙◌}
 use Rattle.std.specs.Prelude.{count_by, is_some}
 use Rattle.std.specs.List.{AllByRecursion}

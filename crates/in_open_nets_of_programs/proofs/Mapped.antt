@@ -1,4 +1,4 @@
--- A crossing circle in one graph is one in another, where ports go to ports, and nodes and classes stay apart.
+-- A crossing circle in one graph is one in another, if ports are mapped to ports, and nodes and classes stay apart.
 use Rattle.std.proofs.Common.{◌≡◌, ℕ, List, [], ◌∷◌, map, refl, sym, subst, ap, ◌∙◌}
 use mathlib.Core.HLevel.{Discrete}
 use Rattle.in_open_nets_of_programs.specs.Maps.{IsMap}
@@ -7,7 +7,7 @@ use Rattle.in_open_nets.proofs.Public.{passage_to}
 use Rattle.in_base.proofs.Circuits.{Walk, AreSeparate, Circuit, IsEntered, IsLeft, crossings_separate, circuit_of, shorten}
 
 module _ (g h : Graph) (f : g.Node × ℕ → h.Node × ℕ) (At : g.Node × ℕ → Type 0) (m : IsMap g h f At) (E L : g.Node × ℕ → Type 0) where
-  -- the ports where those of P go
+  -- the ports to which those of P are mapped
   abbrev Image : (g.Node × ℕ → Type 0) → h.Node × ℕ → Type 0
   Image P v = (u : g.Node × ℕ) × P u × At u × (f u ≡ v)
 

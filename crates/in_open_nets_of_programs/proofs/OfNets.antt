@@ -31,7 +31,7 @@ symbol_at t n x i h = go (symbol_in n x) refl h
     go None e h = absurd h
     go (Some s) e h = (s, e, h)
 
--- the class of an agent's port in an open net, whichever node it is
+-- the class of an agent's port in an open net, for any number of its node
 pub class_of_node : (t : Tables) (n : Parts) (o : OpenNet) (y x i : ℕ) (m : OpenNode) (s : SymbolNo) → slice_get o.nodes y ≡ Some m → IsNodeOf t n x m → symbol_in n x ≡ Some s → i ≤ arity_of t s.0 → class_in o y i ≡ class_of_symbol (signature_of t) ((net_of n).symbol x) i
 class_of_node t n o y x i m s e is here h =
     let same : is.symbol ≡ s = some_same (symbol_in n x) is.symbol s is.here here in

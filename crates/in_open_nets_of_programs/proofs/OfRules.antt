@@ -67,7 +67,7 @@ module _ (t : Tables) (p : RuleParts) (o : OpenNet) (numbered : AreNumbered t) (
   abbrev end_at : ℕ → ℕ × ℕ
   end_at e = pair_of (boundary_port t p turned e)
 
-  -- where a port goes in the open net
+  -- the port of the open net for a port
   abbrev port : (ℕ ⊎ (Bool × ℕ)) × ℕ → ℕ × ℕ
   port u = elim u.0 [ inl y ↦ (agent_node t p y, u.1) | inr c ↦ end_at u.1 ]
 

@@ -1,4 +1,4 @@
--- The open net of a whole net is one.
+-- The open net of a whole net is an open net.
 use Rattle.std.proofs.Common.{◌≡◌, ◌<◌, ◌≤◌, ◌+◌, ℕ, Option, Some, None, IsSomeAnd, List, length, slice_get, get_or, refl, sym, subst, ap, inl, inr, ◌∙◌, arith}
 use Rattle.std.specs.Prelude.{option_map, option_and_then}
 use Rattle.std.proofs.lemmas.Option.{slice_get_within, get_or_from_slice_get}
@@ -25,7 +25,7 @@ use Rattle.in_open_nets.proofs.Public.{some_of}
 use Rattle.in_base.proofs.Each.{at_index}
 use Rattle.in_syntax.specs.Grammar.{max_ports}
 
--- the point of the net that a point of the open net is
+-- the point of the net for a point of the open net
 abbrev net_point : OpenPoint → points.Point
 net_point (Port x i) = point.Port (record { 0 = x }) i
 net_point (Free k) = point.Free k

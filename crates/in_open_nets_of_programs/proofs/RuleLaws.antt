@@ -1,4 +1,4 @@
--- The open net of a rule is one, and open; where it is derivable, it has no crossing circle.
+-- The open net of a rule is determined, and is an open net; if it is derivable, it has no crossing circle.
 use Rattle.std.proofs.Common.{nat_lt, arith}
 use Rattle.std.proofs.lemmas.List.Sums.{count_by-le-length}
 use Rattle.in_syntax.specs.declared.places.Place.{Place}

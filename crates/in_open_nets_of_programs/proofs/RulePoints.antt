@@ -106,7 +106,7 @@ module _ (t : Tables) (p : RuleParts) where
     | inr l ↦ let f = node_high x l.1 in omega arith
   ]
 
-  -- which node that is
+  -- the kinds of nodes
   pub data NodeKind (n : ℕ) : Type 0 where
     of_first : n < classes_of t p.written.0.0 → NodeKind n
     of_second : (c : ℕ) → c < classes_of t p.written.1.0 → n ≡ second_node t p + c → NodeKind n

@@ -17,7 +17,7 @@ use Rattle.in_net.proofs.Public.{few_agents, types_many}
 same_pair : (x y u v : SymbolNo) → x ≡ u → y ≡ v → ◌≡◌ {A = SymbolNo × SymbolNo} (x, y) (u, v)
 same_pair x y u v e f = ap (λ (z : SymbolNo). (z, y)) e ∙ ap (λ (z : SymbolNo). (u, z)) f
 
--- the heads are turned where the first one isn't the one that is written first
+-- the heads are turned if the first one isn't the one that is written first
 pick : (heads written : SymbolNo × SymbolNo) (b : Bool) → heads ≡ cond b (written.1, written.0) written → heads ≡ cond (not (nat_eq heads.0.0 written.0.0)) (written.1, written.0) written
 pick heads written b e = elim (eqb_tells heads.0.0 written.0.0) [
   | inl h ↦ same b e h.1 ∙ sym (ap (λ z. cond (not z) (written.1, written.0) written) h.0)

@@ -24,19 +24,19 @@ TextNetsAreAllThere = (t : Tables) (text : SourceNet) (n : Parts) → IsNetOf t 
 abbrev pub TextRulesAreWhole : Type 0
 TextRulesAreWhole = (t : Tables) (text : SourceRule) (p : RuleParts) → BuildsRuleOf t text (Ok p) → IsRuleWhole t p
 
--- the open net of a whole net over tables is one: each point is in exactly one wire
+-- the open net of a whole net over tables is an open net: each point is in exactly one wire
 abbrev pub OpenNetsAreOpen : Type 0
 OpenNetsAreOpen = (t : Tables) (n : Parts) (o : OpenNet) → AreNumbered t → IsWhole n → IsOver t n → Opens t n o → IsOpenNet o
 
--- the tables of a program number classes as its open nets ask
+-- the tables of a program number classes as its open nets require
 abbrev pub TablesAreNumbered : Type 0
 TablesAreNumbered = (source : Source) (t : Tables) → IsTabled source t → AreNumbered t
 
--- the open net of a whole rule over tables is one
+-- the open net of a whole rule over tables is an open net
 abbrev pub OpenRulesAreOpen : Type 0
 OpenRulesAreOpen = (t : Tables) (p : RuleParts) (o : OpenNet) → AreNumbered t → IsRuleWhole t p → IsWhole p.member → IsRuleOver t p → OpensRule t p o → IsOpenNet o
 
--- and where it is derivable, it has no crossing circle
+-- and if it is derivable, it has no crossing circle
 abbrev pub DerivableRulesHaveNoCircle : Type 0
 DerivableRulesHaveNoCircle = (t : Tables) (p : RuleParts) (o : OpenNet) → AreNumbered t → IsRuleWhole t p → IsWhole p.member → IsRuleOver t p → OpensRule t p o → IsDerivable o → CrossingCircle (open_graph o) → ⊥
 
@@ -46,7 +46,7 @@ DerivableRulesHaveNoCircle = (t : Tables) (p : RuleParts) (o : OpenNet) → AreN
 abbrev pub NetCirclesAreOpen : Type 0
 NetCirclesAreOpen = (t : Tables) (n : Parts) (o : OpenNet) → AreNumbered t → IsWhole n → IsOver t n → Opens t n o → CrossingCircle (graph_of (signature_of t) (net_of n)) → CrossingCircle (open_graph o)
 
--- a crossing circle of a right member with its class nodes, at whatever active pair, is one of the rule's open net
+-- a crossing circle of a right member with its class nodes, at any active pair, is one of the rule's open net
 abbrev pub RuleCirclesAreOpen : Type 0
 RuleCirclesAreOpen = (t : Tables) (p : RuleParts) (o : OpenNet) (a b : ℕ) → AreNumbered t → IsRuleWhole t p → IsWhole p.member → IsRuleOver t p → OpensRule t p o →
     CrossingCircle (open_member (signature_of t) (redex_at p a b)) → CrossingCircle (open_graph o)

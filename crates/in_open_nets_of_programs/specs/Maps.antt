@@ -1,8 +1,8 @@
--- Maps between graphs: where the ports of one are in another. This project's own.
+-- Maps from the ports of one graph to those of another. This project's own.
 use Rattle.std.specs.Prelude.{◌≡◌, ℕ}
 use Rattle.in_base.specs.Graphs.{Graph}
 
--- where the ports of g go in h; At holds of the ports at wires
+-- a map from the ports of g to those of h; the ports at wires have At
 pub record IsMap (g h : Graph) (f : g.Node × ℕ → h.Node × ℕ) (At : g.Node × ℕ → Type 0) : Type 0 where
   pub wire : (u v : g.Node × ℕ) → g.Wire u v → h.Wire (f u) (f v)
   pub ends : (u v : g.Node × ℕ) → g.Wire u v → At u × At v

@@ -13,11 +13,11 @@ use Rattle.in_open_nets.specs.declared.open_nets.OpenPoint.{OpenPoint}
 use Rattle.in_open_nets.specs.declared.open_nets.OpenPoint.TheVariants.{Port, Free}
 use Rattle.in_open_nets.specs.OpenNets.{OpenNet}
 
--- no number is without an agent, as it is where no interaction happened
+-- no number is without an agent, as if no interaction happened
 abbrev pub AreAllThere : Parts → Type 0
 AreAllThere n = AllByRecursion (λ c. is_some c ≡ true) n.cells
 
--- a net or a right member with the tables of its symbols; over them it was built
+-- a net or a right member with the tables of its symbols, over which it was built
 pub record Member : Type 0 where
   pub tables : Tables
   pub net : Parts
@@ -27,7 +27,7 @@ pub record IsBuiltOver (t : Tables) (n : Parts) : Type 0 where
   pub built : IsTrue n.built
   pub there : AreAllThere n
 
--- P holds of each element at its number
+-- each element has P at its number
 abbrev pub Each : {X : Type 0} → (ℕ → X → Type 0) → List X → Type 0
 Each {X} P xs = (i : ℕ) (x : X) → slice_get xs i ≡ Some x → P i x
 

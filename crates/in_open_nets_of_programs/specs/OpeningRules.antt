@@ -30,7 +30,7 @@ pub record IsClassNodeOf (t : Tables) (s : SymbolNo) (place : Place) (c : ℕ) (
   pub classes : m.classes ≡ places_in t s.0 c (arity_of t s.0)
   pub numbers : Each (λ i k. k ≡ i) m.class_of
 
--- how many agents are before the second head
+-- how many agents come before the second head
 abbrev pub agents_before : RuleParts → ℕ
 agents_before p = count_by (λ q. nat_lt q.from p.head_places.1.from) p.member.places
 
@@ -85,15 +85,15 @@ pub record OpensRule (t : Tables) (p : RuleParts) (o : OpenNet) : Type 0 where
   pub wires : AreRuleWires t p o.wires
   pub free : o.free ≡ 0
 
--- the heads are those that are written, the right member's free ends are their auxiliary places, and its agents are all there and no
--- more than a right member may have: so it is for the rule of a text
+-- the heads are the written ones, the right member's free ends are their auxiliary places, and its agents are all there and no
+-- more than a right member may have. The rule of a text is such a rule
 pub record IsRuleWhole (t : Tables) (p : RuleParts) : Type 0 where
   pub heads : p.heads ≡ cond (is_turned p) (p.written.1, p.written.0) p.written
   pub ends : length p.member.free ≡ arity_of t p.heads.0.0 + arity_of t p.heads.1.0
   pub there : AreAllThere p.member
   pub few : length p.member.cells ≤ max_member_agents
 
--- ---- the numbers that nodes are counted by
+-- ---- the numbers of nodes
 
 pub record LaidOut : Type 0 where
   pub tables : Tables

@@ -12,7 +12,7 @@ pub fn text_rules_are_whole()
     ensures { TextRulesAreWhole }
 {}
 
-/// The open net of a net is one, where the tables number classes from 1 and the principal port is the one place of class 0: each
+/// The open net of a net is an open net, if the tables number classes from 1 and the principal port is the one place of class 0: each
 /// point is in exactly one wire.
 pub fn open_nets_are_open()
     ensures { OpenNetsAreOpen }
@@ -23,7 +23,7 @@ pub fn tables_are_numbered()
     ensures { TablesAreNumbered }
 {}
 
-/// The open net of a whole rule is one, where the tables number classes from 1 and the principal port is the one place of class 0:
+/// The open net of a whole rule is an open net, if the tables number classes from 1 and the principal port is the one place of class 0:
 /// each point is in exactly one wire.
 pub fn open_rules_are_open()
     ensures { OpenRulesAreOpen }

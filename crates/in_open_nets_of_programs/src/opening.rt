@@ -27,7 +27,7 @@ fn classes(alloc: Global, symbols: &Symbols, symbol: SymbolNo) -> Result<Items<u
     Ok(classes)
 }
 
-/// A net or a right member as it was built, with the tables of its symbols.
+/// A net or a right member as built, with the tables of its symbols.
 #[derive(Drop)]
 pub(crate) struct BuiltNet<'a> {
     pub(crate) symbols: &'a Symbols,
@@ -58,7 +58,7 @@ pub(crate) fn node(alloc: Global, built: &BuiltNet, agent: AgentNo) -> Result<Op
             classes: built.symbols.classes(symbol),
             class_of: classes(alloc, built.symbols, symbol)?,
         }),
-        // In a net that is built, no number is without an agent.
+        // In a net as built, no number is without an agent.
         None => unreachable!(),
     }
 }

@@ -15,7 +15,7 @@ use sqlite_items::Items;
 use std::alloc::{AllocError, Global};
 use std::marker::Model;
 
-/// Whether a place is in a class, as a number.
+/// 1 if a place is in a class, otherwise 0.
 fn one_in(symbols: &Symbols, symbol: SymbolNo, class: u8, place: u8) -> u8
     requires symbol { IsSymbol symbols.now symbol.0 }
     requires place { place ≤ arity_of symbols.now symbol.0 }
@@ -76,7 +76,7 @@ fn class_node(
     })
 }
 
-/// 1 if this agent of the right member comes before the second head in the text, else 0.
+/// 1 if this agent of the right member comes before the second head in the text, otherwise 0.
 fn one_before(rule: &Rule, agent: u32) -> u32
     requires agent { agent < length rule.now.member.cells }
     requires built { IsTrue rule.now.member.built }
@@ -119,7 +119,7 @@ fn class_port(symbols: &Symbols, symbol: SymbolNo, first: u32, place: u8) -> Ope
     OpenPoint::Port(node, places_in(symbols, symbol, class, place - 1))
 }
 
-/// Where the nodes of a rule's open net begin: how many class nodes its first head has and its second one, and how many agents come before the
+/// The layout of a rule's open net: how many class nodes its first head has and its second one, and how many agents come before the
 /// second head.
 #[derive(Drop)]
 struct Layout<'a> {
@@ -281,8 +281,8 @@ impl<'a> Layout<'a> {
 
 /// The open net of a rule: a node for each class of its two heads and for each agent of its right member, in the order of their
 /// names, and a wire for each wire of the right member, by number; an end of a wire at a boundary end is that end's port of its
-/// class node, so that no free end is left. Refused only when out of memory. The rule is to be whole and the tables to number
-/// classes from 1, which those of a program are. That the classes of the heads are nodes, and each of their ports a class by itself,
+/// class node, so that no free end is left. Refused only when out of memory. The rule has to be whole, and the tables have to number
+/// classes from 1, as those of a program do. That the classes of the heads are nodes, and each of their ports a class by itself,
 /// is this project's own choice; Lafont 1990 has a right member simple for these classes.
 pub fn open_rule(alloc: Global, symbols: &Symbols, rule: &Rule) -> Result<OpenNet, AllocError>
     requires over { IsRuleOver symbols.now rule.now }

@@ -1,4 +1,4 @@
--- The end that an accepted program reaches, in whatever order its active pairs interact: by how many interactions, and with which text.
+-- The end that an accepted program reaches, for any order of its interactions: after how many interactions, and with which text.
 -- The text is this project's own choice.
 use Rattle.std.specs.Prelude.{◌≡◌, ℕ, nat_eq, List, [], length, unwrap_or}
 use Rattle.in_symbols.specs.Names.{name_in}
@@ -24,7 +24,7 @@ pub record Ends (p : Program) (k : ℕ) (written : List ℕ) : Type 0 where
   pub are_agents : AreAgents net agents
   pub is_text : written ≡ text (signature_of p.tables) (words_in p) nat_eq net (length agents) []
 
--- some run ends so, and each one that ends does
+-- some run ends so, and every other run that ends does
 abbrev pub EndsOnce : Program → ℕ → List ℕ → Type 0
 EndsOnce p k written = Ends p k written × ((j : ℕ) (other : List ℕ) → Ends p j other → (k ≡ j) × (written ≡ other))
 

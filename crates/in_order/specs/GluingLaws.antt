@@ -15,7 +15,7 @@ use Rattle.in_order.specs.PartRuns.{Run, total, AreTypedAtCuts}
 
 -- ---- soundness
 
--- a part of a sound net is sound: it is to be a net, typed where it is cut
+-- a part of a sound net is sound, if it is a net and is typed where it is cut
 abbrev pub PartsAreSound : Type 0
 PartsAreSound = (p : System) (parts : ℕ → Net ℕ) (name : ℕ → ℕ → ℕ) (cuts : Cuts) (whole : Net ℕ) →
     AreAllApart name → IsGlued parts name cuts whole → AreCuts parts cuts → AreTypedAtCuts p.symbols parts cuts →
@@ -25,7 +25,7 @@ PartsAreSound = (p : System) (parts : ℕ → Net ℕ) (name : ℕ → ℕ → �
 abbrev pub SoundIsPromised : Type 0
 SoundIsPromised = (p : System) (n : Net ℕ) → IsSoundSystem p → IsSound p n → IsAsPromised p n
 
--- .. it stays sound by each interaction
+-- .. each interaction keeps it sound
 abbrev pub SoundSteps : Type 0
 SoundSteps = (p : System) (n : Net ℕ) (x : Redex ℕ ℕ) (name : ℕ → ℕ) (after : Net ℕ) → IsSoundSystem p → IsSound p n → IsInteraction p n x name after → IsSound p after
 
@@ -57,7 +57,7 @@ CutRunAndGlued = (p : System) (k : ℕ) (n m : Net ℕ) (parts after : ℕ → N
     ((i : ℕ) → i < workers → Run p (counts i) (parts i) (after i)) → ((i : ℕ) → workers ≤ i → after i ≡ parts i) →
     IsGlued after after_names cuts m → KeepsApart after after_names → Reached p (k + total counts workers) m
 
--- a part of a sound net is sound, however its agents are named in the whole
+-- a part of a sound net is sound, for any names of its agents in the whole
 abbrev pub PartsAreSoundByNames : Type 0
 PartsAreSoundByNames = (p : System) (parts : ℕ → Net ℕ) (name : ℕ → ℕ → ℕ) (cuts : Cuts) (n : Net ℕ) →
     KeepsApart parts name → IsGlued parts name cuts n → AreCuts parts cuts → AreTypedAtCuts p.symbols parts cuts →

@@ -1,5 +1,5 @@
 -- Nets that are cut, reduced apart and glued again, over whole runs: runs of the parts are a run of the whole. Agents may have other names
--- after each step, as where agents are moved from one memory to another. That nets are reduced in parts is this project's own choice.
+-- after each step, as when agents are moved from one memory to another. That nets are reduced in parts is this project's own choice.
 use Rattle.std.specs.Prelude.{◌≡◌, ◌+◌, ℕ, zero, suc, List, [], ◌∷◌, ◌++◌, length, Some}
 use Rattle.in_symbols.specs.declared.symbols.PortType.{PortType}
 use Rattle.in_net.specs.Nets.{Point, Net, IsNet}
@@ -13,7 +13,7 @@ use Rattle.in_gluing.specs.Joining.{CutsWire, JoinsEnds}
 use Rattle.in_gluing.specs.Laws.{KeepsApart}
 use Rattle.in_gluing.specs.SideBySide.{StandBeside}
 
--- k interactions lead from the one net to the other
+-- k interactions lead from the first net to the second
 abbrev pub Leads : System → ℕ → Net ℕ → Net ℕ → Type 0
 Leads p k n m = Reached (from_net p n) k m
 
@@ -50,7 +50,7 @@ pub record IsJoinedOnce (m w : Net ℕ) : Type 0 where
   pub free : m.free ≡ w.free ++ (first ∷ second ∷ [])
   pub joins : JoinsEnds m (length w.free) (suc (length w.free)) w
 
--- a sound net stays sound where a wire is cut
+-- a sound net stays sound if a wire is cut
 abbrev pub CutOnceIsSound : Type 0
 CutOnceIsSound = (p : System) (w m : Net ℕ) → IsSound p w → IsCutOnce p w m → IsSound p m
 
@@ -70,7 +70,7 @@ pub data IsJoinedUp : ℕ → Net ℕ → Net ℕ → Type 0 where
   unjoined : (n : Net ℕ) → IsJoinedUp zero n n
   joined_first : (w : ℕ) (n m o : Net ℕ) → IsJoinedOnce n m → IsJoinedUp w m o → IsJoinedUp (suc w) n o
 
--- a sound net stays sound where wires are cut
+-- a sound net stays sound if wires are cut
 abbrev pub CutDownIsSound : Type 0
 CutDownIsSound = (p : System) (w : ℕ) (n m : Net ℕ) → IsSound p n → IsCutDown p w n m → IsSound p m
 
@@ -80,7 +80,7 @@ CutDownLeadsAreJoinedUp = (p : System) (w k : ℕ) (n m o q : Net ℕ) → IsSou
 
 -- ---- nets side by side
 
--- each of the two leads to another net: the one net leads to these, side by side again with the free ends in the same order
+-- each of two nets leads to another net: then the net of both leads to the net of the others, side by side again with the free ends in the same order
 abbrev pub BesideLeads : Type 0
 BesideLeads = (p : System) (j k : ℕ) (one two one_after two_after n m : Net ℕ) (before after : ℕ → ℕ) (ends : List (ℕ × ℕ)) → IsSoundSystem p → IsSound p n → IsSound p one → IsSound p two →
     StandBeside one two before ends n → Leads p j one one_after → Leads p k two two_after → StandBeside one_after two_after after ends m → Leads p (j + k) n m

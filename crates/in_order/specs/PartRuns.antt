@@ -9,7 +9,7 @@ use Rattle.in_check.specs.Runs.{IsInteraction, Reached}
 use Rattle.in_check.specs.Systems.{System}
 use Rattle.in_gluing.specs.Gluing.{Cuts, IsJointEndAt}
 
--- a given number of interactions lead from one net to the other, the new agents' names being new at each
+-- a given number of interactions lead from one net to the other; the new agents' names are new at each
 pub data Run (p : System) : ℕ → Net ℕ → Net ℕ → Type 0 where
   none : (n : Net ℕ) → Run p zero n n
   one_more : (k : ℕ) (n m : Net ℕ) (x : Redex ℕ ℕ) (name : ℕ → ℕ) (after : Net ℕ) → Run p k n m → IsInteraction p m x name after → Run p (suc k) n after

@@ -1,4 +1,4 @@
--- What a reducer keeps of a net with free ends of its own, as a part of a net: that it is sound, in place of that the program reaches it.
+-- The invariant of a reducer's net, which has free ends and is a part of a net: it is sound, and the program needn't reach it.
 use Rattle.std.specs.Prelude.{◌≡◌, ◌≤◌, ℕ, suc, List, count_by, is_some}
 use Rattle.in_net.specs.declared.nets.AgentNo.{AgentNo}
 use Rattle.in_net.specs.Built.{IsOver}
@@ -16,15 +16,15 @@ pub record IsReducible (p : PlainParts) : Type 0 where
   pub sound : IsSound (system_of p.program) (net_of p.net)
   pub over : IsOver p.program.tables p.net
 
--- a net that the program reaches is one
+-- a net that the program reaches is such a net
 abbrev pub PlainIsReducible : Type 0
 PlainIsReducible = (text : List ℕ) (p : PlainParts) → IsAccepted text p.program → IsPlain p → IsReducible p
 
--- q's net is one, and each run that leads to p's leads to it by one interaction more
+-- q's net is such a net, and each run that leads to p's leads to it by one interaction more
 abbrev pub IsOneStepOn : PlainParts → PlainParts → Type 0
 IsOneStepOn p q = IsReducible q × ((k : ℕ) (n : Net ℕ) → Run (system_of p.program) k n (net_of p.net) → Run (system_of p.program) (suc k) n (net_of q.net))
 
--- a step leads from one to one, and is one interaction more of a run
+-- a step leads from such a net to such a net, and is one interaction more of a run
 abbrev pub ReducibleSteps : Type 0
 ReducibleSteps = (text : List ℕ) (p q : PlainParts) (a b : AgentNo) → IsAccepted text p.program → IsReducible p → IsPairAt p a b → StepsTo p a b q →
     IsOneStepOn p q
@@ -34,7 +34,7 @@ abbrev pub ReducibleStepsUnderNames : Type 0
 ReducibleStepsUnderNames = (text : List ℕ) (p q : PlainParts) (a b : AgentNo) (name : ℕ → ℕ) → IsAccepted text p.program → IsReducible p → IsPairAt p a b → StepsAs p a b name q →
     IsOneStepOn p q
 
--- each active pair matches, and has its rules
+-- each active pair matches, and has its rule
 abbrev pub ReduciblePairsHaveTheirRule : Type 0
 ReduciblePairsHaveTheirRule = (text : List ℕ) (p : PlainParts) (a b : AgentNo) → IsAccepted text p.program → IsReducible p → (at : IsPairAt p a b) →
     HasItsRules p a b at

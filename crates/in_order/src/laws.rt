@@ -7,7 +7,7 @@ ghost use Rattle.in_order.specs.Ends.{ProgramsHaveOneEnd};
 ghost use Rattle.in_order.specs.Laws.{InteractionsMeet, RunsAreJoined, RunsEndAlike, RunsLeadToTheEnd};
 ghost use Rattle.in_order.specs.Leading.{BesideLeads, BesidePartsAreSound, BesideSoundIsSound, CutDownIsSound, CutDownLeadsAreJoinedUp, CutLeadsAreJoined, CutOnceIsSound, LeadsGoOn, PartsLeadTheWhole};
 
-/// Two interactions of a reached net on different active pairs meet: each can follow the other, and the nets after both are one up to names.
+/// Two interactions of a reached net on different active pairs meet: each can follow the other, and the nets after both are equal up to names.
 pub fn interactions_meet()
     ensures { InteractionsMeet }
 {}
@@ -17,7 +17,7 @@ pub fn runs_end_alike()
     ensures { RunsEndAlike }
 {}
 
-/// Where some run of a sound system ends, no run is longer, and each leads on to its end by as many interactions as it has less.
+/// If some run of a sound system ends, no run is longer, and each continues to its end by as many interactions as it has less.
 pub fn runs_lead_to_the_end()
     ensures { RunsLeadToTheEnd }
 {}
@@ -37,7 +37,7 @@ pub fn runs_go_on()
     ensures { RunsGoOn }
 {}
 
-/// A run leads from a net that is reached to one that is, by as many interactions more.
+/// A run leads from a reached net to a reached net, by as many interactions more.
 pub fn runs_lead_on()
     ensures { RunsLeadOn }
 {}
@@ -47,8 +47,8 @@ pub fn runs_are_glued()
     ensures { RunsAreGlued }
 {}
 
-/// A net that is reached, cut into sound parts that are reduced each by itself and glued again, is reached by all their interactions. Which
-/// names agents have before, in the parts and after is left open.
+/// A net that is reached, cut into sound parts that are reduced each by itself and glued again, is reached by all their interactions. The
+/// names of agents before, in the parts and after are left open.
 pub fn cut_run_and_glued()
     ensures { CutRunAndGlued }
 {}
@@ -73,32 +73,32 @@ pub fn sound_is_start()
     ensures { SoundIsStart }
 {}
 
-/// A part of a sound net is sound: it is to be a net, typed where it is cut.
+/// A part of a sound net is sound, if it is a net and is typed where it is cut.
 pub fn parts_are_sound()
     ensures { PartsAreSound }
 {}
 
-/// A part of a sound net is sound, however its agents are named in the whole.
+/// A part of a sound net is sound, for any names of its agents in the whole.
 pub fn parts_are_sound_by_names()
     ensures { PartsAreSoundByNames }
 {}
 
-/// A net that an accepted program reaches is sound, as a reducer wants it.
+/// A net that an accepted program reaches is sound, as a reducer requires.
 pub fn plain_is_reducible()
     ensures { PlainIsReducible }
 {}
 
-/// Of an accepted program, a reducer's step leads from a sound net to one, by one interaction more.
+/// In an accepted program, a reducer's step leads from a sound net to a sound net, by one interaction more.
 pub fn reducible_steps()
     ensures { ReducibleSteps }
 {}
 
-/// The same where new agents have any other names that are new.
+/// The same if new agents have any other new names.
 pub fn reducible_steps_under_names()
     ensures { ReducibleStepsUnderNames }
 {}
 
-/// Of an accepted program, each active pair of a reducer's net matches and has its rule.
+/// In an accepted program, each active pair of a reducer's net matches and has its rule.
 pub fn reducible_pairs_have_their_rule()
     ensures { ReduciblePairsHaveTheirRule }
 {}
@@ -108,7 +108,7 @@ pub fn reducible_steps_are_one()
     ensures { ReducibleStepsAreOne }
 {}
 
-/// Of an accepted program, a reducer's net is as promised.
+/// In an accepted program, a reducer's net is as promised.
 pub fn reducible_as_promised()
     ensures { ReducibleAsPromised }
 {}
@@ -123,13 +123,13 @@ pub fn leads_go_on()
     ensures { LeadsGoOn }
 {}
 
-/// Two sound parts of a sound net, each reduced by itself and glued along the same cuts: the whole leads to what they are glued to, by as many
-/// interactions as both did. Agents may have any names, before and after, in the parts and in the whole.
+/// Two sound parts of a sound net, each reduced by itself and glued along the same cuts: the whole leads to the net that they are glued to, with as
+/// many interactions as both did. Agents may have any names, before and after, in the parts and in the whole.
 pub fn parts_lead_the_whole()
     ensures { PartsLeadTheWhole }
 {}
 
-/// A sound net stays sound where a wire is cut.
+/// A sound net stays sound if a wire is cut.
 pub fn cut_once_is_sound()
     ensures { CutOnceIsSound }
 {}
@@ -145,7 +145,7 @@ pub fn beside_leads()
     ensures { BesideLeads }
 {}
 
-/// A sound net stays sound where wires are cut, one after another.
+/// A sound net stays sound if wires are cut, one after another.
 pub fn cut_down_is_sound()
     ensures { CutDownIsSound }
 {}

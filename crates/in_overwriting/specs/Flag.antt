@@ -1,5 +1,5 @@
--- Wires between auxiliary ports of the two agents of an active pair. Which symbols are marked is this project's own choice: a symbol that
--- isn't has none of its ports wired to another one of them, in a typed net without crossing circle.
+-- Wires between auxiliary ports of the two agents of an active pair. The rule which symbols are marked is this project's own choice: no wire joins
+-- two auxiliary ports of an agent whose symbol isn't marked, in a typed net without crossing circle.
 use Rattle.std.specs.Prelude.{◌≡◌, ◌≢◌, ◌≤◌, ℕ, suc, Some}
 use Rattle.in_base.specs.Graphs.{CrossingCircle}
 use Rattle.in_net.specs.Graphs.{graph_of}
@@ -13,7 +13,7 @@ use Rattle.in_overwriting.specs.Overwriting.{NoneLeadsBack}
 abbrev pub AreMarkedPlaces : Signature → ℕ → ℕ → ℕ → Type 0
 AreMarkedPlaces sig s p q = (sig.class_of s p ≡ sig.class_of s q) × (sig.type_of s q ≡ opposite (sig.type_of s p))
 
--- two auxiliary places of the symbol are such
+-- two auxiliary places of the symbol are marked ones
 pub record IsMarkedAt (sig : Signature) (s i j : ℕ) : Type 0 where
   pub first : suc i ≤ sig.arity s
   pub second : suc j ≤ sig.arity s
@@ -38,6 +38,6 @@ NoWireBetween = (sig : Signature) (n : Net ℕ) (a b i j : ℕ) → IsCalm sig n
 abbrev pub OneClassOfOneAgent : Type 0
 OneClassOfOneAgent = (sig : Signature) (n : Net ℕ) (a i j s : ℕ) → IsCalm sig n → n.symbol a ≡ Some s → n.partner (Port a (suc i)) ≡ Some (Port a (suc j)) → IsMarkedAt sig s i j
 
--- so no wire leads back to a pair of which neither symbol is marked
+-- so no wire leads back to a pair if neither symbol is marked
 abbrev pub UnmarkedPairsAreApart : Type 0
 UnmarkedPairsAreApart = (sig : Signature) (n : Net ℕ) (x : Redex ℕ ℕ) → IsCalm sig n → IsRedex sig n x → (IsMarkedSymbol sig x.first → ⊥) → (IsMarkedSymbol sig x.second → ⊥) → NoneLeadsBack n x

@@ -1,5 +1,5 @@
--- The wires of a right member listed, and written one after another: two stores for each. The order of the list doesn't matter, nor in which
--- direction a wire is listed. That an interaction is done so is this project's own choice.
+-- The wires of a right member listed, and written one after another: two stores for each. The order of the list doesn't matter, nor the
+-- direction in which a wire is listed. Doing an interaction so is this project's own choice.
 use Rattle.std.specs.Prelude.{◌≡◌, ◌≢◌, ◌⊎◌, ◌++◌, ℕ, List, [], ◌∷◌, map, Option, Some, None}
 use Rattle.in_base.specs.Lists.{IsAmong}
 use Rattle.in_net.specs.Interactions.{Redex, IsOfPair}
@@ -7,7 +7,7 @@ use Rattle.in_net.specs.Nets.{Point, Port, Free, Signature, Net, IsNet}
 use Rattle.in_overwriting.specs.Overwriting.{CanOverwrite, IsSideAt, IsSide, AreOverwritten}
 use Rattle.in_overwriting.specs.MadeByWires.{AreOverEnds}
 
--- each of the list is a wire of the net
+-- each element of the list is a wire of the net
 abbrev pub AreAmongWires : {B : Type 0} → Net B → List (Point B × Point B) → Type 0
 AreAmongWires {B} m wires = (p q : Point B) → IsAmong (p, q) wires → m.partner p ≡ Some q
 
@@ -16,7 +16,7 @@ pub record AreAllWiresOf {B : Type 0} (m : Net B) (wires : List (Point B × Poin
   pub wire : AreAmongWires m wires
   pub all : (p q : Point B) → m.partner p ≡ Some q → IsAmong (p, q) wires ⊎ IsAmong (q, p) wires
 
--- each of the two is written at the other, and nothing else
+-- each of the two points is written at the other, and nothing else is
 pub record AreStored {A : Type 0} (u v : Point A) (old new : Point A → Option (Point A)) : Type 0 where
   pub one : new u ≡ Some v
   pub two : new v ≡ Some u
@@ -28,13 +28,13 @@ pub data StoresInTurn {A B : Type 0} (sig : Signature) (n : Net A) (x : Redex A 
   wire_first : (p q : Point B) (wires : List (Point B × Point B)) (u v : Point A) (f g h : Point A → Option (Point A)) → IsSideAt sig n x name p u → IsSideAt sig n x name q v →
       AreStored u v f g → StoresInTurn sig n x name wires g h → StoresInTurn sig n x name ((p, q) ∷ wires) f h
 
--- the partners of points that are no side: those before, and none at the pair's ports. Of the partner at a side nothing is said, so that a new
+-- the partners of points that are no side: those before, and none at the pair's ports. The partner at a side is left open, so that a new
 -- agent's place may hold anything
 pub record IsAsBefore {A B : Type 0} (sig : Signature) (n : Net A) (x : Redex A B) (name : B → A) (f : Point A → Option (Point A)) : Type 0 where
   pub gone : (u : Point A) → IsOfPair x u → f u ≡ None
   pub kept : (u : Point A) → (IsOfPair x u → ⊥) → (IsSide sig n x name u → ⊥) → f u ≡ n.partner u
 
--- what is stored so is what an interaction makes of the partners
+-- the stored partners are those that an interaction makes
 abbrev pub StoredAreOverwritten : Type 0
 StoredAreOverwritten = (sig : Signature) (n : Net ℕ) (x : Redex ℕ ℕ) (name : ℕ → ℕ) (wires : List (Point ℕ × Point ℕ)) (f g : Point ℕ → Option (Point ℕ)) → CanOverwrite sig n x name →
     AreAllWiresOf x.member wires → IsAsBefore sig n x name f → StoresInTurn sig n x name wires f g → AreOverwritten sig n x name g

@@ -6,8 +6,8 @@ ghost use Rattle.in_overwriting.specs.InTurn.{StoredAreOverwritten, WiresInTwoPa
 ghost use Rattle.in_overwriting.specs.MadeByWires.{PairsAreMadeByWires, WiresMakeAllPairs, WiresMakeOne, WiresMakeOwnInTurn, WiresMakePairsInTurn};
 ghost use Rattle.in_overwriting.specs.Overwriting.{OverwrittenExists, OverwrittenIsOne, OverwrittenLeadsNoneBack, SidesAreApart, StepsAreOverwritten};
 
-/// Where no wire of the net joins two auxiliary ports of the pair, the net after an interaction is the one whose partners are those of
-/// before, overwritten at both sides of each wire of the right member; and that is the net after it.
+/// If no wire of the net joins two auxiliary ports of the pair, the net after an interaction is exactly the one whose partners are the old
+/// ones, overwritten at both sides of each wire of the right member.
 pub fn steps_are_overwritten()
     ensures { StepsAreOverwritten }
 {}
@@ -17,7 +17,7 @@ pub fn overwritten_exists()
     ensures { OverwrittenExists }
 {}
 
-/// There is one such net.
+/// There is at most one such net.
 pub fn overwritten_is_one()
     ensures { OverwrittenIsOne }
 {}
@@ -32,7 +32,7 @@ pub fn sides_are_apart()
     ensures { SidesAreApart }
 {}
 
-/// The wires of a right member may be written one after another, in any order and direction, whatever their sides held before.
+/// The wires of a right member may be written one after another, in any order and direction, for any old partners of their sides.
 pub fn stored_are_overwritten()
     ensures { StoredAreOverwritten }
 {}
@@ -52,7 +52,7 @@ pub fn wires_make_one()
     ensures { WiresMakeOne }
 {}
 
-/// Where the wires with boundary ends are taken by their lowest ends, the pairs come out in their order, and there is such a list.
+/// If the wires with boundary ends are taken by their lowest ends, the pairs come out in their order, and there is such a list.
 pub fn wires_make_pairs_in_turn()
     ensures { WiresMakePairsInTurn }
 {}
@@ -62,7 +62,7 @@ pub fn wires_make_own_in_turn()
     ensures { WiresMakeOwnInTurn }
 {}
 
-/// With the right member's own pairs behind them these are the pairs that an interaction makes.
+/// With the right member's own pairs behind them, these are the pairs that an interaction makes.
 pub fn wires_make_all_pairs()
     ensures { WiresMakeAllPairs }
 {}
@@ -82,7 +82,7 @@ pub fn sides_tell_the_pair()
     ensures { SidesTellThePair }
 {}
 
-/// And of a wire between two principal ports of a right member, the agent at the output is first.
+/// Of a wire between two principal ports of a right member, the agent at the output is first.
 pub fn output_stands_first_within()
     ensures { OutputStandsFirstWithin }
 {}
@@ -98,7 +98,7 @@ pub fn one_class_of_one_agent()
     ensures { OneClassOfOneAgent }
 {}
 
-/// So where neither symbol is marked, no wire joins two auxiliary ports of the pair.
+/// So if neither symbol is marked, no wire joins two auxiliary ports of the pair.
 pub fn unmarked_pairs_are_apart()
     ensures { UnmarkedPairsAreApart }
 {}

@@ -1,4 +1,4 @@
-// Which symbols are marked.
+// The symbols that are marked.
 ghost use Rattle.std.specs.Prelude.{ℕ, suc, ◌≤◌, ◌<◌, ◌↔◌, IsTrue};
 ghost use Rattle.in_symbols.specs.Tables.{IsSymbol, arity_of};
 ghost use Rattle.in_net.specs.Nets.{signature_of};

@@ -76,7 +76,7 @@ module _ (o : OpenNet) (n : ℕ) where
       go [] a = absurd a
       go (x ∷ xs) a = let r = h.gathers xs a.1 in (gathers_more o t.0 built built' x xs t.3 a.0 r.0, (class_ends (suc c) t.0 x a.0 t.2, r.1))
 
-  -- what is refused at one class is refused
+  -- a graft that is refused at one class is refused
   pub refused_here : (c i : ℕ) (is : List ℕ) (old mid : BuiltParts) (built : Built) → AreGathered o n (suc c) is old mid built → IsClassRefused o n (suc c) i mid built → AreRefused o n c (i ∷ is) old
   refused_here c i is old mid built h (inl none) all from held e d s p = (i, or_left (nat_eq i i) (is_among i is) (eq-eqb i i refl), again_left is old mid h.from i h.took none d.0)
   refused_here c i is old mid built h (inr r) all [] held e d s p = absurd e
@@ -245,7 +245,7 @@ module _ (o : OpenNet) (n : ℕ) where
   pub classes_start : (is : List ℕ) (old : BuiltParts) (built : Built) → IsNothing o built → AreGathered o n (length is) (drop (length is) is) old old built
   classes_start is old built h = subst (λ z. AreGathered o n (length is) z old old built) (sym (drop_all (length is) is (omega arith))) (gathered_none old (length is) built h)
 
-  -- ---- why a graft is refused
+  -- ---- the reasons of a refused graft
 
   pub none_grafts : (is : List ℕ) (old new : BuiltParts) → (IsAgent o n × (length is ≡ classes_of o n) → ⊥) → OnStep o (Graft n is) old new None
   none_grafts is old new h all x held b = absurd (h (b.joins.0.agent, earlier_length all (length old) is b.from b.earlier ∙ b.joins.0.many))

@@ -17,7 +17,7 @@ use Rattle.in_base.proofs.Places.{some_same}
 use Rattle.std.proofs.lemmas.Bool.{or_left, or_right}
 use Rattle.in_base.proofs.Each.{at_index}
 
--- ---- a part of what is built
+-- ---- a part of the built net
 
 same_point : OpenPoint → OpenPoint → Bool
 same_point (Port n i) (Port m j) = cond (nat_eq n m) (nat_eq i j) false
@@ -347,7 +347,7 @@ module _ (o : OpenNet) where
     second = let u = (k.ends v p q e).1 in let f = j.2 in omega arith;
   }
 
-  -- ---- what the code builds
+  -- ---- the nets that the code builds
 
   pub link_alone : (v : ℕ) (b : Built) (ls : List Bool) (es : List (ℕ × ℕ)) → IsNothing o b → v < length o.wires → ls ≡ set b.links v true → es ≡ set b.ends v (1, 1) → OnAlone o (Link v) (Some (record { nodes = b.nodes; links = ls; ends = es }))
   link_alone v b ls es h l e f =

@@ -1,4 +1,4 @@
--- The steps so far, the nets that they build, and which of them are left.
+-- The steps so far, the nets that they build, and the steps that are left.
 use Rattle.std.proofs.Common.{◌≡◌, ◌↔◌, ◌<◌, ◌≤◌, ◌+◌, ◌-◌, ℕ, zero, suc, true, false, cond, nat_eq, Option, Some, None, List, [], ◌∷◌, ◌++◌, length, length-append, take, slice_get, refl, sym, subst, ap, inl, inr, ◌∙◌, eq-eqb, arith}
 use Rattle.std.proofs.lemmas.Option.{slice_get_within}
 use Rattle.in_simple.specs.declared.verifying.Built.{Built}
@@ -20,7 +20,7 @@ use Rattle.std.proofs.lemmas.Bool.{or_left, or_right, cases_Bool}
 abbrev pub IsPrefix : OpenNet → List Step → ℕ → List Part → Type 0
 IsPrefix o steps k all = (i : ℕ) (step : Step) → i < k → slice_get steps i ≡ Some step → (x : Part) × (slice_get all i ≡ Some x) × BuildsPart o all i step x
 
--- what the first k steps leave
+-- the steps and nets that the first k steps leave
 pub record AreBuilt (o : OpenNet) (steps : List Step) (k : ℕ) (parts : BuiltParts) : Type 0 where
   pub left : AreLeft steps k parts
   pub last : (j : ℕ) → k ≡ suc j → left_at parts j ≡ 1
@@ -53,7 +53,7 @@ module _ (o : OpenNet) where
     joins = b.joins;
   }
 
-  -- a step that is made builds just what is held
+  -- a made step builds exactly the net that is kept
   pub builds_held : (step : Step) (old new : BuiltParts) (c : Built) (all : List Part) → IsMadeByStep o step old new c → AreHeld o old all → (k : ℕ) (x : Part) → BuildsPart o all k step x → IsBuiltPart o c x
   builds_held step old new c all m held k x b =
       (m.makes b.from (took_hold o all k (named step) old new m.from b.from m.took held b.earlier) x).0

@@ -1,4 +1,4 @@
--- What a check of a derivation keeps true. Sets of nodes and of wires are lists of tests.
+-- The invariants of the check of a derivation. Sets of nodes and of wires are lists of tests.
 use Rattle.std.specs.Prelude.{◌≡◌, ◌⊎◌, ◌↔◌, ◌<◌, ◌+◌, ℕ, suc, Bool, true, false, cond, ◌||◌, List, [], ◌∷◌, ◌++◌, Option, Some, None, length, slice_get, slice_set, slice_index_or}
 use Rattle.in_open_nets.specs.declared.open_nets.OpenPoint.{OpenPoint}
 use Rattle.in_open_nets.specs.declared.open_nets.OpenPoint.TheVariants.{Port, Free}
@@ -35,7 +35,7 @@ pub record IsSizedBuilt (o : OpenNet) (b : Built) : Type 0 where
   pub links : length b.links ≡ length o.wires
   pub ends : length b.ends ≡ length o.wires
 
--- what is built is this part, as far as the wires show it
+-- the built net is this part, as far as the wires show it
 pub record IsBuiltPart (o : OpenNet) (b : Built) (x : Part) : Type 0 where
   pub nodes : (n : ℕ) → x.nodes n ≡ has_node b n
   pub links : (w : ℕ) → x.links w ≡ has_link b w
@@ -83,7 +83,7 @@ ShareOne a b = SharesNodes a.nodes b.nodes ⊎ SharesNodes a.links b.links
 abbrev pub IsLed : OpenNet → (ℕ → Bool) → List (ℕ × ℕ) → ℕ → Type 0
 IsLed o s ends k = (w : ℕ) (p q : OpenPoint) → w < k → slice_get o.wires w ≡ Some (p, q) → ends_at ends w ≡ (is_port_in s q, is_port_in s p)
 
--- one point is a's own port, a has an end for the other, and b one for it
+-- one point is a's own port, a has an end for the other point, and b one for it
 abbrev pub IsFrom : List Bool → OpenPoint → ℕ → ℕ → Type 0
 IsFrom nodes p far near = (is_port_in (nodes_in nodes) p ≡ 1) × (0 < far) × (0 < near)
 
@@ -106,7 +106,7 @@ IsOpen o n c ends k = (w : ℕ) → w < k → IsOpenAt o n c w (ends_at ends w)
 abbrev pub HasClassBuilt : OpenNet → ℕ → ℕ → Built → Type 0
 HasClassBuilt o n c b = IsOpen o n c b.ends (length o.wires)
 
--- how many ends for a point are left when the node is joined to one and its principal port is opened; `None` if there is none to join
+-- how many ends for a point are left when the node is joined to one end and its principal port is opened; `None` if there is no end to join
 abbrev pub OnGraftEnd : ℕ → OpenPoint → OpenPoint → ℕ → Option ℕ → Type 0
 OnGraftEnd n p q count None = count + is_principal n q < is_auxiliary n p
 OnGraftEnd n p q count (Some m) = m + is_auxiliary n p ≡ count + is_principal n q
@@ -121,11 +121,11 @@ abbrev pub OnGraftWire : ℕ → OpenPoint → OpenPoint → ℕ × ℕ → Opti
 OnGraftWire n p q old None = LacksEnd n p q old
 OnGraftWire n p q old (Some new) = AreGrafted n p q old new
 
--- the ends of wires from k on are as they were
+-- the ends of wires from k on are unchanged
 abbrev pub StayFrom : ℕ → List (ℕ × ℕ) → List (ℕ × ℕ) → Type 0
 StayFrom k old new = (w : ℕ) → (w < k → ⊥) → ends_at new w ≡ ends_at old w
 
--- the wires below k are grafted, and the others as they were
+-- the wires below k are grafted, and the others are unchanged
 pub record IsGraftedTo (o : OpenNet) (n : ℕ) (old new : List (ℕ × ℕ)) (k : ℕ) : Type 0 where
   pub size : length new ≡ length old
   pub below : (w : ℕ) (p q : OpenPoint) → w < k → slice_get o.wires w ≡ Some (p, q) → AreGrafted n p q (ends_at old w) (ends_at new w)
@@ -142,14 +142,14 @@ AreAll bits k = (n : ℕ) → n < k → IsIn n (nodes_in bits)
 
 -- ---- steps
 
--- what Builds asks for, of the parts of the steps that are named
+-- the conditions of `Builds` on the parts of the named steps
 pub record MakesPart (o : OpenNet) (step : Step) (xs : List Part) (x : Part) : Type 0 where
   pub apart : ShareNothing xs
   pub nodes : (n : ℕ) → x.nodes n ≡ (is_among n (own_nodes step) || nodes_of xs n)
   pub links : (w : ℕ) → x.links w ≡ (is_among w (own_links step) || links_of xs w)
   pub joins : Joins o step xs x
 
--- 1 where the node is there
+-- 1 if the node is there
 abbrev pub in_one : Built → ℕ → ℕ
 in_one b n = cond (has_node b n) 1 0
 
@@ -163,20 +163,20 @@ abbrev pub OnPair : OpenNet → (ℕ → ℕ → Step) → Built → Built → O
 OnPair o f a b None = (i j : ℕ) (y z x : Part) → IsBuiltPart o a y → IsBuiltPart o b z → MakesPart o (f i j) (y ∷ z ∷ []) x → ⊥
 OnPair o f a b (Some c) = IsSizedBuilt o c × ((i j : ℕ) (y z x : Part) → IsBuiltPart o a y → IsBuiltPart o b z → MakesPart o (f i j) (y ∷ z ∷ []) x ↔ IsBuiltPart o c x) × ((n : ℕ) → in_one c n ≡ in_one a n + in_one b n)
 
--- 1 where step i is there and no step named it yet
+-- 1 if step i is there and no step named it yet
 abbrev pub left_of : Option (Option Built) → ℕ
 left_of None = 0
 left_of (Some None) = 0
 left_of (Some (Some b)) = 1
 
--- what the steps so far have built, where no later one has taken it
+-- the nets that the steps so far have built, without those that a later step has taken
 abbrev pub BuiltParts : Type 0
 BuiltParts = List (Option Built)
 
 abbrev pub left_at : BuiltParts → ℕ → ℕ
 left_at parts i = left_of (slice_get parts i)
 
--- how many of those that are left have the node
+-- how many of the nets that are left have the node
 abbrev pub times_left : ℕ → BuiltParts → ℕ
 times_left n [] = 0
 times_left n (None ∷ parts) = times_left n parts
@@ -185,12 +185,12 @@ times_left n (Some b ∷ parts) = in_one b n + times_left n parts
 abbrev pub AreSizedBuilt : OpenNet → BuiltParts → Type 0
 AreSizedBuilt o parts = (i : ℕ) (b : Built) → slice_get parts i ≡ Some (Some b) → IsSizedBuilt o b
 
--- these steps were left, each named once, and aren't any more
+-- these steps were left, each named once, and are not left any more
 pub record TakesNamed (ns : List ℕ) (old new : BuiltParts) : Type 0 where
   pub size : length new ≡ length old
   pub each : (i : ℕ) → left_at new i + times i ns ≡ left_at old i
 
--- step i was left with b, and isn't any more
+-- step i was left with b, and is not left any more
 abbrev pub IsTaken : ℕ → BuiltParts → BuiltParts → Built → Type 0
 IsTaken i old new b = (slice_get old i ≡ Some (Some b)) × (new ≡ slice_set old i None)
 
@@ -215,7 +215,7 @@ AllHold o (b ∷ bs) (x ∷ xs) = IsBuiltPart o b x × AllHold o bs xs
 abbrev pub AreHeld : OpenNet → BuiltParts → List Part → Type 0
 AreHeld o parts all = (i : ℕ) (b : Built) → slice_get parts i ≡ Some (Some b) → (x : Part) × (slice_get all i ≡ Some x) × IsBuiltPart o b x
 
--- the step names one that is not left, or has a node that a step before it has
+-- the step names one that is not left, or has a node that an earlier step has
 abbrev pub Again : Step → BuiltParts → Type 0
 Again step old = ((i : ℕ) × (is_among i (named step) ≡ true) × (left_at old i ≡ 0))
     ⊎ ((n : ℕ) × (is_among n (own_nodes step) ≡ true) × (0 < times_left n old))
@@ -236,7 +236,7 @@ abbrev pub AreOpen : OpenNet → ℕ → ℕ → List Part → Type 0
 AreOpen o n c [] = Unit {0}
 AreOpen o n c (x ∷ xs) = ((w i : ℕ) (q : OpenPoint) → IsWire o w (Port n i) q → class_in o n i ≡ suc c → 0 < x.ends (Port n i)) × AreOpen o n (suc c) xs
 
--- one more class beside those after it
+-- one more class beside the later ones
 abbrev pub IsClassTaken : OpenNet → ℕ → ℕ → ℕ → BuiltParts → BuiltParts → Built → Built → Type 0
 IsClassTaken o n c i old new built built' = (b : Built) × IsTaken i old new b × HasClassBuilt o n c b × AreBeside b built built'
 

@@ -23,7 +23,7 @@ impl Model for NumberSet {
 }
 
 impl NumberSet {
-    /// None of `count` numbers.
+    /// No members of `count` numbers.
     pub(crate) fn none(alloc: Global, count: usize) -> Result<NumberSet, AllocError>
         ensures count { IfOk result (λ set. length set ≡ count) }
         ensures none { IfOk result (λ set. (n : ℕ) → nodes_in set n ≡ false) }
@@ -84,7 +84,7 @@ impl NumberSet {
         self.tests.set(number, true);
     }
 
-    /// Makes the members of another set of the same size members too.
+    /// Also makes the members of another set of the same size members.
     pub(crate) fn unite(&mut self, more: &NumberSet)
         requires { length more.now ≡ length self.old }
         ensures size { length self.new ≡ length self.old }

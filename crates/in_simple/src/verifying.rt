@@ -52,7 +52,7 @@ fn nothing(alloc: Global, open: &OpenNet) -> Result<Built, AllocError>
     })
 }
 
-/// The sum of two numbers of ends. Too many to be counted are no memory.
+/// The sum of two numbers of ends. If there are too many to count, it is out of memory.
 fn sum_of(one: u32, other: u32) -> Result<u32, AllocError>
     ensures { IfOk result (λ sum. sum ≡ one + other) }
 {
@@ -79,7 +79,7 @@ fn add_ends(more: &Items<(u32, u32)>, ends: &mut Items<(u32, u32)>) -> Result<()
     Ok(())
 }
 
-/// Puts one net beside another; or returns that they share a node or a Link.
+/// Puts one net beside another, or returns that they share a node or a Link.
 fn beside(open: &OpenNet, more: &Built, built: &mut Built) -> Result<bool, AllocError>
     requires more { IsSizedBuilt «open».now more.now }
     requires built { IsSizedBuilt «open».now built.old }
@@ -194,7 +194,7 @@ fn is_from(nodes: &NumberSet, point: OpenPoint, far: u32, near: u32) -> bool
     port_in(nodes, point) == 1 && far > 0 && near > 0
 }
 
-/// Whether one has the port at an end of the wire, and each an end for the other's point.
+/// Whether one net has the port at an end of the wire, and each net has an end for the other's point.
 fn is_joint(open: &OpenNet, wire: usize, a: &Built, b: &Built) -> bool
     requires wire { wire < length «open».now.wires }
     requires a { IsSizedBuilt «open».now a.now }
@@ -207,7 +207,7 @@ fn is_joint(open: &OpenNet, wire: usize, a: &Built, b: &Built) -> bool
     is_from(&a.nodes, one, a_second, b_first) || is_from(&a.nodes, other, a_first, b_second)
 }
 
-/// Joins one to another along a wire, if they can be.
+/// Joins one net to another along a wire, if they can be joined.
 fn join_along(open: &OpenNet, wire: u32, a: &Built, built: &mut Built) -> Result<bool, AllocError>
     requires a { IsSizedBuilt «open».now a.now }
     requires built { IsSizedBuilt «open».now built.old }
@@ -229,7 +229,7 @@ fn join_along(open: &OpenNet, wire: u32, a: &Built, built: &mut Built) -> Result
     }
 }
 
-/// Two joined along a wire.
+/// Two nets joined along a wire.
 fn cut(open: &OpenNet, wire: u32, a: Built, b: Built) -> Result<Option<Built>, AllocError>
     requires a { IsSizedBuilt «open».now a }
     requires b { IsSizedBuilt «open».now b }
@@ -243,7 +243,7 @@ fn cut(open: &OpenNet, wire: u32, a: Built, b: Built) -> Result<Option<Built>, A
     }
 }
 
-/// Two side by side.
+/// Two nets side by side.
 fn mix(open: &OpenNet, a: Built, b: Built) -> Result<Option<Built>, AllocError>
     requires a { IsSizedBuilt «open».now a }
     requires b { IsSizedBuilt «open».now b }
@@ -257,8 +257,8 @@ fn mix(open: &OpenNet, a: Built, b: Built) -> Result<Option<Built>, AllocError>
     }
 }
 
-/// How many ends for a point are left when the node is joined to one for its auxiliary port, and its principal port at the
-/// far point is open; none, if there is no end to be joined to.
+/// How many ends for a point are left when the node is joined to one end for its auxiliary port, and its principal port at the
+/// far point is open; none, if there is no end to join it to.
 fn graft_end(
     count: u32,
     point: OpenPoint,
@@ -384,7 +384,7 @@ impl<'a> Root<'a> {
         true
     }
 
-    /// Puts one beside another, if it has an end for each port of a class.
+    /// Puts one net beside another, if it has an end for each port of a class.
     fn put_class(&self, more: &Built, built: &mut Built, class: usize) -> Result<bool, AllocError>
         requires more { IsSizedBuilt self.now.net.now more.now }
         requires built { IsSizedBuilt self.now.net.now built.old }
@@ -401,7 +401,7 @@ impl<'a> Root<'a> {
         }
     }
 
-    /// One more class of a graft, beside those after it.
+    /// One more class of a graft, beside the later ones.
     fn take_class(
         &self,
         parts: &mut Vec<Option<Built>>,
@@ -583,7 +583,7 @@ fn is_none_left(parts: &Vec<Option<Built>>) -> bool
     true
 }
 
-/// Whether the last step built all of the open net, and no other is left.
+/// Whether the last step built all of the open net, and no other step is left.
 fn is_last(open: &OpenNet, last: &Built, others: &Vec<Option<Built>>) -> bool
     requires { IsSizedBuilt «open».now last.now }
     ensures last { IsTrue result ↔ IsLastBuilt «open».now last.now others.now.items }

@@ -1,4 +1,4 @@
--- Walks go on, and go back.
+-- Walks that are continued, and walks back.
 use Rattle.in_simple_bridges.specs.Walks.{EdgeWalk, done, along}
 
 module _ (V : Type 0) (E : V → V → Type 0) where

@@ -11,7 +11,7 @@ module _ (edges : List (ℕ × ℕ)) where
   abbrev pub HasTwoEnds : (number one other : ℕ) → Type 0
   HasTwoEnds k a b = (slice_get edges k ≡ Some (a, b)) ⊎ (slice_get edges k ≡ Some (b, a))
 
-  -- another edge than this has them
+  -- another edge than this one has these ends
   abbrev pub Other : (without one other : ℕ) → Type 0
   Other e a b = (k : ℕ) × (k ≢ e) × HasTwoEnds k a b
 

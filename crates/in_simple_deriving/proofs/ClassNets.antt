@@ -27,7 +27,7 @@ use Rattle.in_simple_deriving.proofs.Nets.{joined_first, joined_last, joined_nea
 use Rattle.std.proofs.lemmas.Bool.{and_from, or_cases, or_left, or_right}
 
 module _ (o : OpenNet) (net : IsOpenNet o) (n : ℕ) where
-  -- ---- what a port adds
+  -- ---- the shape that a port adds
 
   -- the port's wire leads to one point
   at_port : (i w v : ℕ) (p q : OpenPoint) → IsWire o w (Port n i) p → IsWire o v (Port n i) q → (w ≡ v) × (p ≡ q)
@@ -132,7 +132,7 @@ module _ (o : OpenNet) (net : IsOpenNet o) (n : ℕ) where
   many_empty zero xs = omega arith
   many_empty (suc k) xs = let r = many_empty k xs in let l = length_app (with_empty k xs) (shape (λ n. false) no_wires ∷ []) in omega arith
 
-  -- a class none of whose ports came yet
+  -- a class of which no port came yet
   class_none : (rest : List Bool) (b c : ℕ) → ((i : ℕ) → IsBelow b i → i < ports_of o n → class_in o n i ≡ c → ⊥) → IsClassShape o rest n b c (shape (λ n. false) no_wires)
   class_none rest b c off = record {
     nodes = λ m. ((λ a. absurd (not_both false a refl)), λ y. absurd (let x = y.3 in off y.0 y.1 (in_ports o net x.0 n y.0 (Port x.1 x.2) x.3) y.2));
@@ -156,7 +156,7 @@ module _ (o : OpenNet) (net : IsOpenNet o) (n : ℕ) where
     done_is = f.done_is;
   }
 
-  -- ---- what a port meets
+  -- ---- the nodes that a port meets
 
   meets_class : (t : ℕ) (p : TaskPlan) → IsPlanAtTurn o n t p → (i j m : ℕ) → Meets o p.rest n i m → Meets o p.rest n j m → class_in o n i ≡ class_in o n j
   meets_class t p h i j m x y = (h.splits i).touched j x.0 y.0 x.1 y.1 x.2 y.2 x.3 y.3 (joined_on o p.rest x.1 m y.1 x.4 (joined_back o p.rest y.1 m y.4))
@@ -375,7 +375,7 @@ module _ (o : OpenNet) (net : IsOpenNet o) (n : ℕ) where
 
   -- ---- the graft
 
-  -- in which of the classes from c on a node stands; else 0
+  -- the class, from c on, of a node; 0 if it has none
   abbrev number : ℕ → List Shape → ℕ → ℕ
   number c [] m = 0
   number c (x ∷ xs) m = cond (x.nodes m) c (number (suc c) xs m)
@@ -415,7 +415,7 @@ module _ (o : OpenNet) (net : IsOpenNet o) (n : ℕ) where
       | inr u ↦ let e = (net.principal n i agent point).0 (omega arith) in let l = bl.0 in absurd (omega arith)
     ]
 
-    -- what a port below meets is of its class
+    -- a node that a port below meets is of the port's class
     part_of : (m i : ℕ) → IsBelow b i → Meets o p.rest n i m → (part m ≡ class_in o n i) × (0 < class_in o n i)
     part_of m i bl x =
         let pl = in_ports o net x.0 n i (Port x.1 x.2) x.3 in

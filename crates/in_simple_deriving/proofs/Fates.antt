@@ -35,7 +35,7 @@ module _ (o : OpenNet) (net : IsOpenNet o) (n : ℕ) (p : TaskPlan) (i w : ℕ) 
   pub along : (l k : ℕ) → q ≡ Port l k → IsWire o w (Port n i) (Port l k)
   along l k e = subst (λ z. IsWire o w (Port n i) z) e wire
 
-  -- what the port meets is derived
+  -- the node that the port meets is derived
   pub met_derived : HasFateAt p q Derived → (v l k : ℕ) → IsWire o v (Port n i) (Port l k) → IsIn l (nodes_in p.rest) → IsIn l (nodes_in p.done)
   met_derived f v l k g here =
       let e = (port_place f.0 l f.1 k (net.once w v (Port n i) (Port f.0 f.1) (Port l k) (along f.0 f.1 f.2) g).1).0 in
@@ -48,7 +48,7 @@ module _ (o : OpenNet) (net : IsOpenNet o) (n : ℕ) (p : TaskPlan) (i w : ℕ) 
       let one : is_port_in (nodes_in p.rest) q ≡ 1 = subst (λ z. is_port_in (nodes_in p.rest) z ≡ 1) (sym e) (port_yes (nodes_in p.rest) l k here) in
       omega (arith, one, off)
 
-  -- where no component waits there, nothing is met that isn't derived
+  -- if no component waits there, the port meets no node that isn't derived
   pub met_past : (f : Fate) → (f ≡ Derived) ⊎ (f ≡ Outside) → HasFateAt p q f → (v l k : ℕ) → IsWire o v (Port n i) (Port l k) → IsIn l (nodes_in p.rest) → IsIn l (nodes_in p.done)
   met_past f (inl e) h = met_derived (subst (HasFateAt p q) e h)
   met_past f (inr e) h = λ v l k g here. absurd (met_none (subst (HasFateAt p q) e h) v l k g here)

@@ -88,7 +88,7 @@ beside_past o begun b false ts off h = (h.0, h.1, λ w l. elim (same_nat w b) [ 
 
 -- ---- the first tasks
 
--- all nodes are derived, and the loose wires' Links come beside them
+-- all nodes are derived, and the loose wires' Links are set beside them
 pub under_all : (o : OpenNet) (c : List Bool) (links : List Task) → length c ≡ length o.nodes → 0 < length o.nodes → ((n : ℕ) → n < length o.nodes → nodes_in c n ≡ true) → EndsInWhole o true links → links ≡ map Make (links_from o true 0 (length o.wires)) → IsUnderWay o (Derive c ∷ links) [] []
 under_all o c links size some all h made = record {
   whole = nodes_in c;
@@ -111,7 +111,7 @@ under_none o links size h made = record {
   order = λ js y. (js, subst (AreJointsOf o) (sym (yields_makes o (links_from o false 0 (length o.wires)) js (subst (λ z. Yields o z js) made y))) (without size), refl);
 }
 
--- ---- Links beside what is begun
+-- ---- Links beside the begun net
 
 module _ (o : OpenNet) (net : IsOpenNet o) where
   link_runs : (b : ℕ) → loose_in o b ≡ true → (ts : List Task) (a c : List Shape) → RunsTasks o ts a c → RunsTasks o (ts ++ Make (joint.Link b) ∷ []) a (c ++ shape (λ n. false) (λ w. nat_eq w b) ∷ [])

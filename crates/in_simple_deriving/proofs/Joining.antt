@@ -1,4 +1,4 @@
--- What each joint makes of nets on the way.
+-- The shape that each joint makes of nets on the way.
 use Rattle.std.proofs.Common.{◌≡◌, ◌↔◌, ℕ, Bool, false, ◌||◌, nat_eq, List, [], ◌∷◌, length, refl, ap, ◌∙◌, arith}
 use mathlib.Core.Path.{fun_ext}
 use Rattle.in_open_nets.specs.declared.open_nets.OpenPoint.{OpenPoint}

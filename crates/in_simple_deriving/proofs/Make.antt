@@ -118,7 +118,7 @@ module _ (o : OpenNet) (net : IsOpenNet o) where
   length_end [] x = refl
   length_end (y ∷ xs) x = let r = length_end xs x in omega arith
 
-  -- what a step over these nets builds: the net of s, with Links of the wires of d
+  -- a step over these nets builds the net of s, with Links of the wires of d
   abbrev pub TopOf : (ℕ → Bool) → (ℕ → Bool) → Part → Type 0
   TopOf s d y = HasShape o (shape s d) y
 
@@ -438,7 +438,7 @@ module _ (o : OpenNet) (net : IsOpenNet o) where
     all : ℕ
     all = length o.wires
 
-    -- what the step of class c builds
+    -- the step of class c builds this net
     abbrev pub ClassTop : ℕ → Part → Type 0
     ClassTop c y = TopOf (of_class c) (hanging c (length o.wires)) y
 
@@ -536,7 +536,7 @@ module _ (o : OpenNet) (net : IsOpenNet o) where
           let e : 1 + c ≡ suc c = omega arith in
           (c, omega arith, y.0, y.1, subst (λ z. ClassTop z y.0) e (at c y.0 y.1))
 
-      -- the ends of all classes' nets for q, where only class c has any
+      -- the ends of all classes' nets for q, if only class c has any
       sum_class : (w : ℕ) (p q : OpenPoint) → IsWire o w p q → (c : ℕ) → 0 < c → c ≤ classes_of o n → ((d : ℕ) → 0 < d → d ≢ c → leads_out (of_class d) p q + if_in (hanging d (length o.wires)) w ≡ 0) → ends_of tops q ≡ leads_out (of_class c) p q + if_in (hanging c (length o.wires)) w
       sum_class w p q h c l m f =
           let y = top c l m in
@@ -546,7 +546,7 @@ module _ (o : OpenNet) (net : IsOpenNet o) where
       sum_none : (w : ℕ) (p q : OpenPoint) → IsWire o w p q → ((d : ℕ) → 0 < d → leads_out (of_class d) p q + if_in (hanging d (length o.wires)) w ≡ 0) → ends_of tops q ≡ 0
       sum_none w p q h f = sum_zero tops q (λ i z g. (at i z g).ends w p q h ∙ f (1 + i) (omega arith))
 
-      -- where a point stands
+      -- the cases of a point: a port of n, a port of another node of s, or another point
       abbrev Where : OpenPoint → Type 0
       Where p = ((i : ℕ) × (p ≡ Port n i)) ⊎ ((m : ℕ) × (j : ℕ) × (p ≡ Port m j) × IsIn m s × (m ≢ n)) ⊎ ((is_port_in s p ≡ 0) × ((i : ℕ) → p ≡ Port n i → ⊥))
 
@@ -579,7 +579,7 @@ module _ (o : OpenNet) (net : IsOpenNet o) where
       hang_one : (c w : ℕ) (p q : OpenPoint) → IsWire o w p q → Dangles c w → if_in (hanging c (length o.wires)) w ≡ 1
       hang_one c w p q h f = ap (λ b. cond b 1 0) (hanging_yes c (length o.wires) w (wire_within o w p q h) f)
 
-      -- what dangles at a wire does so at one of its points
+      -- an end that dangles at a wire does so at one of its points
       dangle_at : (c w : ℕ) (p q : OpenPoint) → IsWire o w p q → Dangles c w → ((i : ℕ) × (p ≡ Port n i) × (class_in o n i ≡ c) × (is_port_in (of_class c) q ≡ 0)) ⊎ ((i : ℕ) × (q ≡ Port n i) × (class_in o n i ≡ c) × (is_port_in (of_class c) p ≡ 0))
       dangle_at c w p q h x = elim (wire_points o w p q (Port n x.0) x.2.0 h x.2.1) [
         | inl e ↦ inl (x.0, sym e.0, x.1, subst (λ z. is_port_in (of_class c) z ≡ 0) e.1 x.2.2)

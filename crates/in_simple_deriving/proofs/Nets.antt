@@ -72,7 +72,7 @@ module _ (o : OpenNet) (net : IsOpenNet o) (n : ℕ) where
   pub joined_near : (rest : List Bool) (w l i m j : ℕ) → IsWire o w (Port l i) (Port m j) → IsIn l (nodes_in rest) → IsIn m (nodes_in rest) → AreJoinedWithin o rest l m
   joined_near rest w l i m j h a b = onward l m m i j a (w, h) (alone m b)
 
-  -- ---- what is derived
+  -- ---- the derived nodes
 
   module _ (t : ℕ) (p : TaskPlan) (h : IsPlanAtTurn o n t p) where
     pub not_root : (m : ℕ) → IsIn m (nodes_in p.rest) → m ≢ n
@@ -180,7 +180,7 @@ module _ (o : OpenNet) (net : IsOpenNet o) (n : ℕ) where
           let f = sym (class_is_place i (slice_get o.nodes n) c) ∙ (h.splits i).own j w g ∙ class_is_place j (slice_get o.nodes n) c in
           net.apart w (Port n i) (Port n j) g (ap (λ z. Port n z) f)
 
-  -- no port of n meets what has a later turn
+  -- no port of n meets a node with a later turn
   pub untouched : (p : TaskPlan) (m : ℕ) → HasTurn o n p m (suc (ports_of o n) + m) → (c : ℕ → Bool) → IsPart o n (nodes_in p.rest) c → IsIn m c → (i w l k : ℕ) → IsWire o w (Port n i) (Port l k) → IsIn l c → ⊥
   untouched p m turn c part here i w l k wire inside = go (turn c part here)
     where

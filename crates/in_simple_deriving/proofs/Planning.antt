@@ -168,7 +168,7 @@ module _ (o : OpenNet) (net : IsOpenNet o) (n : ℕ) where
     left = h.left;
   }
 
-  -- what a search reaches is a component
+  -- a search reaches a component
   pub reached_part : (rest c : List Bool) (near : ℕ) → nodes_in rest n ≡ false → IsIn near (nodes_in rest) → IsReached o rest near c → IsPart o n (nodes_in rest) (nodes_in c)
   reached_part rest c near out here r = (
     near,
@@ -286,7 +286,7 @@ module _ (o : OpenNet) (net : IsOpenNet o) (n : ℕ) where
       let f = done_before t p h d t m part (inr x) inside (all here) in
       absurd (omega arith)
 
-  -- where all that is left is derived
+  -- if all nodes that are left are derived, no component has a later turn
   pub none_later : (t : ℕ) (p : TaskPlan) → IsPlanAtTurn o n t p → missing p.done ≤ missing p.rest → (d : ℕ → Bool) (l : ℕ) → IsPart o n (nodes_in p.rest) d → ComesAt o n d l → t ≤ l → ⊥
   none_later t p h few d l part comes low =
       let m = part.0 in

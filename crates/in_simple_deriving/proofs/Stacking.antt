@@ -68,7 +68,7 @@ module _ (o : OpenNet) where
   shapes_app (x ∷ xs) ys [] us h k = absurd h
   shapes_app (x ∷ xs) ys (t ∷ ts) us h k = (h.0, shapes_app xs ys ts us h.1 k)
 
-  -- the roots of the last nets apart from those below
+  -- the roots of the last nets are apart from those below
   record Parted (parts : List Part) (k : ℕ) (roots : List ℕ) (tops : List Part) (base xs : List Shape) : Type 0 where
     below : List ℕ
     names : List ℕ
@@ -232,7 +232,7 @@ module _ (o : OpenNet) where
   pub runs_derive : (ts : List Task) (c : List Bool) (a b : List Shape) → RunsTasks o ts a b → RunsTasks o (ts ++ Derive c ∷ []) a (b ++ shape (nodes_in c) no_wires ∷ [])
   runs_derive ts c a b r = runs_app ts (Derive c ∷ []) a b (b ++ shape (nodes_in c) no_wires ∷ []) r refl
 
--- ---- what a step takes
+-- ---- the nets that a step takes
 
 pub drop_past : {X : Type 0} (xs ys : List X) (k : ℕ) → k ≡ length xs → drop k (xs ++ ys) ≡ ys
 drop_past [] ys k e = ap (λ z. drop z ys) e

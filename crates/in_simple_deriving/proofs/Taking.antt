@@ -83,7 +83,7 @@ module _ (o : OpenNet) (n k : ℕ) (pre : List StackStep) (p q : TaskPlan) (take
       let a = takes s.one s.first in
       turn_taken a.0 (Link w ∷ ms) e a.1 (link (nodes_in p.rest) n k w ms links joined) js (sym s.whole ∙ ap (λ z. z ++ s.other) a.2 ∙ ap (λ z. (a.0 ++ pre) ++ z) (yields_makes o (Link w ∷ ms) s.other s.second))
 
--- ---- what stands before a turn, and how it is joined
+-- ---- the joints before a turn, and its manner
 
 of_agent : {X : Type 0} (x : Option OpenNode) (a b c : X) → IsSomeAnd x IsAgentNode → elim x [ None ↦ c | Some m ↦ elim m.node [ AgentNode y ↦ a | ClassNode y d ↦ b ] ] ≡ a
 of_agent None a b c h = absurd h
@@ -101,7 +101,7 @@ of_class {X} (Some m) a b c h = by_node m.node h
     by_node (AgentNode y) h = absurd h
     by_node (ClassNode y d) h = refl
 
--- where it is the same for all nodes
+-- a value that is the same for all nodes
 of_any : {X : Type 0} (x : Option OpenNode) (a b c : X) → a ≡ c → b ≡ c → elim x [ None ↦ c | Some m ↦ elim m.node [ AgentNode y ↦ a | ClassNode y d ↦ b ] ] ≡ c
 of_any None a b c e f = refl
 of_any {X} (Some m) a b c e f = by_node m.node
@@ -366,7 +366,7 @@ module _ (o : OpenNet) (net : IsOpenNet o) (n : ℕ) where
 
   -- ---- whole nodes
 
-  -- the principal port's class is 0, where there are ports or none
+  -- the principal port's class is 0, even if there are no ports
   pub principal_zero : IsAgent o n → class_in o n 0 ≡ 0
   principal_zero agent = elim (at_most 1 (ports_of o n)) [ inl some ↦ (net.principal n 0 agent (at_ports 0 (slice_get o.nodes n) (omega (arith, some)))).1 refl | inr none ↦ no_ports (slice_get o.nodes n) (let few = none in omega (arith, few)) ]
     where
@@ -379,7 +379,7 @@ module _ (o : OpenNet) (net : IsOpenNet o) (n : ℕ) where
           by_list [] (ClassNode y c) e = refl
           by_list (x ∷ xs) z e = absurd (omega (arith, e))
 
-  -- at the turn 0 of an agent nothing comes
+  -- the turn 0 of an agent has nothing
   agent_nothing : (t : ℕ → Bool) → IsAgent o n → NothingAt o t n 0
   agent_nothing t agent = ((λ c is_part comes. agent_none o net n t agent c is_part comes), λ w l. let a = l.auxiliary in absurd (omega (arith, a)))
 
@@ -436,7 +436,7 @@ module _ (o : OpenNet) (b : ℕ) (ts all : List Task) (lt : b < length o.wires) 
   pub links_past : (came : Bool) → loose_in o b ≡ false → LinksCome o b came ts all → LinksCome o (b + 1) came ts all
   links_past came is h = at_next came false is h
 
--- where no wire is left
+-- no wire is left: the tasks are complete
 pub links_done : (o : OpenNet) (b : ℕ) (ts all : List Task) → length o.wires ≤ b → LinksCome o b true ts all → ts ≡ all
 links_done o b ts all le h =
     let none : length o.wires - b ≡ 0 = omega (arith, le) in

@@ -1,4 +1,4 @@
--- Joints: steps over those that came last and that none names yet.
+-- Joints: steps over the last ones that no step names yet.
 use Rattle.std.specs.Prelude.{ℕ, Bool, true, false, List, [], ◌∷◌, slice_get, Option, Some, None}
 use Rattle.in_open_nets.specs.declared.open_nets.OpenPoint.{OpenPoint}
 use Rattle.in_open_nets.specs.declared.open_nets.OpenPoint.TheVariants.{Port, Free}
@@ -8,7 +8,7 @@ use Rattle.in_open_nets.specs.declared.derivations.Step.{Step}
 use Rattle.in_open_nets.specs.declared.derivations.Step.TheVariants.{Empty, Link, Given, Graft, Cut, Mix}
 use Rattle.in_open_nets.specs.OpenNets.{OpenNet}
 
--- how many of the last steps that none names a joint takes, and the step that it makes of them
+-- the number of the last unnamed steps that a joint takes, and the step that it makes of them
 abbrev pub count_of : StackStep → ℕ
 count_of joint.Empty = 0
 count_of (joint.Link w) = 0

@@ -10,7 +10,7 @@ use Rattle.in_open_nets.specs.declared.derivations.Undone.{Undone}
 use Rattle.in_open_nets.specs.declared.derivations.Undone.TheVariants.{Stuck, Memory}
 use Rattle.in_open_nets.specs.Stuck.{IsUndone, IsStuckAt}
 
--- there are steps that build it exactly when it is derivable
+-- an open net has a derivation exactly when it is derivable
 abbrev pub DerivationWhereDerivable : Type 0
 DerivationWhereDerivable = (o : OpenNet) → IsOpenNet o → ((steps : List Step) × IsDerivation o steps) ↔ IsDerivable o
 

@@ -1,4 +1,4 @@
--- Which nets the tasks of a plan put on a stack.
+-- The nets that the tasks of a plan put on a stack.
 use Rattle.std.specs.Prelude.{◌≡◌, ◌⊎◌, ◌↔◌, ℕ, zero, suc, ◌<◌, ◌≤◌, Bool, true, false, ◌||◌, nat_eq, List, [], ◌∷◌, ◌++◌, length, map}
 use Rattle.in_open_nets.specs.declared.open_nets.OpenPoint.{OpenPoint}
 use Rattle.in_open_nets.specs.declared.open_nets.OpenPoint.TheVariants.{Port, Free}
@@ -39,17 +39,17 @@ HasFateAt p q (Waits l) = (k : ℕ) × (q ≡ Port l k) × IsIn l (nodes_in p.re
 HasFateAt p q Derived = (l : ℕ) × (k : ℕ) × (q ≡ Port l k) × IsIn l (nodes_in p.rest) × IsIn l (nodes_in p.done)
 HasFateAt p q Outside = is_port_in (nodes_in p.rest) q ≡ 0
 
--- both sets have a test for each node of the net, and the rest is what n left
+-- both sets have a test for each node of the net, and the rest is the set that n left
 abbrev pub IsSizedPlan : OpenNet → ℕ → TaskPlan → Type 0
 IsSizedPlan o n p = (length p.rest ≡ length o.nodes) × (length p.done ≡ length o.nodes) × IsLeftOf o n p.rest
 
--- what waits is a node of the rest
+-- a waiting node is one of the rest
 abbrev pub IsLeftOver : TaskPlan → Fate → Type 0
 IsLeftOver p (Waits l) = IsIn l (nodes_in p.rest)
 IsLeftOver p Derived = Unit {0}
 IsLeftOver p Outside = Unit {0}
 
--- the component of what waits is derived and joined; else nothing changes
+-- the component of a waiting node is derived and joined; for another fate nothing changes
 abbrev pub JoinsFate : OpenNet → StackStep → TaskPlan → Fate → TaskPlan → Type 0
 JoinsFate o j old (Waits l) new = (next : TaskPlan) × DerivesNear o l old next × (new ≡ with_task next (Make j))
 JoinsFate o j old Derived new = new ≡ old
@@ -81,7 +81,7 @@ pub record IsAuxiliaryPort (o : OpenNet) (n i : ℕ) : Type 0 where
 abbrev pub IsBelow : ℕ → ℕ → Type 0
 IsBelow b i = (0 < i) × (i < b)
 
--- what class c's ports below b meet, with a Link of each wire that leads off
+-- the nodes that class c's ports below b meet, with a Link of each wire that leads off
 pub record IsClassShape (o : OpenNet) (rest : List Bool) (n b c : ℕ) (x : Shape) : Type 0 where
   pub nodes : (m : ℕ) → IsIn m x.nodes ↔ ((i : ℕ) × IsBelow b i × (class_in o n i ≡ c) × Meets o rest n i m)
   pub links : (w : ℕ) → IsIn w x.links ↔ ((i : ℕ) × IsBelow b i × (class_in o n i ≡ c) × LeadsOff o rest n i w)
@@ -103,11 +103,11 @@ pub record PutsClasses (o : OpenNet) (rest : List Bool) (n b begun : ℕ) (tasks
 abbrev pub HasClasses : OpenNet → ℕ → ℕ → ℕ → TaskPlan → Type 0
 HasClasses o n b begun p = PutsClasses o p.rest n b begun p.tasks p.done
 
--- a port below b is of the last of these classes, where there are some
+-- some port below b is of the last of these classes, if there are any classes
 abbrev pub IsBegunClass : OpenNet → ℕ → ℕ → ℕ → Type 0
 IsBegunClass o n b begun = (begun ≡ 0) ⊎ ((i : ℕ) × IsBelow b i × (i < ports_of o n) × (class_in o n i ≡ begun))
 
--- what a port adds: the component that it meets, which is not derived yet, or the Link of a wire that leads off
+-- a port adds the component that it meets, which is not derived yet, or the Link of a wire that leads off
 pub record AddsPort (o : OpenNet) (n i : ℕ) (old new : TaskPlan) (x : Shape) : Type 0 where
   pub puts : (xs : List Shape) → PutsShapes o old.tasks xs → PutsShapes o new.tasks (xs ++ x ∷ [])
   pub nodes : (m : ℕ) → IsIn m x.nodes ↔ Meets o old.rest n i m
@@ -116,7 +116,7 @@ pub record AddsPort (o : OpenNet) (n i : ℕ) (old new : TaskPlan) (x : Shape) :
   pub first : (w j : ℕ) → IsIn w x.links → IsWire o w (Port n i) (Port n j) → i < j
   pub done : (m : ℕ) → IsIn m (nodes_in new.done) ↔ (IsIn m (nodes_in old.done) ⊎ IsIn m x.nodes)
 
--- .. or nothing, where all that it meets is derived, and its wire is of an earlier port
+-- .. or nothing, if all nodes that it meets are derived, and its wire is of an earlier port
 pub record AddsNothing (o : OpenNet) (n i : ℕ) (old new : TaskPlan) : Type 0 where
   pub same : new ≡ old
   pub met : (m : ℕ) → Meets o old.rest n i m → IsIn m (nodes_in old.done)
@@ -131,7 +131,7 @@ abbrev pub with_empty : ℕ → List Shape → List Shape
 with_empty zero xs = xs
 with_empty (suc k) xs = with_empty k xs ++ shape (λ n. false) no_wires ∷ []
 
--- .. which come on top of what the tasks put, and nothing else changes
+-- .. which come on top of the tasks' nets, and nothing else changes
 pub record Skips (count : ℕ) (old new : TaskPlan) : Type 0 where
   pub rest : new.rest ≡ old.rest
   pub done : new.done ≡ old.done
@@ -143,17 +143,17 @@ pub record Skips (count : ℕ) (old new : TaskPlan) : Type 0 where
 abbrev pub TakesJoints : OpenNet → ℕ → ℕ → List StackStep → TaskPlan → Type 0
 TakesJoints o n k more p = (js : List StackStep) → Yields o p.tasks js → (is : List StackStep) × Comes o (turns (nodes_in p.rest) n k) is × (js ≡ is ++ more)
 
--- the component that comes at the turn k, or the Link of a wire there that leads away
+-- the component of the turn k, or the Link of a wire there that leads away
 pub data Brings (o : OpenNet) (t : ℕ → Bool) (n k : ℕ) : Task → Type 0 where
   a_component : (c : List Bool) → IsPart o n t (nodes_in c) → ComesAt o n (nodes_in c) k → Brings o t n k (Derive c)
   a_link : (w : ℕ) → LinksAt o t n k w → Brings o t n k (Make (Link w))
 
--- one more task for what comes at a turn, or none, where nothing comes
+-- one more task for the component or Link of a turn, or none if the turn has nothing
 abbrev pub WhatComes : OpenNet → ℕ → ℕ → TaskPlan → TaskPlan → Bool → Type 0
 WhatComes o n k old new true = (task : Task) × (new.tasks ≡ old.tasks ++ task ∷ []) × Brings o (nodes_in old.rest) n k task
 WhatComes o n k old new false = (new.tasks ≡ old.tasks) × NothingAt o (nodes_in old.rest) n k
 
--- `count` Empties more
+-- `count` more Empties
 abbrev pub WithEmpties : ℕ → TaskPlan → TaskPlan → Type 0
 WithEmpties count old new = new.tasks ≡ old.tasks ++ map Make (empties count)
 

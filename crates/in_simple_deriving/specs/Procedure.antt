@@ -1,4 +1,4 @@
--- What the procedure that looks for a derivation keeps true. Sets of nodes are lists of tests, node by node.
+-- The invariants of the procedure that looks for a derivation. Sets of nodes are lists of tests, node by node.
 use Rattle.std.specs.Prelude.{◌≡◌, ◌⊎◌, ◌↔◌, ℕ, suc, ◌<◌, ◌≤◌, Bool, false, ◌||◌, List, [], ◌∷◌, ◌++◌, length}
 use Rattle.in_simple_deriving.specs.declared.plans.TaskPlan.{TaskPlan}
 use Rattle.in_simple_deriving.specs.declared.plans.PartSets.{PartSets}
@@ -72,7 +72,7 @@ with_task p t = record { tasks = p.tasks ++ t ∷ []; rest = p.rest; done = p.do
 abbrev pub HasRoomForNodes : OpenNet → PartSets → Type 0
 HasRoomForNodes o r = (length r.tests ≡ length o.nodes) × (length r.done ≡ length o.nodes)
 
--- what is true of a plan stays so
+-- all properties of a plan at a turn are kept
 abbrev pub KeepsPlan : TaskPlan → TaskPlan → Type 0
 KeepsPlan old new = (o : OpenNet) (n t : ℕ) → IsPlanAtTurn o n t old → StaysForRest o n t old new
 
@@ -119,12 +119,12 @@ pub record IsWork (o : OpenNet) (tasks : List Task) : Type 0 where
 abbrev pub PassesSteps : List Task → List Task → Type 0
 PassesSteps old new = ((o : OpenNet) → IsWork o old → IsWork o new) × ((m : ℕ) → pending_in new m ≡ pending_in old m)
 
--- all nodes are derived, where there are some
+-- the tasks derive all nodes, if there are some, and then only make steps
 abbrev pub StartsWork : ℕ → List Task → Type 0
 StartsWork b [] = b ≡ 0
 StartsWork b (Derive c ∷ ts) = (length c ≡ b) × (0 < b) × ((n : ℕ) → n < b → IsIn n (nodes_in c)) × AreMakes ts
 StartsWork b (Make x ∷ ts) = (b ≡ 0) × AreMakes ts
 
--- fewer nodes are left to derive
+-- fewer nodes wait to be derived
 abbrev pub AreFewer : OpenNet → List Task → List Task → Type 0
 AreFewer o old new = count (pending_in new) (length o.nodes) < count (pending_in old) (length o.nodes)

@@ -8,7 +8,7 @@ use Rattle.in_open_nets.specs.Members.{nodes_in}
 use Rattle.in_open_nets.specs.Stuck.{ComesAt, IsPart, ports_of}
 use Rattle.in_simple_deriving.specs.TakenOrder.{before}
 
--- how far a plan has come: for the nodes of a net that are left without one node, to a turn of that node
+-- the progress of a plan: for the nodes of a net that are left without one node, to a turn of that node
 pub record Progress : Type 0 where
   pub net : OpenNet
   pub node : ℕ

@@ -1,4 +1,4 @@
--- What the steps so far have built, and what the tasks that are left make of it. A net on the way is known by its nodes and by the
+-- The nets that the steps so far have built, and the result of the tasks that are left. A net on the way is known by its nodes and by the
 -- wires of its Links that are open at both ends.
 use Rattle.std.specs.Prelude.{◌≡◌, ◌≢◌, ◌⊎◌, ◌↔◌, ℕ, ◌+◌, ◌-◌, ◌<◌, ◌≤◌, Bool, true, false, cond, ◌||◌, ◌&&◌, nat_lt, List, [], ◌∷◌, ◌++◌, length}
 use Rattle.in_open_nets.specs.declared.open_nets.OpenPoint.{OpenPoint}
@@ -24,7 +24,7 @@ shape nodes links = record { nodes = nodes; links = links }
 abbrev pub no_wires : ℕ → Bool
 no_wires w = false
 
--- 1 where the wire between p and q leads out of these nodes at q
+-- 1 if the wire between p and q leads out of these nodes at q
 abbrev pub leads_out : (ℕ → Bool) → OpenPoint → OpenPoint → ℕ
 leads_out nodes p q = is_port_in nodes p - is_port_in nodes q
 
@@ -32,7 +32,7 @@ leads_out nodes p q = is_port_in nodes p - is_port_in nodes q
 abbrev pub IsLinkOf : OpenNet → Shape → ℕ → Type 0
 IsLinkOf o x w = IsIn w x.links ⊎ ((l : ℕ) × (i : ℕ) × (q : OpenPoint) × IsWire o w (Port l i) q × IsIn l x.nodes × IsAgent o l × (i ≢ 0))
 
--- what a step has built is a net of this shape, with an end for each wire that leads out of it
+-- the part of a step is a net of this shape, with an end for each wire that leads out of it
 pub record HasShape (o : OpenNet) (x : Shape) (y : Part) : Type 0 where
   pub nodes : (n : ℕ) → y.nodes n ≡ x.nodes n
   pub ends : (w : ℕ) (p q : OpenPoint) → IsWire o w p q → y.ends q ≡ leads_out x.nodes p q + cond (x.links w) 1 0
@@ -67,15 +67,15 @@ pub record IsStack (o : OpenNet) (steps : List Step) (roots : List ℕ) (shapes 
 abbrev pub IsLastLeft : ℕ → List ℕ → List ℕ → Type 0
 IsLastLeft n old new = (old ≡ new ++ n ∷ []) ⊎ ((old ≡ []) × (new ≡ []))
 
--- the last `count` of these are gone, or all
+-- the last `count` of these are gone, or all, if there are fewer
 abbrev pub AreLast : ℕ → List ℕ → List ℕ → Type 0
 AreLast count old new = (gone : List ℕ) × (old ≡ new ++ gone) × ((length gone ≡ count) ⊎ ((new ≡ []) × (length gone ≤ count)))
 
--- one more step, over the last ones that none names
+-- one more step, over the last ones that no step names
 abbrev pub MakesStep : StackStep → List Step → List ℕ → List Step → List ℕ → Type 0
 MakesStep j steps roots steps' roots' = (below names : List ℕ) → roots ≡ below ++ names → length names ≡ count_of j → (steps' ≡ steps ++ step_of j names ∷ []) × (roots' ≡ below ++ length steps ∷ [])
 
--- a step over these parts builds y, wherever it is in the list
+-- a step over these parts builds y, at any place in the list
 pub record BuildsOver (o : OpenNet) (step : Step) (names : List ℕ) (from : List Part) (y : Part) : Type 0 where
   pub names_are : named step ≡ names
   pub own_once : (n : ℕ) → times n (own_nodes step) ≡ cond (is_among n (own_nodes step)) 1 0
@@ -98,7 +98,7 @@ pub data Yields (o : OpenNet) : List Task → List StackStep → Type 0 where
   made : (j : StackStep) (ts : List Task) (js : List StackStep) → Yields o ts js → Yields o (Make j ∷ ts) (j ∷ js)
   derived : (c : List Bool) (ts : List Task) (is js : List StackStep) → Comes o (part (nodes_in c)) is → Yields o ts js → Yields o (Derive c ∷ ts) (is ++ js)
 
--- the tasks turn one stack into the other, where each part that is to be derived comes with no open Link
+-- the tasks turn one stack into the other, if each part that is to be derived comes with no open Link
 abbrev pub RunsTasks : OpenNet → List Task → List Shape → List Shape → Type 0
 RunsTasks o [] old new = old ≡ new
 RunsTasks o (Derive c ∷ ts) old new = RunsTasks o ts (old ++ shape (nodes_in c) no_wires ∷ []) new
@@ -108,7 +108,7 @@ RunsTasks o (Make j ∷ ts) old new = (below : List Shape) × (xs : List Shape) 
 abbrev pub loose_below : OpenNet → ℕ → ℕ → Bool
 loose_below o b w = nat_lt w b && loose_in o w
 
--- what the Links are set beside: the net of all nodes, where it is begun
+-- the net of all nodes, if it is begun: the Links are set beside it
 abbrev pub begun_with : Bool → (ℕ → Bool) → List Shape
 begun_with true whole = shape whole no_wires ∷ []
 begun_with false whole = []
@@ -116,12 +116,12 @@ begun_with false whole = []
 abbrev pub NoneWhere : Bool → (ℕ → Bool) → Type 0
 NoneWhere begun whole = begun ≡ false → (n : ℕ) → whole n ≡ false
 
--- the tasks set a Link of each loose wire below b beside what is begun; some says whether anything came yet
+-- the tasks set a Link of each loose wire below b beside the begun net; some says whether anything came yet
 abbrev pub SetsBeside : OpenNet → Bool → ℕ → Bool → List Task → Type 0
 SetsBeside o begun b true tasks = (whole : ℕ → Bool) → NoneWhere begun whole → RunsTasks o tasks (begun_with begun whole) (shape whole (loose_below o b) ∷ [])
 SetsBeside o begun b false tasks = (begun ≡ false) × (tasks ≡ []) × ((w : ℕ) → w < b → loose_in o w ≡ false)
 
--- the tasks make the net of all nodes from what is begun
+-- the tasks make the net of all nodes from the begun net
 abbrev pub EndsInWhole : OpenNet → Bool → List Task → Type 0
 EndsInWhole o begun tasks = (whole : ℕ → Bool) → NoneWhere begun whole → RunsTasks o tasks (begun_with begun whole) (shape whole (loose_in o) ∷ [])
 
@@ -138,6 +138,6 @@ pub record IsUnderWay (o : OpenNet) (tasks : List Task) (steps : List Step) (roo
   pub runs : RunsTasks o tasks shapes (shape whole (loose_in o) ∷ [])
   pub order : (js : List StackStep) → Yields o tasks js → AreTaken o (steps_from js steps roots)
 
--- what is under way stays so
+-- the tasks and steps stay under way
 abbrev pub AdvancesTasks : List Task → List Step → List ℕ → List Task → List Step → List ℕ → Type 0
 AdvancesTasks tasks steps roots tasks' steps' roots' = (o : OpenNet) → IsUnderWay o tasks steps roots → IsUnderWay o tasks' steps' roots'

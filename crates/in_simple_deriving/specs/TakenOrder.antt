@@ -1,10 +1,10 @@
--- The order in which the steps of a derivation come. This project's own choice. A joint is a step over the last ones that none names.
--- The first node that splits a sub-net is taken out, and its turns come one after another, as for the first stuck sub-net. At a turn comes
--- the component that has it, or the Link of the wire at an agent's auxiliary port that leads to no other node and to no earlier port, or
--- nothing. What comes at an agent's auxiliary port begins its class or is set beside what came for it; what comes at its principal port or
--- at a class node's port is cut; what the node doesn't touch is set beside. A class node is before its first turn, and an agent before
+-- The order of the steps of a derivation. This project's own choice. A joint is a step over the last ones that no step names.
+-- The first node that splits a sub-net is taken out, and its turns come one after another, as for the first stuck sub-net. A turn has
+-- the component that comes there, or the Link of the wire at an agent's auxiliary port that leads to no other node and to no earlier port, or
+-- nothing. At an agent's auxiliary port it begins its class or is set beside the others of its class; at an agent's principal port or
+-- at a class node's port it is cut; a component that the node doesn't touch is set beside. A class node is before its first turn, and an agent before
 -- the turn of its principal port, with an Empty for each of its classes without ports. At the end come the Links of wires between two free
--- ends, by number, each beside the rest; and Empty where nothing came.
+-- ends, by number, each beside the rest; and Empty if there is nothing.
 use Rattle.std.specs.Prelude.{◌≡◌, ◌↔◌, ℕ, zero, suc, ◌+◌, ◌-◌, ◌<◌, Bool, true, false, cond, nat_eq, nat_lt, List, [], ◌∷◌, ◌++◌, length, take, drop, slice_get, Some, None}
 use Rattle.in_open_nets.specs.declared.open_nets.Node.TheVariants.{AgentNode, ClassNode}
 use Rattle.in_open_nets.specs.declared.open_nets.OpenPoint.{OpenPoint}
@@ -18,7 +18,7 @@ use Rattle.in_simple_deriving.specs.Joints.{count_of, step_of, loose_in}
 use Rattle.in_open_nets.specs.Splitting.{Without}
 use Rattle.in_open_nets.specs.Stuck.{ComesAt, IsFirstToSplit, IsPart, ports_of, turn}
 
--- ---- the joints at a node, turn by turn: what comes at a turn, what before it, and what joins it to that which came so far
+-- ---- the joints at a node, turn by turn: those of the turn, those before it, and the one that joins it to the earlier ones
 
 -- a given number of Empties
 abbrev pub empties : ℕ → List StackStep
@@ -40,7 +40,7 @@ before o n k = elim (slice_get o.nodes n) [
   ]
 ]
 
--- it begins a class; is set beside what came; or is cut to it
+-- it begins a class; is set beside the earlier ones; or is cut to them
 pub data Manner : Type 0 where
   begins : Manner
   beside : Manner
@@ -61,7 +61,7 @@ manner o n k = elim (slice_get o.nodes n) [
 abbrev pub IsWireAt : OpenNet → ℕ → ℕ → ℕ → Type 0
 IsWireAt o n k w = (i : ℕ) × (q : OpenPoint) × IsWire o w (Port n i) q × (turn o n i ≡ k)
 
--- these joints, none or one, join in that manner what comes
+-- these joints, none or one, join the component or Link of a turn in that manner
 abbrev pub JoinsInManner : OpenNet → ℕ → ℕ → Manner → List StackStep → Type 0
 JoinsInManner o n k begins js = js ≡ []
 JoinsInManner o n k beside js = js ≡ Mix ∷ []
@@ -85,19 +85,19 @@ pub record LinksAt (o : OpenNet) (t : ℕ → Bool) (n k w : ℕ) : Type 0 where
   pub wire : IsWire o w (Port n k) point
   pub away : LeadsAway t n k point
 
--- no component comes at the turn, and no such Link
+-- the turn has no component, and no such Link
 abbrev pub NothingAt : OpenNet → (ℕ → Bool) → ℕ → ℕ → Type 0
 NothingAt o t n k = ((c : ℕ → Bool) → IsPart o n t c → ComesAt o n c k → ⊥) × ((w : ℕ) → LinksAt o t n k w → ⊥)
 
 -- ---- the joints of a sub-net
 
--- all of a sub-net; the turns of n below k, where t is left; the turn k
+-- all of a sub-net; the turns of n below k, where t remains; the turn k
 pub data Stage : Type 0 where
   part : (ℕ → Bool) → Stage
   turns : (ℕ → Bool) → ℕ → ℕ → Stage
   at : (ℕ → Bool) → ℕ → ℕ → Stage
 
--- the first node that splits s is taken out, and its turns come one after another: at each the component that comes then, or the Link of a
+-- the first node that splits s is taken out, and its turns come one after another: each has a component, or the Link of a
 -- wire that leads away, or nothing
 pub data Comes (o : OpenNet) : Stage → List StackStep → Type 0 where
   taken : (s t : ℕ → Bool) (n : ℕ) (js : List StackStep) → IsFirstToSplit o n s → IsLeft n s t → Comes o (turns t n (suc (ports_of o n) + length o.nodes)) js → Comes o (part s) js
@@ -109,12 +109,12 @@ pub data Comes (o : OpenNet) : Stage → List StackStep → Type 0 where
 
 -- ---- the whole open net
 
--- a given number of wires from w on: a Link of each between two free ends, beside what came so far; Empty where nothing came
+-- a given number of wires from w on: a Link of each between two free ends, beside the earlier ones; Empty if there is nothing
 abbrev pub links_from : OpenNet → Bool → ℕ → ℕ → List StackStep
 links_from o came w zero = cond came [] (Empty ∷ [])
 links_from o came w (suc n) = cond (loose_in o w) (Link w ∷ (cond came (Mix ∷ []) [] ++ links_from o true (w + 1) n)) (links_from o came (w + 1) n)
 
--- the nodes, where there are some, and then these Links
+-- the nodes, if there are some, and then these Links
 pub data AreJointsOf (o : OpenNet) : List StackStep → Type 0 where
   with_nodes : (s : ℕ → Bool) (js : List StackStep) → 0 < length o.nodes → ((n : ℕ) → IsIn n s ↔ IsNode o n) → Comes o (part s) js → AreJointsOf o (js ++ links_from o true 0 (length o.wires))
   without : length o.nodes ≡ 0 → AreJointsOf o (links_from o false 0 (length o.wires))

@@ -2,7 +2,7 @@
 
 ghost use Rattle.in_simple_deriving.specs.Laws.{DerivationWhereDerivable, NetsAreDerivedOnce, OneStuckPlace};
 
-/// There is a list of steps that builds an open net exactly when it is derivable.
+/// An open net has a derivation exactly when it is derivable.
 pub fn derivation_where_derivable()
     ensures { DerivationWhereDerivable }
 {}

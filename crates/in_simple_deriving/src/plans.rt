@@ -18,13 +18,13 @@ use sqlite_items::Items;
 use std::alloc::{AllocError, Global};
 use std::marker::Model;
 
-/// A step over those that came last.
+/// A step over the last ones.
 #[derive(Clone, Copy)]
 pub(crate) enum StackStep {
     Empty,
     Link(u32),
     Given(u32),
-    /// With as many classes.
+    /// With this number of classes.
     Graft(u32, usize),
     /// Along a wire.
     Cut(u32),
@@ -44,7 +44,7 @@ enum Fate {
     Waits(u32),
     /// It is left, and derived.
     Derived,
-    /// It is no node that is left.
+    /// It is not left.
     Outside,
 }
 
@@ -58,7 +58,7 @@ fn leads_back(point: OpenPoint, node: usize, port: usize) -> bool
     }
 }
 
-/// Sets that are made once for all parts: which nodes are in a part, and which ones are derived.
+/// Sets that are made once for all parts: the nodes of a part, and the derived ones.
 pub(crate) struct PartSets {
     pub(crate) tests: Scratch,
     pub(crate) done: DoneNodes,
@@ -211,7 +211,7 @@ impl TaskPlan {
         Ok(self)
     }
 
-    /// Derives the component of a node that waits, and joins it to what came so far.
+    /// Derives the component of a node that waits, and joins it to the earlier ones.
     fn join(
         self,
         alloc: Global,
@@ -231,7 +231,7 @@ impl TaskPlan {
         }
     }
 
-    /// The component that an agent's auxiliary port touches, unless it is derived; else the port's wire, if it leads out of the part or to a later
+    /// The component that an agent's auxiliary port touches, unless it is derived; or the port's wire, if it leads out of the part or to a later
     /// port. Returns whether something was added.
     fn port(
         self,
@@ -360,7 +360,7 @@ impl<'a> BegunPlan<'a> {
         Ok((BegunPlan { wired, node, plan }, list))
     }
 
-    /// The nets of an agent's classes, but for the last ones, which have no port.
+    /// The nets of an agent's classes, without the last classes, which have no port.
     fn classes(self, alloc: Global) -> Result<Classes<'a>, AllocError>
         requires { IsAgent self.net self.node }
         ensures { IfOk result (λ classes. classes ≡ until self.entry (1 + (ports_of self.entry.net self.entry.node - 1))) }
@@ -443,7 +443,7 @@ impl<'a> Classes<'a> {
             begun,
         } = self;
         let skipped = skip(plan, class - begun - 1)?;
-        // Something comes: a component that touches ports of two classes would keep the node from splitting.
+        // Some task is added: a component that touches ports of two classes would keep the node from splitting.
         let (plan, _) = skipped.port(alloc, wired, node, port)?;
         Ok(Classes {
             wired,
@@ -482,7 +482,7 @@ impl<'a> Classes<'a> {
         })
     }
 
-    /// The port that comes next.
+    /// The next port.
     fn port(self, alloc: Global) -> Result<Classes<'a>, AllocError>
         requires { self.next < ports_of self.net self.node }
         ensures { IfOk result (λ classes. classes ≡ later self.entry) }
@@ -520,7 +520,7 @@ impl<'a> Classes<'a> {
 }
 
 impl<'a> JoinedPlan<'a> {
-    /// The component that a port touches, unless it is derived, cut to what came so far.
+    /// The component that a port touches, unless it is derived, cut to the earlier ones.
     fn port(self, alloc: Global, port: usize) -> Result<JoinedPlan<'a>, AllocError>
         requires port { port < ports_of self.net self.node }
         requires turn { self.next ≡ turn self.net self.node port }
@@ -544,7 +544,7 @@ impl<'a> JoinedPlan<'a> {
         })
     }
 
-    /// The component of a node, unless it is derived, beside what came so far.
+    /// The component of a node, unless it is derived, beside the earlier ones.
     fn other(self, alloc: Global, near: u32) -> Result<JoinedPlan<'a>, AllocError>
         requires near { near < length self.net.nodes }
         requires turn { self.next ≡ suc (ports_of self.net self.node) + near }
@@ -566,7 +566,7 @@ impl<'a> JoinedPlan<'a> {
         })
     }
 
-    /// The turn of the node `near`, where none whose turn is before it is left.
+    /// The turn of the node `near`, if no node with an earlier turn is left.
     fn wait(self, near: usize) -> JoinedPlan<'a>
         requires near { near ≤ length self.net.nodes }
         requires from { suc (ports_of self.net self.node) ≤ self.next }
@@ -589,14 +589,14 @@ impl<'a> JoinedPlan<'a> {
         }
     }
 
-    /// Whether all that is left is derived, so that no component has a turn any more.
+    /// Whether all nodes that are left are derived, so that no component has a turn any more.
     fn is_over(&self) -> bool
         ensures { IsTrue result → HasNoTurnLeft self.now }
     {
         self.plan.done.absent() <= self.plan.rest.absent()
     }
 
-    /// The end of the turns, where no component has one any more.
+    /// The end of the turns, if no component has one any more.
     fn end(self) -> JoinedPlan<'a>
         requires from { suc (ports_of self.net self.node) ≤ self.next }
         requires turn { self.next ≤ suc (ports_of self.net self.node) + length self.net.nodes }

@@ -17,7 +17,7 @@ use in_syntax::with_room;
 use sqlite_items::Items;
 use std::alloc::{AllocError, Global};
 
-/// The tasks that are left, the first one last, the steps so far, and those of them that no step names yet.
+/// The tasks that are left, the first one last, the steps so far, and those that no step names yet.
 #[derive(Drop)]
 pub(crate) struct Work {
     pub(crate) tasks: Items<Task>,
@@ -51,7 +51,7 @@ impl Work {
         Ok(())
     }
 
-    /// One more step. More than 4,294,967,296 of them are no memory.
+    /// One more step. With more than 4,294,967,296 of them it is out of memory.
     fn push(&mut self, step: Step) -> Result<(), AllocError>
         ensures tasks { self.new.tasks ≡ self.old.tasks }
         ensures steps { OnOk result (self.new.steps ≡ self.old.steps ++ step ∷ []) }
@@ -66,7 +66,7 @@ impl Work {
         }
     }
 
-    /// The last step that none names.
+    /// The last step that no step names.
     fn pop(&mut self) -> u32
         ensures tasks { self.new.tasks ≡ self.old.tasks }
         ensures steps { self.new.steps ≡ self.old.steps }
@@ -75,7 +75,7 @@ impl Work {
         self.roots.pop().unwrap_or(0)
     }
 
-    /// Forgets the last steps that none names.
+    /// Forgets the last steps that no step names.
     fn forget(&mut self, count: usize)
         ensures tasks { self.new.tasks ≡ self.old.tasks }
         ensures steps { self.new.steps ≡ self.old.steps }
@@ -86,7 +86,7 @@ impl Work {
         }
     }
 
-    /// A step over the last ones that none names.
+    /// A step over the last ones that no step names.
     fn make(&mut self, alloc: Global, joint: StackStep) -> Result<(), AllocError>
         ensures tasks { self.new.tasks ≡ self.old.tasks }
         ensures made { OnOk result (MakesStep joint self.old.steps self.old.roots self.new.steps self.new.roots) }
@@ -140,7 +140,7 @@ fn is_loose(open: &OpenNet, wire: usize) -> bool
     matches!(open.wire(wire), (OpenPoint::Free(_), OpenPoint::Free(_)))
 }
 
-/// A Link of each wire between free ends, beside what came so far; or the empty net, where nothing comes.
+/// A Link of each wire between free ends, beside the earlier ones; or the empty net, if there is nothing.
 fn loose(alloc: Global, open: &OpenNet, begun: bool) -> Result<Items<Task>, AllocError>
     ensures makes { IfOk result AreMakes }
     ensures steps { IfOk result (EndsInWhole «open».now begun) }

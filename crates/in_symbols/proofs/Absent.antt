@@ -1,4 +1,4 @@
--- A name without a number is not there.
+-- A name without a number is not declared.
 use Rattle.std.proofs.Common.{◌≡◌, ◌+◌, ◌≤◌, Bool, true, false, not, cond, ◌||◌, nat_lt, List, [], ◌∷◌, length, Some, None, refl, ◌∙◌, ap, subst, arith, ltb-false}
 use Rattle.std.specs.List.{list_any, position, position_or_len}
 

@@ -87,7 +87,7 @@ twice_least s symbols are =
     (least_earlier (IsRepeatedAt s.types) (IsRepeatedAt (map (λ d. d.name) s.symbols)) types names (repeats_least s.types) (repeats_least (map (λ d. d.name) s.symbols)))
     (free_least symbols (map (λ f. f.name) s.net.free)))
 
--- what the code finds is the first fault
+-- the code finds the first fault
 pub found_first : (s : Source) → IsFirst (IsFaultAt s) (first_fault s (declares_all undeclared s.types) (declares_all undeclared (map (λ d. d.name) s.symbols)))
 found_first s =
     let types = declares_all undeclared s.types in

@@ -72,6 +72,6 @@ nothing_found u = ap (λ o. let r : Lookup = record u { found = o } in r) (nothi
 pub equations_looked : (es : List Equation) (u : Lookup) → walks_equations looking es u ≡ finds u (unknown_in_equations u.symbols.now es)
 equations_looked es u = ap (walks_equations looking es) (sym (nothing_found u)) ∙ equations_from es u None
 
--- what is found before, and what is found in a list of which nothing was found yet
+-- the earliest of a place found before and the places of a list is the earlier of it and the list's earliest
 pub found_before : (o : Option Place) (ps : List (Option Place)) → earliest o ps ≡ earlier o (earliest None ps)
 found_before o ps = ap (λ p. earliest p ps) (sym (nothing_yet o)) ∙ earliest_from o None ps

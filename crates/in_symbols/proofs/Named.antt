@@ -1,4 +1,4 @@
--- Which names are there, and names of lists.
+-- The declared names, and names of lists.
 use Rattle.std.proofs.Common.{◌≡◌, ℕ, ◌+◌, ◌<◌, Bool, true, false, not, cond, ◌||◌, nat_lt, List, [], ◌∷◌, length, Option, Some, None, is_some, if◌then◌else◌, refl, sym, ◌∙◌, ap, inl, inr, arith, ltb-true}
 use Rattle.std.specs.List.{list_any, position_or_len}
 use Rattle.std.specs.Str.{bytes_eq}
@@ -57,7 +57,7 @@ some_where : (b : Bool) (n : ℕ) → is_some (cond b (Some n) None) ≡ b
 some_where true n = refl
 some_where false n = refl
 
--- a name has a number where it is there
+-- a declared name has a number
 pub numbered : (names : List (List ℕ)) (name : List ℕ) → is_some (number_in name names) ≡ has_name name names
 numbered names name = some_where (nat_lt (position_or_len (bytes_eq name) names) (length names)) (position_or_len (bytes_eq name) names) ∙ passes (bytes_eq name) names
 

@@ -1,4 +1,4 @@
--- Names that are declared one by one: which are there, and which were there before.
+-- Names that are declared one by one: the declared ones, and those declared before.
 use Rattle.std.proofs.Common.{◌≡◌, ◌⊎◌, ℕ, ◌≤◌, Bool, true, false, List, [], ◌∷◌, ◌++◌, map, Some, None, is_some, if◌then◌else◌, refl, sym, ◌∙◌, ap, subst, inl, inr, arith, append_assoc, append-nil}
 use Rattle.in_syntax.specs.declared.places.Place.{Place}
 use Rattle.in_syntax.specs.declared.tree.Name.{Name}
@@ -52,7 +52,7 @@ names_by d n m false is = ((λ h. any_before_end (λ x. x ≡ m) d.names n.text 
     back (inl h) = any_in_front (λ x. x ≡ m) d.names n.text h
     back (inr e) = any_in_end (λ x. x ≡ m) d.names n.text e
 
--- which names are there then
+-- the names declared then
 pub declares_names : (d : Declared) (n : Name) (m : List ℕ) → (IsIn (declares d n).names m → IsIn d.names m ⊎ (n.text ≡ m)) × (IsIn d.names m ⊎ (n.text ≡ m) → IsIn (declares d n).names m)
 declares_names d n m = names_by d n m (has_name n.text d.names) refl
 
@@ -80,11 +80,11 @@ all_names (n ∷ ns) d m = ((λ h. to ((all_names ns (declares d n) m).0 h)), λ
 
 -- ---- the first place
 
--- the names of the list that are there already or stand earlier in it
+-- the names of the list that are declared already or are earlier in it
 abbrev RepeatsFrom : List (List ℕ) → List Name → Place → Type 0
 RepeatsFrom seen ns q = AnyByRecursion (λ m. IsRefusedAt seen m q) ns ⊎ IsRepeatedAt ns q
 
--- of the same names, whatever the first of them is
+-- the second list has the names of the first one, and this name
 abbrev Turns : List (List ℕ) → List (List ℕ) → Name → Type 0
 Turns seen new n = (m : List ℕ) → (IsIn new m → IsIn seen m ⊎ (n.text ≡ m)) × (IsIn seen m ⊎ (n.text ≡ m) → IsIn new m)
 
@@ -137,7 +137,7 @@ only_repeated ns q (inl h) = absurd h
 only_repeated ns q (inr (inl h)) = absurd (none_seen ns q h)
 only_repeated ns q (inr (inr h)) = h
 
--- the first place of a name that stands earlier in the list as well
+-- the first place of a name that is also earlier in the list
 pub repeats_least : (ns : List Name) → IsLeast (IsRepeatedAt ns) (declares_all undeclared ns).repeat
 repeats_least ns =
     least_same (λ q. ⊥ ⊎ RepeatsFrom [] ns q) (IsRepeatedAt ns) (declares_all undeclared ns).repeat
@@ -162,11 +162,11 @@ all_kept (n ∷ ns) d e =
 
 -- ---- free names
 
--- names that are symbols', names that are there already, or that stand earlier in the list
+-- names that are symbols', names that are declared already, and names that are earlier in the list
 abbrev FreeFrom : List (List ℕ) → List (List ℕ) → List Name → Place → Type 0
 FreeFrom symbols seen ns q = AnyByRecursion (λ m. IsRefusedAt symbols m q) ns ⊎ RepeatsFrom seen ns q
 
--- the names that are there then, but for symbols'
+-- the names declared then, apart from symbols'
 abbrev TurnsFree : List (List ℕ) → List (List ℕ) → List (List ℕ) → Name → Type 0
 TurnsFree symbols seen new n = (m : List ℕ) → (IsIn new m → IsIn seen m ⊎ (n.text ≡ m)) × (IsIn seen m → IsIn new m) × (n.text ≡ m → IsIn symbols m ⊎ IsIn new m)
 
@@ -267,7 +267,7 @@ as_free : (symbols : List (List ℕ)) (ns : List Name) (q : Place) → AnyByRecu
 as_free symbols ns q (inl h) = inr (inl h)
 as_free symbols ns q (inr h) = inr (inr (inr h))
 
--- the first place of a free name that is a symbol's, or stands earlier in the list as well
+-- the first place of a free name that is a symbol's, or is also earlier in the list
 pub free_least : (symbols : List (List ℕ)) (ns : List Name) → IsLeast (λ q. AnyByRecursion (λ m. IsIn symbols m.text × (m.place ≡ q)) ns ⊎ IsRepeatedAt ns q) (declares_all_free symbols undeclared ns).repeat
 free_least symbols ns =
     least_same (λ q. ⊥ ⊎ FreeFrom symbols [] ns q) (λ q. AnyByRecursion (λ m. IsIn symbols m.text × (m.place ≡ q)) ns ⊎ IsRepeatedAt ns q) (declares_all_free symbols undeclared ns).repeat

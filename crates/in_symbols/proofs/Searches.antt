@@ -16,7 +16,7 @@ one_more {X} f xs i x found next whole lt is now before =
 pub all_done : {X : Type 0} (f : X → Option Place) (xs : List X) (i : ℕ) (found whole : Option Place) → length xs ≤ i → earliest found (map f (drop i xs)) ≡ whole → found ≡ whole
 all_done {X} f xs i found whole past before = ap (λ (ys : List X). earliest found (map f ys)) (sym (drop_all i xs past)) ∙ before
 
--- ---- where something was found before
+-- ---- after something was found
 
 some_earlier : (p q r : Place) (b c : Bool) → nat_lt q.from p.from ≡ b → nat_lt r.from q.from ≡ c →
     earlier (if b then Some q else Some p) (Some r) ≡ earlier (Some p) (if c then Some r else Some q)
@@ -26,7 +26,7 @@ some_earlier p q r false true qp rq = refl
 some_earlier p q r false false qp rq =
     ap (λ b. if b then Some r else Some p) (le-ltb r.from p.from (omega (arith, ltb-false q.from p.from qp, ltb-false r.from q.from rq))) ∙ sym (ap (λ b. if b then Some q else Some p) qp)
 
--- which of three is the earliest doesn't depend on which two are compared first
+-- the earliest of three places doesn't depend on which two are compared first
 pub earlier_assoc : (a b c : Option Place) → earlier (earlier a b) c ≡ earlier a (earlier b c)
 earlier_assoc None b c = refl
 earlier_assoc (Some p) None c = refl

@@ -1,4 +1,4 @@
--- The declaration of each symbol has at most nine places and a class for each.
+-- The declaration of each symbol has at most `max_ports` auxiliary places and a class for each place.
 use Rattle.std.proofs.Common.{◌≡◌, ℕ, ◌+◌, List, [], ◌∷◌, length, map, refl, sym, ◌∙◌, ap, arith, length-append}
 use Rattle.std.proofs.Math.ListN.{replicate}
 use Rattle.std.proofs.lemmas.List.{length-replicate, length-map}

@@ -1,4 +1,4 @@
--- Where no fault is found, the tables are the declarations.
+-- If no fault is found, the tables are the declarations.
 use Rattle.std.proofs.Common.{◌≡◌, ℕ, List, [], ◌∷◌, map, Option, Some, None, nat_lt, Bool, true, false, if◌then◌else◌, refl, sym, ◌∙◌, ap}
 use Rattle.std.specs.List.{AllByRecursion}
 use Rattle.in_syntax.specs.declared.faults.Code.{Code}

@@ -100,7 +100,7 @@ pub equations_least : (s : Source) (names : List (List ℕ)) → AreNamesOf (IsS
 equations_least s names are es =
     least_of_all (unknown_in_equation names) (λ e q. HasPart (IsUnknownHead s q) e.left ⊎ HasPart (IsUnknownHead s q) e.right) (equation_least s names are) es
 
--- ---- where none is unknown, each is a symbol's
+-- ---- without an unknown name, each is a symbol's
 
 here_known : (bare b : Bool) (p : Place) → let o : Option Place = None in (if bare then None else (if b then None else Some p)) ≡ o → (bare || b) ≡ true
 here_known true b p e = refl

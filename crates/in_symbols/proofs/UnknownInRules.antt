@@ -1,4 +1,4 @@
--- The first place of a name before ( or [ that is no symbol's, the rules with it.
+-- The first place of a name before ( or [ that is no symbol's, also in the rules.
 use Rattle.std.proofs.Common.{◌≡◌, ◌⊎◌, ℕ, Bool, true, false, List, Some, None, is_some, if◌then◌else◌, refl, inl, inr, ap, arith}
 use Rattle.std.specs.List.{AllByRecursion}
 use Rattle.in_syntax.specs.declared.places.Place.{Place}
@@ -16,7 +16,7 @@ use Rattle.in_symbols.proofs.Named.{AreNamesOf, has_number, no_number, known_by}
 use Rattle.in_symbols.proofs.Unknown.{IsUnknownInEquations, term_least, equations_least, term_known, equations_known}
 use Rattle.in_base.proofs.Each.{any_of, any_either}
 
--- at the place stands the head's name, and is no symbol's
+-- the place is that of the head's name, which is no symbol's
 abbrev IsUnnamed : Source → Place → Head → Type 0
 IsUnnamed s q h = (IsSymbolName s h.name.text → ⊥) × (h.name.place ≡ q)
 
@@ -88,7 +88,7 @@ unknown_least s names are =
     (least_of_all (unknown_in_rule names) (λ r q. IsUnknownInRule s q r) (rule_least s names are) s.rules)
     (equations_least s names are s.net.equations))
 
--- ---- where none is unknown, each is a symbol's
+-- ---- without an unknown name, each is a symbol's
 
 head_known : (names : List (List ℕ)) (h : Head) → unknown_in_head names h ≡ None → IsHeadKnown names h
 head_known names h e =

@@ -57,7 +57,7 @@ untyped_least s types are =
     (least_of_all (untyped_in_symbol types) (λ d q. IsUntypedAt s q d.port ⊎ AnyByRecursion (AnyByRecursion (IsUntypedAt s q)) d.classes) (symbol_least s types are) s.symbols)
     (least_of_all (λ f. untyped types f.port) (λ f q. IsUntypedAt s q f.port) (λ f. port_least s types are f.port) s.net.free))
 
--- ---- where none is unknown, each is declared
+-- ---- without an unknown type, each is declared
 
 known : (types : List (List ℕ)) (port : SourcePort) → untyped types port ≡ None → Knows types port
 known types port e = known_by (is_some (number_in port.kind.text types)) port.kind.place e

@@ -1,4 +1,4 @@
--- Faults of names: what is wrong with the types, symbols and free names of a program, and which of its faults is the first one.
+-- Faults of names: those of the types, symbols and free names of a program, and the first one among them.
 -- Lafont 1990 declares the type and sign of each port of a symbol, and lets an agent be of a declared symbol. That types and
 -- symbols are two namespaces, the codes, and the place of a fault are this project's own choice.
 use Rattle.std.specs.Prelude.{◌≡◌, ◌⊎◌, ℕ, List, [], ◌∷◌, map}
@@ -23,12 +23,12 @@ IsSymbolName s name = AnyByRecursion (λ d. d.name.text ≡ name) s.symbols
 
 -- ---- declared twice
 
--- the place is that of a name of the list that occurs earlier in the list as well
+-- the place is that of a name of the list that also occurs earlier in the list
 abbrev pub IsRepeatedAt : List Name → Place → Type 0
 IsRepeatedAt [] p = ⊥
 IsRepeatedAt (n ∷ ns) p = AnyByRecursion (λ m. (m.text ≡ n.text) × (m.place ≡ p)) ns ⊎ IsRepeatedAt ns p
 
--- at the place a name is declared for the second time: a type's, a symbol's, or a free name, which must not be a symbol's either
+-- the place is that of a name that is declared again: a type's, a symbol's, or a free name, which must not be a symbol's either
 pub data IsDeclaredTwiceAt (s : Source) (p : Place) : Type 0 where
   type_twice : IsRepeatedAt s.types p → IsDeclaredTwiceAt s p
   symbol_twice : IsRepeatedAt (map (λ d. d.name) s.symbols) p → IsDeclaredTwiceAt s p
@@ -84,7 +84,7 @@ pub data IsFaultAt (s : Source) : Code → Place → Type 0 where
   unknown_type : (p : Place) → IsUnknownTypeAt s p → IsFaultAt s E05 p
   unknown_symbol : (p : Place) → IsUnknownHeadAt s p → IsFaultAt s E06 p
 
--- none of them is earlier; of two at one place the lower code counts
+-- a fault is there, none is earlier, and none at its place has a lower code
 abbrev pub IsFirstFault : Source → Code → Place → Type 0
 IsFirstFault s = IsFirstOf (IsFaultAt s)
 

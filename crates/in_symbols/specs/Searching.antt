@@ -90,11 +90,11 @@ unknown_in_rule names r = earlier (earlier (unknown_in_head names r.first) (unkn
 abbrev pub unknown_in_rules : List (List ℕ) → List SourceRule → Option Place
 unknown_in_rules names rs = earliest None (map (unknown_in_rule names) rs)
 
--- in the rules and in the net
+-- the first place of an unknown name in the rules and in the net
 abbrev pub unknown_in : List (List ℕ) → Source → Option Place
 unknown_in names s = earlier (unknown_in_rules names s.rules) (unknown_in_equations names s.net.equations)
 
--- what is found, where this is met
+-- the search, if this place is met
 abbrev pub finds : Lookup → Option Place → Lookup
 finds l here = record l { found = earlier l.found here }
 
@@ -108,7 +108,7 @@ looking = record {
 
 -- ---- the first fault
 
--- the first fault, where these types and symbols were declared
+-- the first fault, if these types and symbols were declared
 abbrev pub first_fault : Source → Declared → Declared → Option Refusal
 first_fault s types symbols =
     let free = declares_all_free symbols.names undeclared (map (λ f. f.name) s.net.free) in

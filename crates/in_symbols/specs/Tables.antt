@@ -1,4 +1,4 @@
--- The tables of a program: what is declared of its types and symbols. Lafont 1990: a symbol has a principal port and auxiliary
+-- The tables of a program: the declarations of its types and symbols. Lafont 1990: a symbol has a principal port and auxiliary
 -- ports, each with a type and a sign, and its auxiliary ports fall into classes.
 use Rattle.std.specs.Prelude.{◌≡◌, ℕ, zero, suc, ◌+◌, ◌-◌, ◌<◌, ◌≤◌, Bool, true, false, not, nat_eq, ◌||◌, ◌&&◌, List, [], ◌∷◌, ◌++◌, length, map, unwrap_or, slice_index_or, slice_get, Option, Some, None, IsSome, is_some, Result, Ok, Err, option_map}
 use Rattle.std.proofs.Math.ListN.{replicate}
@@ -22,7 +22,7 @@ use Rattle.in_symbols.specs.Faults.{IsFaultless, IsFirstFault}
 use Rattle.in_symbols.specs.Names.{number_in}
 use Rattle.in_syntax.specs.Grammar.{max_ports}
 
--- the names of the types, the names of the symbols, and what is declared of each symbol, in the order of declaration
+-- the names of the types, the names of the symbols, and the declaration of each symbol, in the order of declaration
 pub record Tables : Type 0 where
   pub types : List (List ℕ)
   pub names : List (List ℕ)
@@ -46,7 +46,7 @@ shape_of types s = record {
   class_count = length s.classes;
 }
 
--- .. before its places are added
+-- .. without its places
 abbrev pub bare_shape : SourceSymbol → Shape
 bare_shape s = record { place = s.name.place; ports = []; classes = []; class_count = 0 }
 
@@ -71,13 +71,13 @@ Knows types p = IsSome (number_in p.kind.text types)
 abbrev pub KnowsAll : List (List ℕ) → SourceSymbol → Type 0
 KnowsAll types d = Knows types d.port × AllByRecursion (AllByRecursion (Knows types)) d.classes
 
--- the places of one class go last
+-- the places of one class are added at the end
 pub record AddsClass (types : List (List ℕ)) (number : ℕ) (class : List SourcePort) (old new : Shape) : Type 0 where
   pub ports : new.ports ≡ old.ports ++ map (port_of types) class
   pub classes : new.classes ≡ old.classes ++ replicate (length class) number
   pub others : (new.place ≡ old.place) × (new.class_count ≡ old.class_count)
 
--- a principal port, `max_ports` auxiliary ports at most, and a class for each
+-- a principal port, at most `max_ports` auxiliary ports, and a class for each
 pub record IsShape (s : Shape) : Type 0 where
   pub some : 1 ≤ length s.ports
   pub few : length s.ports ≤ max_ports + 1
@@ -86,12 +86,12 @@ pub record IsShape (s : Shape) : Type 0 where
 abbrev pub AreShapes : List Shape → Type 0
 AreShapes = AllByRecursion IsShape
 
--- ---- what the accessors read
+-- ---- the results of the accessors
 
 abbrev pub IsSymbol : Tables → ℕ → Type 0
 IsSymbol t s = s < length t.names
 
--- where its name is declared
+-- the place where its name is declared
 abbrev pub place_of : Tables → ℕ → Option Place
 place_of t s = option_map (λ d. d.place) (slice_get t.shapes s)
 
@@ -136,7 +136,7 @@ abbrev pub are_opposite : Bool → Bool → Bool
 are_opposite true other = not other
 are_opposite false other = other
 
--- Lafont 1990: two symbols match where one is a constructor, the other a destructor, and their principal types have one name
+-- Lafont 1990: two symbols match if one is a constructor, the other a destructor, and their principal types have one name
 abbrev pub matching : Tables → ℕ → ℕ → Bool
 matching t c d = nat_eq (port_at t c 0).kind (port_at t d 0).kind && are_opposite (is_constructor t c) (is_constructor t d)
 
@@ -164,7 +164,7 @@ HeadsKnown names = AllByRecursion (λ e. (heads_known names e.left ≡ true) × 
 abbrev pub IsHeadKnown : List (List ℕ) → Head → Type 0
 IsHeadKnown names h = IsSome (number_in h.name.text names) × AllByRecursion (λ u. heads_known names u ≡ true) h.terms
 
--- those of a rule's heads and equations are
+-- the names of a rule's heads are symbols', and so are the names of its terms that have arguments
 abbrev pub IsRuleKnown : List (List ℕ) → SourceRule → Type 0
 IsRuleKnown names r = IsHeadKnown names r.first × IsHeadKnown names r.second × HeadsKnown names r.equations
 
@@ -179,7 +179,7 @@ pub record IsTabled (source : Source) (t : Tables) : Type 0 where
   pub free : FreeKnown t.types source.net.free
   pub rules : AllByRecursion (IsRuleKnown t.names) source.rules
 
--- Ok exactly when the program has no fault of names, and then the tables are its declarations; else refused for the first fault
+-- Ok exactly when the program has no fault of names, and then the tables are its declarations; a refusal is for the first fault
 abbrev pub Tabulates : Source → Result Tables Fault → Type 0
 Tabulates source (Ok t) = IsTabled source t × IsFaultless source
 Tabulates source (Err (Refused r)) = IsFirstFault source r.code r.place × (r.other ≡ None)

@@ -5,7 +5,7 @@ use crate::names::Names;
 use in_syntax::{Name, Place, Source};
 use std::alloc::{AllocError, Global};
 
-/// A namespace while its names are declared, and the earliest place at which one was that was there already.
+/// A namespace while its names are declared, and the earliest place at which a name must not be declared.
 #[derive(Drop)]
 pub(crate) struct Declared {
     pub(crate) names: Names,

@@ -40,7 +40,7 @@ impl Names {
         self.set.len()
     }
 
-    /// Adds a name, and says whether it is new. A name that is there changes nothing.
+    /// Adds a name, and says whether it is new. A declared name changes nothing.
     pub fn declare(&mut self, alloc: Global, name: &str) -> Result<bool, AllocError>
         ensures { Declares self.old name.now self.new result }
     {

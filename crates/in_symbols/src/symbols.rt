@@ -135,7 +135,7 @@ impl Symbols {
         self.names.len() as u32
     }
 
-    /// Where the symbol's name is declared.
+    /// The place at which the symbol is declared.
     pub fn place(&self, symbol: SymbolNo) -> Place
         requires { IsSymbol self.now symbol.0 }
         ensures { Some result ≡ place_of self.now symbol.0 }

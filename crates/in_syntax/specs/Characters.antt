@@ -6,7 +6,7 @@ use Rattle.unicode_ident.specs.Ident.{is_xid_start, is_xid_continue}
 abbrev pub line_feed : ℕ
 line_feed = 10
 
--- `#`, with which a comment begins
+-- `#`, which begins a comment
 abbrev pub hash : ℕ
 hash = 35
 

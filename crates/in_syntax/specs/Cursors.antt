@@ -1,4 +1,4 @@
--- What is left of a text, and what is read from it at once.
+-- The rest of a text, and single steps of reading it.
 use Rattle.std.specs.Prelude.{◌≡◌, ℕ, ◌+◌, ◌<◌, ◌≤◌, Bool, true, false, ◌==◌, List, [], ◌∷◌, ◌++◌, length, option_to_list}
 use Rattle.std.specs.List.{list_all}
 use Rattle.std.specs.Str.{chars, IsUtf8}
@@ -22,7 +22,7 @@ pub record BeginsWith (text : List ℕ) (c : ℕ) (rest : List ℕ) : Type 0 whe
   pub some : 0 < length (encode_utf8 c)
   pub utf8 : IsUtf8 rest
 
--- the first character is such a one
+-- the first character has P
 abbrev pub FirstIs : (ℕ → Type 0) → List ℕ → Type 0
 FirstIs P [] = ⊥
 FirstIs P (c ∷ cs) = P c
@@ -32,19 +32,19 @@ abbrev pub FirstFails : (ℕ → Bool) → List ℕ → Type 0
 FirstFails passes [] = Unit {0}
 FirstFails passes (c ∷ cs) = passes c ≡ false
 
--- all that can begin with the character is a sign
+-- the character begins only signs
 pub record BeginsSigns (c : ℕ) : Type 0 where
   pub blank : is_blank c ≡ false
   pub comment : (c == 35) ≡ false
   pub name : begins_name c ≡ false
 
--- a spot, and what is left after it of a text that is not too long
+-- a spot, and the rest of a text after it, within the limit on texts
 pub record IsWithin (s : Spot) (rest : List ℕ) : Type 0 where
   pub total : s.at + length rest ≤ text_limit
   pub line : s.line ≤ s.at + 1
   pub col : s.col ≤ s.at + 1
 
--- from a spot, the text is some characters that pass the test, and after them, at the second spot, the rest
+-- the text from a spot is a run of characters that pass the test, and then the rest, at the second spot
 pub record RunsThrough (passes : ℕ → Bool) (s : Spot) (text w : List ℕ) (t : Spot) (rest : List ℕ) : Type 0 where
   pub split : chars text ≡ w ++ chars rest
   pub all : list_all passes w ≡ true
@@ -53,13 +53,13 @@ pub record RunsThrough (passes : ℕ → Bool) (s : Spot) (text w : List ℕ) (t
   pub utf8 : IsUtf8 rest
   pub shorter : length w + length rest ≤ length text
 
--- the longest such run, whose characters are counted
+-- the longest such run, with the number of its characters
 pub record IsRun (passes : ℕ → Bool) (s : Spot) (text w : List ℕ) (r : ℕ × Spot × List ℕ) : Type 0 where
   pub runs : RunsThrough passes s text w r.1 r.2
   pub count : r.0 ≡ length w
   pub longest : FirstFails passes (chars r.2)
 
--- something is read, and the rest is shorter
+-- a part of the text is read, and the rest is shorter
 pub record Goes (s : Spot) (text : List ℕ) (ts : List Token) (t : Spot) (rest : List ℕ) : Type 0 where
   pub passes : Passes s (chars text) ts t (chars rest)
   pub within : IsWithin t rest

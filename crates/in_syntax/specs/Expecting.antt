@@ -1,4 +1,4 @@
--- What a program can continue with at some place: which tokens, and of which sort a name is there. The sorts, as the signs of the grammar, are this
+-- How a program can continue at some place: with which tokens, and with which sort of name. The sorts, as the signs of the grammar, are this
 -- project's own choice.
 use Rattle.std.specs.Prelude.{◌≡◌, ◌↔◌, ◌⊎◌, ℕ, Bool, true, false, List, [], ◌∷◌, ◌++◌, take, IsTrue, Result, Ok, Err}
 use Rattle.in_syntax.specs.declared.expecting.Expected.{Expected}
@@ -28,7 +28,7 @@ follows_term part.Agent (Plain kind.Comma) = true
 follows_term part.Agent (Plain kind.CloseParenthesis) = true
 follows_term p x = false
 
--- what may follow a name alone: arguments, or what follows a whole term
+-- the tokens that may follow a bare name: `(`, or those that follow a whole term
 abbrev pub follows_name : PartOf → Sign → Bool
 follows_name p (Plain kind.OpenParenthesis) = true
 follows_name p x = follows_term p x
@@ -75,12 +75,12 @@ takes e x = false
 
 -- ---- sorts of names
 
--- where in a program signs end, by the sort of a name that may come: between items, where none does; in a list of types; after the word
+-- the part of a program in which signs end, by the sort of a name that may come: between items, where none does; in a list of types; after
 -- `symbol`; in a symbol's ports; before and in a head; before a free end and in its port; in the equations of a rule or of the net, and after them
 pub data Section : Type 0 where
   between types symbol ports head terms free free_port body after_body : Section
 
--- where they end with one sign more
+-- the section with one sign more
 abbrev pub further : Section → Sign → Section
 further between (Plain kind.Type) = types
 further between (Plain kind.Symbol) = symbol
@@ -101,7 +101,7 @@ further free_port (Plain kind.Comma) = free
 further free_port (Plain kind.CloseParenthesis) = free
 further s x = s
 
--- where they end from a section on
+-- the section of signs from a section on
 abbrev pub section_from : Section → List Sign → Section
 section_from s [] = s
 section_from s (x ∷ front) = section_from (further s x) front
@@ -109,7 +109,7 @@ section_from s (x ∷ front) = section_from (further s x) front
 abbrev pub section : List Sign → Section
 section = section_from between
 
--- where each can be expected, if not everywhere: what tells names apart, and what a `;` or a `)` ends
+-- the sections in which each can be expected, if not in all: they distinguish the sorts of names, and the items that a `;` or a `)` ends
 abbrev pub IsAt : Expected → Section → Type 0
 IsAt expected.TypeName s = s ≡ types
 IsAt expected.SymbolName s = s ≡ symbol
@@ -124,26 +124,26 @@ IsAt (expected.AfterTerm part.Right) s = s ≡ body
 IsAt (expected.AfterTerm part.Agent) s = (s ≡ terms) ⊎ (s ≡ body)
 IsAt _ s = Unit {0}
 
--- ---- what is expected
+-- ---- the expected tokens
 
--- after these signs: just the tokens that are expected continue with some program, wherever they are, and names are of the sort of this section
+-- after these signs, exactly the expected tokens continue with some program, and a name is of the sort of this section
 pub record IsExpected (text : List ℕ) (front : List Sign) (e : Expected) : Type 0 where
   pub tokens : (t : Token) → IsTrue (takes e (sign_of text t)) ↔ Begins (front ++ sign_of text t ∷ [])
   pub sort : IsAt e (section front)
 
--- what is noted of a text's tokens and the result on them
+-- a relation between the tokens of a text, the result on them, and the noted expectation
 abbrev pub Noting : Type 1
 Noting = List ℕ → List Token → Result Source Fault → Expected → Type 0
 
--- what is noted of tokens: nothing more where they are a program, and at a fault what is expected after the signs before it
+-- the noted expectation of tokens: nothing more if they are a program, and at a fault the tokens expected after the signs before it
 abbrev pub IsNotedOf : Noting
 IsNotedOf text tokens (Ok source) e = e ≡ expected.Nothing
 IsNotedOf text tokens (Err (Refused r)) e =
     (at : ℕ) × IsOutcomeOfSigns (signs_of text tokens) (fault r.code at) × IsExpected text (take at (signs_of text tokens)) e
 IsNotedOf text tokens (Err (Memory m)) e = Unit {0}
 
--- what is noted of a text, and was before: it is the same where tokens are at fault, and that of its tokens where it has some; running out of
--- memory isn't covered
+-- the expectation noted for a text, where `before` was noted: it stays if the tokens have a fault, otherwise it is that of the tokens; running
+-- out of memory isn't covered
 abbrev pub IsNoted : List ℕ → Expected → Expected → Result Source Fault → Type 0
 IsNoted text before e (Ok source) = e ≡ expected.Nothing
 IsNoted text before e (Err (Refused r)) =

@@ -1,5 +1,5 @@
 -- The grammar of programs, as the spelling of their trees: Lafont's language (1990), in signs and with limits of this project's own choice.
--- That a rule may have equations of its own, as the net has, is this project's own choice too.
+-- That a rule may have equations, as the net has, is this project's own choice too.
 use Rattle.std.specs.Prelude.{ℕ, ◌+◌, ◌<◌, Bool, false, cond, nat_lt, List, [], ◌∷◌, ◌++◌, length, map, Option, Some, None, codes, ◌≡◌}
 use Rattle.std.specs.List.{flat_map, AllByRecursion}
 use Rattle.std.specs.Str.{bytes_eq}
@@ -68,12 +68,12 @@ named n = within (Named n)
 abbrev pub plain : TokenKind → Marked
 plain k = within (Plain k)
 
--- with a comma between each two
+-- the spellings with a comma between each two
 abbrev pub separated : List Spelling → Spelling
 separated [] = []
 separated (a ∷ more) = a ++ flat_map (λ b. plain kind.Comma ∷ b) more
 
--- each spelled with its number, where the first one's is given
+-- each spelled with its number, if the first one's is given
 abbrev pub numbered : {A : Type 0} → (ℕ → A → Spelling) → ℕ → List A → List Spelling
 numbered spell number [] = []
 numbered spell number (x ∷ more) = spell number x ∷ numbered spell (number + 1) more
@@ -90,7 +90,7 @@ spell_auxiliary number p = spell_port (nat_lt max_ports number) p
 abbrev pub spell_class : ℕ → List SourcePort → Spelling
 spell_class number c = plain kind.OpenBrace ∷ separated (numbered spell_auxiliary number c) ++ plain kind.CloseBrace ∷ []
 
--- class*, with the numbers of ports going on from class to class
+-- class*, with the numbers of ports continuing from class to class
 abbrev pub spell_classes : ℕ → List (List SourcePort) → Spelling
 spell_classes number [] = []
 spell_classes number (c ∷ more) = spell_class number c ++ spell_classes (number + length c) more
@@ -105,7 +105,7 @@ spell_symbol number s =
 abbrev pub spell_type : ℕ → Name → Spelling
 spell_type number n = marked (nat_lt max_types number) (Named n) ∷ []
 
--- "type" name ("," name)* ";", where the first name's number is given
+-- "type" name ("," name)* ";", if the first name's number is given
 abbrev pub spell_types : ℕ → List Name → Spelling
 spell_types number names = plain kind.Type ∷ separated (numbered spell_type number names) ++ plain kind.Semicolon ∷ []
 
@@ -134,7 +134,7 @@ spell_outermost t = spell_term t 1
 abbrev pub spell_head : Head → Spelling
 spell_head h = named h.name ∷ plain kind.OpenBracket ∷ separated (map spell_outermost h.terms) ++ plain kind.CloseBracket ∷ []
 
--- the word before the equations of a rule. It isn't reserved: after the heads of a rule it is this word, elsewhere a name as any other
+-- the word before the equations of a rule. It isn't reserved: after the heads of a rule it is this word, elsewhere it is a name like any other
 abbrev pub with_word : List ℕ
 with_word = codes "with"
 
@@ -146,7 +146,7 @@ is_with n = bytes_eq n.text with_word
 abbrev pub word_at : Place → Name
 word_at p = record { text = with_word; place = p }
 
--- [ "with" "{" (term "~" term ";")* "}" ]: the place of the word is given, where it is written
+-- [ "with" "{" (term "~" term ";")* "}" ]: the place of the word is given, if it is written
 abbrev pub spell_with : Option Place → List Equation → Spelling
 spell_with None es = []
 spell_with (Some p) es = named (word_at p) ∷ plain kind.OpenBrace ∷ (flat_map spell_equation es ++ plain kind.CloseBrace ∷ [])
@@ -180,17 +180,17 @@ pub data Item : Type 0 where
   -- with the place of its word `with`, if it has one
   rule : Option Place → SourceRule → Item
 
--- nothing is declared yet
+-- no declarations yet
 abbrev pub none_yet : Counts
 none_yet = record { types = 0; symbols = 0; rules = 0 }
 
--- how much is declared after an item
+-- the numbers of declarations after an item
 abbrev pub counted : Counts → Item → Counts
 counted c (types names) = record { types = c.types + length names; symbols = c.symbols; rules = c.rules }
 counted c (symbol s) = record { types = c.types; symbols = c.symbols + 1; rules = c.rules }
 counted c (rule w r) = record { types = c.types; symbols = c.symbols; rules = c.rules + 1 }
 
--- item = "type" .. | "symbol" .. | "rule" .., where that much is declared before it
+-- item = "type" .. | "symbol" .. | "rule" .., with these numbers of declarations before it
 abbrev pub spell_item : Counts → Item → Spelling
 spell_item c (types names) = spell_types (c.types + 1) names
 spell_item c (symbol s) = spell_symbol (c.symbols + 1) s

@@ -25,7 +25,7 @@ TokenFaultsAreUnique = (text : List ℕ) (q r : Refusal) → IsTokenFault text q
 abbrev pub TextsHaveTokensOrFault : Type 0
 TextsHaveTokensOrFault = (text : List ℕ) → ((ts : List Token) × IsTokensOf text ts) ⊎ ((r : Refusal) × IsTokenFault text r)
 
--- no text has both
+-- no text has both tokens and a fault of its tokens
 abbrev pub NoTextHasBoth : Type 0
 NoTextHasBoth = (text : List ℕ) (ts : List Token) (r : Refusal) → IsTokensOf text ts → IsTokenFault text r → ⊥
 
@@ -49,7 +49,7 @@ TextsAreParsedOnce = (text : List ℕ) → IsOne (Parses text)
 abbrev pub TextsBeginApart : Type 0
 TextsBeginApart = (text : List ℕ) (s : Source) → IsTreeOf text s → BeginApart (source_places s)
 
--- the expected tokens after signs are one
+-- signs have at most one expectation
 abbrev pub OneExpected : Type 0
 OneExpected = (text : List ℕ) (front : List Sign) (d e : Expected) → IsExpected text front d → IsExpected text front e → d ≡ e
 

@@ -13,5 +13,5 @@ pub data Move : Type 0 where
   Types : List Name → Move
   Symbol : SourceSymbol → Move
   Rule : SourceRule → Move
-  -- nowhere: the token is the fault
+  -- no state: the token is the fault
   Refuses : Code → Move

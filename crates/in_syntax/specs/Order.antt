@@ -26,7 +26,7 @@ term_places = fold-Term (List Place) (λ f. f.name.place ∷ flat_map (λ ps. ps
 abbrev pub equation_places : Equation → List Place
 equation_places e = term_places e.left ++ e.tilde ∷ term_places e.right
 
--- the names and the ~ of a net follow one another, as they are listed
+-- the names and the ~ of a net follow one another, in the order of the list
 abbrev pub IsInOrder : SourceNet → Type 0
 IsInOrder n = Rises (flat_map equation_places n.equations)
 
@@ -38,18 +38,18 @@ head_places h = h.name.place ∷ flat_map term_places h.terms
 abbrev pub rule_places : SourceRule → List Place
 rule_places r = (head_places r.first ++ head_places r.second) ++ flat_map equation_places r.equations
 
--- they follow one another, as they are listed
+-- they follow one another, in the order of the list
 abbrev pub IsRuleInOrder : SourceRule → Type 0
 IsRuleInOrder r = Rises (rule_places r)
 
--- the names and the ~ of each rule and of the net do
+-- in each rule and in the net, the names and the ~ follow one another
 pub record IsWrittenInOrder (s : Source) : Type 0 where
   pub rules : AllByRecursion IsRuleInOrder s.rules
   pub net : IsInOrder s.net
 
--- ---- all that is in a program
+-- ---- all names and ~ of a program
 
--- of these places, two that begin at one byte are one
+-- two of these places that begin at one byte are equal
 abbrev pub BeginApart : List Place → Type 0
 BeginApart ps = (p q : Place) → IsAmong p ps → IsAmong q ps → p.from ≡ q.from → p ≡ q
 

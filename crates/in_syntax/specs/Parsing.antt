@@ -29,16 +29,16 @@ pub record IsGrammarFault (text : List ℕ) (r : Refusal) : Type 0 where
   pub place : r.place ≡ place_at (drop at tokens) (end_place text)
   pub other : r.other ≡ None
 
--- the first fault of a text: that of the tokens, or, where they have none, that of the grammar
+-- the first fault of a text: that of its tokens, or, if they have none, that of the grammar
 abbrev pub IsTextFault : List ℕ → Refusal → Type 0
 IsTextFault text r = IsTokenFault text r ⊎ IsGrammarFault text r
 
--- what a text is: a tree, or a first fault
+-- a text is a tree, or a first fault
 abbrev pub IsAnswer : List ℕ → Result Source Refusal → Type 0
 IsAnswer text (Ok source) = IsTreeOf text source
 IsAnswer text (Err r) = IsTextFault text r
 
--- Ok with the tree, else the first fault
+-- Ok with the tree, otherwise the first fault
 abbrev pub Parses : List ℕ → Result Source Fault → Type 0
 Parses text (Ok source) = IsTreeOf text source
 Parses text (Err (Refused r)) = IsTextFault text r

@@ -7,7 +7,7 @@ use Rattle.in_syntax.specs.Characters.{line_feed}
 use Rattle.in_syntax.specs.declared.characters.Spot.{Spot}
 use Rattle.in_syntax.specs.declared.places.Place.{Place}
 
--- where each text begins
+-- the beginning of a text
 abbrev pub start : Spot
 start = record { at = 0; line = 1; col = 1 }
 

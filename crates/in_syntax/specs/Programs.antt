@@ -1,4 +1,4 @@
--- Which tokens are a program, and the first fault of those that aren't.
+-- The tokens that are a program, and the first fault of those that aren't.
 use Rattle.std.specs.Prelude.{◌≡◌, ℕ, ◌≤◌, List, [], ◌∷◌, ◌++◌, length, map, take, drop, slice_range, None, true, Result, Ok, Err}
 use Rattle.std.specs.Str.{IsUtf8}
 use Rattle.in_syntax.specs.declared.places.Place.{Place}
@@ -15,7 +15,7 @@ use Rattle.in_syntax.specs.declared.tree.Name.{Name}
 use Rattle.in_syntax.specs.declared.tree.Source.{Source}
 use Rattle.in_syntax.specs.Grammar.{Spelling, marked, within, GrammarProgram, spelling, source_of}
 
--- a place is that of a part of the text
+-- the place is that of a part of the text
 pub record IsTextAt (text : List ℕ) (place : Place) : Type 0 where
   pub order : place.from ≤ place.to
   pub within : place.to ≤ length text
@@ -31,7 +31,7 @@ abbrev pub HasTexts : List ℕ → List Token → Type 0
 HasTexts text [] = Unit {0}
 HasTexts text (t ∷ ts) = HasText text t.kind t.place × HasTexts text ts
 
--- what the tree keeps of a name
+-- a name as the tree keeps it
 abbrev pub name_at : List ℕ → Place → Name
 name_at text place = record { text = slice_range text place.from place.to; place = place }
 
@@ -77,21 +77,21 @@ BeginsWithin front = (p : GrammarProgram) × (more : Spelling) × (spelling p �
 abbrev pub BeginsPast : List Sign → Sign → Type 0
 BeginsPast front s = (p : GrammarProgram) × (more : Spelling) × (spelling p ≡ unmarked front ++ marked true s ∷ more)
 
--- the first fault is this one, between the signs before it and those from it on: some program begins with the former, and passes no
--- limit there; E02 if none continues with the next sign, or none ends here, E03 if one does, and its sign passes a limit
+-- the first fault is this one, between the signs `front` before it and those from it on: some program begins with `front`, and passes no
+-- limit there; E02 if none continues with the next sign, or none ends here; E03 if one does, and its sign passes a limit
 abbrev pub IsFault : Code → List Sign → List Sign → Type 0
 IsFault E02 front [] = BeginsWithin front × ¬ IsProgram front
 IsFault E02 front (s ∷ rest) = BeginsWithin front × ¬ Begins (front ++ s ∷ [])
 IsFault E03 front (s ∷ rest) = BeginsPast front s
 IsFault _ front rest = ⊥
 
--- what signs can be
+-- the outcome of signs
 pub data Outcome : Type 0 where
   tree : Source → Outcome
   -- a fault at the sign of this number, counted from 0, or at the end
   fault : Code → ℕ → Outcome
 
--- what signs are: a program within the limits, or none, with its first fault
+-- the signs are a program within the limits, or they have a first fault
 abbrev pub IsOutcomeOfSigns : List Sign → Outcome → Type 0
 IsOutcomeOfSigns s (tree source) = IsTree s source
 IsOutcomeOfSigns s (fault code i) = (i ≤ length s) × IsFault code (take i s) (drop i s)

@@ -1,4 +1,4 @@
--- How large a program is that a text of limited length has.
+-- The size of the program of a text of limited length.
 use Rattle.std.specs.Prelude.{ℕ, ◌+◌, ◌≤◌, List, [], ◌∷◌, map, length}
 use Rattle.std.specs.List.{flat_map, AllByRecursion}
 use Rattle.in_syntax.specs.declared.tree.Term.{Term}
@@ -39,7 +39,7 @@ pub record IsSizedSymbol (s : SourceSymbol) : Type 0 where
   pub ports : length (flat_map (λ c. c) s.classes) ≤ max_ports
   pub classes : length s.classes ≤ max_ports
 
--- what is read from a text: no list is longer than its limit, and there are no more names than bytes
+-- the sizes of a program that is read from a text: no list is longer than its limit, and there are no more names than bytes
 pub record IsSized (s : Source) : Type 0 where
   pub types : length s.types ≤ max_types
   pub symbols : length s.symbols ≤ max_symbols

@@ -1,4 +1,4 @@
--- How a program is read from the left, one sign at a time: what the code does. No public contract speaks of it.
+-- How the code reads a program from the left, one sign at a time. No public contract names this.
 use Rattle.std.specs.Prelude.{◌≡◌, ℕ, ◌+◌, ◌≤◌, Bool, true, false, nat_lt, List, [], ◌∷◌, ◌++◌, length, take, drop, Option, Some, None, Result, Ok, Err}
 use Rattle.in_syntax.specs.Refusals.{refusal_of}
 use Rattle.in_syntax.specs.declared.places.Place.{Place}
@@ -46,7 +46,7 @@ use Rattle.in_syntax.specs.Grammar.{max_types, max_symbols, max_rules, max_free,
 use Rattle.in_syntax.specs.Trees.{bare, bare_head, bare_rule, with_argument, with_class, with_equation, rule_with_equation, with_term}
 use Rattle.in_syntax.specs.Programs.{signs_of, place_at}
 
--- what a sign leads to, by the grammar alone
+-- the step that a sign makes, by the grammar alone
 pub data Step : Type 0 where
   -- to another state; and whether the sign passes a limit
   goes : Bool → State → Step
@@ -54,10 +54,10 @@ pub data Step : Type 0 where
   adds_types : List Name → Step
   adds_symbol : SourceSymbol → Step
   adds_rule : SourceRule → Step
-  -- nowhere: the token is unexpected
+  -- no step: the token is unexpected
   stuck : Step
 
--- on to another state, within the limits
+-- to another state, within the limits
 abbrev pub on : State → Step
 on = goes false
 
@@ -127,7 +127,7 @@ at_head_first o n (Named m) = on (state.TermOpen (record { of = Inside o (bare_h
 at_head_first o n (Plain kind.CloseBracket) = on (state.HeadEnd o (bare_head n))
 at_head_first o n _ = stuck
 
--- at a name after the heads of a rule, which has to be the word `with`
+-- the step at a name after the heads of a rule, which has to be the word `with`
 abbrev pub at_with : Head → Head → Place → Bool → Step
 at_with f h p true = on (state.RuleOpen f h p)
 at_with f h p false = stuck
@@ -255,7 +255,7 @@ step c (state.TermOpen b n) x = at_term_open b n x
 step c (state.TermEnd b t) x = at_term_end b t x
 step c (state.Done n) x = stuck
 
--- the code's move, which refuses where a limit is passed
+-- the code's move of a step: it refuses if a limit is passed
 abbrev pub move_of : Step → Move
 move_of (goes false s) = move.Goes s
 move_of (goes true s) = move.Refuses E03
@@ -264,7 +264,7 @@ move_of (adds_symbol s) = move.Symbol s
 move_of (adds_rule r) = move.Rule r
 move_of stuck = move.Refuses E02
 
--- the move that the code's event is, where this state was written
+-- the move of the code's event, if this state was written
 abbrev pub led : Event → State → Move
 led event.Goes s = move.Goes s
 led (event.Types names) s = move.Types names
@@ -306,7 +306,7 @@ with_rule r y = between_items r.types r.symbols (r.rules ++ y ∷ [])
 abbrev pub counts_of : Reader → Counts
 counts_of r = record { types = length r.types; symbols = length r.symbols; rules = length r.rules }
 
--- on from a reader to the end of the signs
+-- reads the signs from a reader on, to their end
 abbrev pub run : Reader → List Sign → Answer
 run r [] = whole r (net_of r.state)
 run r (x ∷ s) = elim (move_of (step (counts_of r) r.state x)) as (λ m. Answer) [
@@ -337,19 +337,19 @@ abbrev pub SignsLead : Reader → List Sign → Reader → Type 0
 SignsLead r [] last = r ≡ last
 SignsLead r (x ∷ s) last = (next : Reader) × (taken r x ≡ Some next) × SignsLead next s last
 
--- what one sign, that of a token at a place, makes of a reader
+-- how one sign, that of a token at a place, changes a reader
 abbrev pub TakesSign : Reader → Sign → Place → Reader → Result (Unit {0}) Fault → Type 0
 TakesSign r x place next (Ok u) = taken r x ≡ Some next
 TakesSign r x place next (Err (Refused f)) = ((s : List Sign) → run r (x ∷ s) ≡ refused f.code (x ∷ s)) × (f.place ≡ place) × (f.other ≡ None)
 TakesSign r x place next (Err (Memory e)) = Unit {0}
 
--- what the end of the text makes of it
+-- how the reader ends at the end of the text
 abbrev pub EndsText : Reader → Place → Result Source Fault → Type 0
 EndsText r end (Ok source) = run r [] ≡ reads source
 EndsText r end (Err (Refused f)) = (run r [] ≡ refused f.code []) × (f.place ≡ end) × (f.other ≡ None)
 EndsText r end (Err (Memory e)) = Unit {0}
 
--- what the code's run gives
+-- the result of the code's run
 abbrev pub GivesSource : List ℕ → List Token → Place → Result Source Fault → Type 0
 GivesSource text tokens end (Ok source) = run start (signs_of text tokens) ≡ reads source
 GivesSource text tokens end (Err (Refused r)) =
@@ -357,9 +357,9 @@ GivesSource text tokens end (Err (Refused r)) =
     × (r.place ≡ place_at (drop i tokens) end) × (r.other ≡ None)
 GivesSource text tokens end (Err (Memory e)) = Unit {0}
 
--- ---- what is expected in a state
+-- ---- the tokens expected in a state
 
--- what a term is a part of
+-- the part that a term belongs to
 abbrev pub outermost_part : TermOf → PartOf
 outermost_part (Left b) = part.Left
 outermost_part (Right b l p) = part.Right
@@ -404,11 +404,11 @@ expected_in (state.TermOpen b n) = expected.AfterName (part_of b)
 expected_in (state.TermEnd b t) = expected.AfterTerm (part_of b)
 expected_in (state.Done n) = expected.Nothing
 
--- what is noted where the tokens before this one are read
+-- the noted expectation after the first `i` tokens
 abbrev pub IsNotedBefore : List ℕ → List Token → ℕ → Expected → Type 0
 IsNotedBefore text tokens i e = (last : Reader) × SignsLead start (signs_of text (take i tokens)) last × (e ≡ expected_in last.state)
 
--- what is noted of a run that gives this
+-- the noted expectation of a run with this result
 abbrev pub Notes : Noting
 Notes text tokens (Ok source) e = e ≡ expected.Nothing
 Notes text tokens (Err (Refused r)) e =

@@ -26,12 +26,12 @@ signs =
     ∷ (codes "{", kind.OpenBrace) ∷ (codes "}", kind.CloseBrace) ∷ (codes "(", kind.OpenParenthesis) ∷ (codes ")", kind.CloseParenthesis)
     ∷ (codes "[", kind.OpenBracket) ∷ (codes "]", kind.CloseBracket) ∷ (codes "~", kind.Tilde) ∷ (codes "><", kind.Meets) ∷ []
 
--- what a table has beside a text
+-- the kind that a table gives a text
 abbrev pub beside : List ℕ → List (List ℕ × TokenKind) → Option TokenKind
 beside w [] = None
 beside w (e ∷ es) = if bytes_eq w e.0 then Some e.1 else beside w es
 
--- a word is a character that begins a name, and any number of those that continue one
+-- a word is a character that begins a name, and any number of characters that continue one
 abbrev pub is_word : List ℕ → Bool
 is_word [] = false
 is_word (c ∷ cs) = begins_name c && list_all continues_name cs
@@ -44,7 +44,7 @@ word_kind w = unwrap_or (beside w reserved_words) kind.Name
 abbrev pub kind_of : List ℕ → Option TokenKind
 kind_of w = if is_word w then Some (word_kind w) else beside w signs
 
--- the characters are a token, and with more of those that follow they aren't one
+-- the characters are a token, and no longer front of the text is one
 pub record IsLongest (w rest : List ℕ) (k : TokenKind) : Type 0 where
   pub token : kind_of w ≡ Some k
   pub longest : (c : ℕ) (more after : List ℕ) → rest ≡ c ∷ (more ++ after) → kind_of (w ++ (c ∷ more)) ≡ None
@@ -53,7 +53,7 @@ pub record IsLongest (w rest : List ℕ) (k : TokenKind) : Type 0 where
 abbrev pub BeginsNoToken : List ℕ → Type 0
 BeginsNoToken cs = (w after : List ℕ) → cs ≡ w ++ after → kind_of w ≡ None
 
--- a line ends here: by a line feed, or with the text
+-- a line ends here: at a line feed, or at the end of the text
 abbrev pub EndsLine : List ℕ → Type 0
 EndsLine [] = Unit {0}
 EndsLine (c ∷ cs) = c ≡ line_feed
@@ -78,7 +78,7 @@ pub data Reads : Spot → List ℕ → List Token → Type 0 where
   ends : {s : Spot} → Reads s [] []
   goes_on : {s t : Spot} {cs rest : List ℕ} (ts us : List Token) → Passes s cs ts t rest → Reads t rest us → Reads s cs (ts ++ us)
 
--- the text at a spot is a fault, with a code and a spot of its own
+-- the text at a spot has a fault, with a code and a spot of its own
 pub data Faults : Spot → List ℕ → Code → Spot → Type 0 where
   stray : {s : Spot} {c : ℕ} {cs : List ℕ} → IsFalse (is_blank c) → IsFalse (c == hash) → BeginsNoToken (c ∷ cs) → Faults s (c ∷ cs) E01 s
   too_long : {s : Spot} {k : TokenKind} (w rest : List ℕ) → IsLongest w rest k → name_limit < length w → Faults s (w ++ rest) E03 s
@@ -110,7 +110,7 @@ pub data IsTokenFault : List ℕ → Refusal → Type 0 where
   ill_formed : {text : List ℕ} {ts : List Token} → length text ≤ text_limit → Reads start (chars (well_formed text)) ts → utf8_valid_len text < length text →
       IsTokenFault text (refusal_at E01 (past_all start (chars (well_formed text))))
 
--- a token's place is a part of the text, not empty, which is by itself a token of its kind
+-- a token's place is a part of the text that isn't empty, and is by itself a token of this kind
 pub record StandsIn (text : List ℕ) (t : Token) : Type 0 where
   pub some : t.place.from < t.place.to
   pub within : t.place.to ≤ length text

@@ -12,7 +12,7 @@ use Rattle.in_syntax.specs.declared.uses.NameUse.{NameUse}
 use Rattle.in_syntax.specs.declared.uses.Listed.{Listed}
 use Rattle.in_syntax.specs.Walks.{Visits}
 
--- a name with `terms` terms after it, which may be a head's
+-- a name with `terms` terms after it, which may be a head's name
 abbrev pub use_of : Name → ℕ → Bool → NameUse
 use_of n terms head = record { place = n.place; arguments = terms; is_head = head }
 
@@ -35,12 +35,12 @@ uses_of_rule r = (uses_of_head r.first ++ uses_of_head r.second) ++ flat_map use
 abbrev pub uses_of_body : SourceNet → List NameUse
 uses_of_body n = flat_map uses_of_equation n.equations
 
--- ---- how a walk lists them: no public contract names this
+-- ---- how a walk lists them. No public contract names this
 
 abbrev pub lists : Listed → List NameUse → Listed
 lists l more = record { uses = l.uses ++ more }
 
--- each name goes last
+-- each name is added at the end
 abbrev pub listing : Visits Listed ⊤
 listing = record {
   name = λ l n terms. (lists l (use_of n terms false ∷ []), tt);

@@ -13,7 +13,7 @@ pub record Visits (S K : Type 0) : Type 0 where
   pub argument : S → K → ℕ → K → S
   pub equation : S → K → K → Place → S
 
--- the arguments in turn, from a number on
+-- the arguments in turn, numbered from this number on
 abbrev pub walks_from : {S K : Type 0} → Visits S K → K → ℕ → List (S → S × K) → S → S
 walks_from v of number [] s = s
 walks_from v of number (walks ∷ more) s =

@@ -15,7 +15,7 @@ pub struct Spot {
     pub col: u32,
 }
 
-/// Where each text begins.
+/// The beginning of a text.
 pub const START: Spot = Spot {
     at: 0,
     line: 1,

@@ -1,4 +1,4 @@
-//! The tokens with which a program can continue where the grammar refuses it, for the diagnosis.
+//! The tokens with which a program can continue at the place where the grammar refuses it, for the diagnosis.
 ghost use Rattle.std.specs.Prelude.{◌≡◌};
 ghost use Rattle.in_syntax.specs.Steps as steps;
 

@@ -70,7 +70,7 @@ impl Refusal {
         }
     }
 
-    /// The refusal at the earlier place; the first, where both begin at one byte.
+    /// The refusal at the earlier place; the first, if both begin at one byte.
     pub fn earlier(first: Option<Refusal>, second: Option<Refusal>) -> Option<Refusal>
         ensures { result ≡ earlier_refusal first second }
     {

@@ -37,7 +37,7 @@ pub fn one_outcome()
     ensures { OneOutcome }
 {}
 
-/// Two programs that are spelled alike are one tree, and pass the limits at the same tokens.
+/// Two programs that are spelled alike have one tree, and pass the limits at the same tokens.
 pub fn one_tree()
     ensures { OneTree }
 {}
@@ -62,7 +62,7 @@ pub fn texts_begin_apart()
     ensures { TextsBeginApart }
 {}
 
-/// After the tokens of a front, one thing is expected.
+/// The tokens of a front have at most one expectation.
 pub fn one_expected()
     ensures { OneExpected }
 {}

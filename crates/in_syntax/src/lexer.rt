@@ -25,7 +25,7 @@ pub enum Move<'a> {
     End,
     /// A token, or a blank or a comment; where it ends, and the text from there on.
     Past(Option<Token>, Spot, &'a str),
-    /// A fault, and where it is.
+    /// A fault, and its place.
     Wrong(Code, Spot),
 }
 
@@ -66,7 +66,7 @@ fn run(spot: Spot, text: &str) -> (usize, Spot, &str)
     (count, end, rest)
 }
 
-/// The kind of a word: a reserved word's own, else a name.
+/// The kind of a word: that of a reserved word, otherwise a name.
 fn kind_of_word(word: &str) -> TokenKind
     ensures { result ≡ word_kind (chars word.now) }
 {

@@ -77,7 +77,7 @@ fn goes(state: &mut State, next: State) -> Event
 /// The event after this sign in this state, with these numbers of declarations before the item. It also writes the next state. Its only error is
 /// running out of memory.
 ///
-/// Most tokens are in terms. The parts of all other states are in a function of their own, since a function clears its room for all parts first.
+/// Most tokens are in terms. The parts of all other states are in another function, since a function clears its room for all parts first.
 pub fn step(
     state: &mut State,
     alloc: Global,
@@ -94,7 +94,7 @@ pub fn step(
     }
 }
 
-/// The same from the state `before`, whatever is in `state`.
+/// The same from the state `before`. The old value of `state` doesn't matter.
 #[inline(never)]
 fn step_from(
     state: &mut State,

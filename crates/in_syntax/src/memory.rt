@@ -44,7 +44,7 @@ impl TextIn for MemoryIn<'_> {
     }
 }
 
-/// A writer that keeps what it takes. Its room is taken once, when it is made, so that no write allocates: a write takes as much as there is room
+/// A writer that keeps its bytes. Its room is taken once, when it is made, so that no write allocates: a write takes as much as there is room
 /// for, and fails if it has some bytes and there is no room at all.
 #[derive(Drop)]
 pub struct MemoryOut {

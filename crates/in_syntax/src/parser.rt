@@ -13,7 +13,7 @@ use std::alloc::Global;
 /// early. Each name's place is that of a part of the text that is UTF-8.
 ///
 /// The first fault in the order of the tokens is returned:
-/// - E02, at the first token that no program continues with, or at `end` where a program only begins so;
+/// - E02, at the first token that no program continues with, or at `end` if a program only begins so;
 /// - E03, at the name of the 257th type or the 513th symbol, at the word `rule` of the 4,097th rule, at the type's name
 ///   of a symbol's seventeenth auxiliary port, counted over all its classes, at the 257th free name, or at the first name of a
 ///   term at depth 201. A term of an equation or of a head has depth 1, an argument one more than its agent.
@@ -21,7 +21,7 @@ use std::alloc::Global;
 /// The grammar is that of Lafont's language ("Interaction nets", 1990) in this project's own signs; the limits and the equations
 /// of rules are this project's own choice. Its other error is running out of memory.
 ///
-/// Where the grammar refuses a program, `expected` has what one can continue with there.
+/// If the grammar refuses a program, `expected` has the tokens with which one can continue there.
 pub fn program(
     alloc: Global,
     text: &[u8],

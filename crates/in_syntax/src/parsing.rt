@@ -15,7 +15,7 @@ use std::alloc::Global;
 ///
 /// Returns the first fault, the faults of the tokens before those of the grammar:
 /// - those of `tokens`, with their places;
-/// - E02, at the first token that no program continues with, or at the end of the text where a program only begins so;
+/// - E02, at the first token that no program continues with, or at the end of the text if a program only begins so;
 /// - E03, at the name of type `MAX_TYPES` + 1 or of symbol `MAX_SYMBOLS` + 1, at the word `rule` of rule `MAX_RULES` + 1,
 ///   at the type's name of a symbol's auxiliary port `MAX_PORTS` + 1, counted over all its classes, at free name
 ///   `MAX_FREE_NAMES` + 1, or at the first name of a term at depth `MAX_DEPTH` + 1. A term of an equation or of a head
@@ -35,7 +35,7 @@ pub fn parse(alloc: Global, text: &[u8]) -> Result<Source, Fault>
 }
 
 /// The tree of a program's text, or the fault for which `parse` refuses it. If the grammar refuses it, at a token or at its end, `expected` has
-/// exactly the tokens with which some program continues there, and of which sort a name is. It has `Nothing` if the text is a program, and isn't
+/// exactly the tokens with which some program continues there, and the sort of a name there. It has `Nothing` if the text is a program, and isn't
 /// changed if `tokens` refuses the text; after running out of memory it may be anything. The sorts are this project's own choice.
 pub fn parse_expecting(alloc: Global, text: &[u8], expected: &mut Expected) -> Result<Source, Fault>
     ensures tree { Parses text.now result }

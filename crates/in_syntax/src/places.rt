@@ -3,7 +3,7 @@ ghost use Rattle.in_syntax.specs.Refusals.{earlier};
 
 /// A place in a text.
 ///
-/// `from` and `to` are offsets in bytes, the first byte and the one after the last; where they are equal, the place is
+/// `from` and `to` are offsets in bytes, the first byte and the one after the last; if they are equal, the place is
 /// between two characters. `line` and `col` are those of `from`, both counted from 1: lines end with a line feed, and
 /// columns are characters. That columns are characters is this project's own choice.
 #[derive(Clone, Copy, Debug, PartialEq, Eq)]
@@ -15,7 +15,7 @@ pub struct Place {
 }
 
 impl Place {
-    /// The earlier of two places; the first, where both begin at one byte.
+    /// The earlier of two places; the first, if both begin at one byte.
     pub fn earlier(first: Option<Place>, second: Option<Place>) -> Option<Place>
         ensures { result ≡ earlier first second }
     {

@@ -83,7 +83,7 @@ impl Reader {
         Ok(())
     }
 
-    /// The program, where the text ends here.
+    /// The program, if the text ends here.
     pub fn finish(self, end: Place) -> Result<Source, Fault>
         ensures { EndsText self end result }
     {

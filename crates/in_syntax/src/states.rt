@@ -19,7 +19,7 @@ pub enum PortOf {
     Free(SourceFrees, Boxed<Name>),
 }
 
-/// Which head of a rule is written.
+/// The head of a rule that is read.
 #[derive(Drop)]
 pub enum HeadOf {
     First,
@@ -111,7 +111,7 @@ pub enum State {
     Done(SourceNet),
 }
 
-// Each drop of a state is a call, of a part a call too, since the proof of a drop goes through all variants anew.
+// Each drop of a state, and of a part, is a call, since the proof of a drop goes through all variants anew.
 
 pub fn put_away_port(_of: PortOf) {}
 

@@ -1,7 +1,7 @@
 ghost use Rattle.std.specs.Prelude.{◌≡◌, ◌+◌, ◌-◌, ◌^◌, ◌<◌, ◌≤◌, length, IfOk};
 ghost use Rattle.in_syntax.specs.Streams.{Device, MovesFront, Reader, finds_end, fails_read, fails_write, one_more};
 
-/// Where a text comes from.
+/// The source of a text.
 pub trait TextIn {
     /// The bytes that it gave so far, or none if it doesn't show them; how many reads failed, how many there were, and whether the last one found
     /// the end of the text.
@@ -17,7 +17,7 @@ pub trait TextIn {
         ensures reads { (reader self.new).reads ≡ one_more (reader self.old).reads };
 }
 
-/// Where a text goes.
+/// The target of a text.
 pub trait TextOut {
     /// The bytes that it took so far, or none if it doesn't show them; and how many writes failed.
     ghost device: { Self → Device };

@@ -147,7 +147,7 @@ impl Head {
         }
     }
 
-    /// The head with one more term, at the end; where it is the first, with room for so many. Its only error is running out of memory.
+    /// The head with one more term, at the end; if it is the first, with room for so many. Its only error is running out of memory.
     pub(crate) fn with_term(
         mut self,
         alloc: Global,
@@ -179,7 +179,7 @@ impl Term {
         }
     }
 
-    /// Adds an argument at the end; where it is the first, with room for so many. Its only error is running out of memory.
+    /// Adds an argument at the end; if it is the first, with room for so many. Its only error is running out of memory.
     pub(crate) fn add_argument(
         &mut self,
         alloc: Global,
@@ -192,7 +192,7 @@ impl Term {
     }
 }
 
-// Adds a term at the end; where it is the first, with room for so many.
+// Adds a term at the end; if it is the first, with room for so many.
 fn add_one(alloc: Global, terms: &mut Terms, term: Term, room: usize) -> Result<(), AllocError>
     ensures { OnOk result (terms.new ≡ terms.old ++ term ∷ []) }
 {

@@ -12,7 +12,7 @@ use std::alloc::{AllocError, Global};
 #[derive(Clone, Copy)]
 pub struct NameUse {
     pub place: Place,
-    /// The arguments of a term's name, or the terms of a head's.
+    /// The number of arguments of a term's name, or of terms of a head's name.
     pub arguments: usize,
     /// Whether it is a head's name, which has brackets even without a term.
     pub is_head: bool,
@@ -31,7 +31,7 @@ impl NameUse {
     }
 }
 
-/// The uses of names that were met so far.
+/// The uses of names so far.
 #[derive(Drop)]
 struct Listed {
     uses: Items<NameUse>,
@@ -86,7 +86,7 @@ pub fn names_of_rule(alloc: Global, rule: &SourceRule) -> Result<Items<NameUse>,
     Ok(listed.uses)
 }
 
-/// The uses of names in the net's equations, in the order of the text; those that declare its free ends are not among them. The
+/// The uses of names in the net's equations, in the order of the text; the declarations of its free ends are not among them. The
 /// only error is running out of memory.
 pub fn names_of_body(alloc: Global, net: &SourceNet) -> Result<Items<NameUse>, AllocError>
     ensures { IfOk result (λ uses. uses ≡ uses_of_body net.now) }

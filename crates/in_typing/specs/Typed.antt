@@ -1,4 +1,4 @@
--- When a net is typed. Lafont 1990: a wire joins an output to an input of one type.
+-- Typed nets. Lafont 1990: a wire joins an output to an input of one type.
 use Rattle.std.specs.Prelude.{◌≡◌, ℕ, ◌<◌, true, not, length, Option, Some, None, Result, Ok, Err, option_map}
 use Rattle.in_syntax.specs.declared.faults.Refusal.{Refusal}
 use Rattle.in_syntax.specs.declared.faults.Code.TheVariants.{E10, E11}
@@ -39,7 +39,7 @@ pub record IsMistyped (t : Tables) (n : Parts) (r : Refusal) : Type 0 where
   pub place : wire_place_in n wire ≡ Some r.place
   pub other : r.other ≡ None
 
--- Ok exactly when each wire fits, else the first that doesn't
+-- Ok exactly when each wire fits; a refusal is for the first wire that doesn't fit
 abbrev pub Types : Tables → Parts → Result (Unit {0}) Refusal → Type 0
 Types t n (Ok u) = IsTyped t n
 Types t n (Err r) = IsMistyped t n r
@@ -47,11 +47,11 @@ Types t n (Err r) = IsMistyped t n r
 -- ---- rules
 
 -- one of the rule's two symbols is a constructor, the other a destructor of its type. Lafont 1990: the left member is a pair that can
--- are in a typed net
+-- be in a typed net
 abbrev pub HeadsMatch : Tables → RuleParts → Type 0
 HeadsMatch t r = matching t r.heads.0.0 r.heads.1.0 ≡ true
 
--- refused at the second head's name where they don't, else for the first wire of the right member that doesn't fit
+-- a refusal is at the second head's name if the heads don't match; otherwise it is for the first wire of the right member that doesn't fit
 pub data IsRuleMistyped (t : Tables) (p : RuleParts) (r : Refusal) : Type 0 where
   of_heads : (HeadsMatch t p → ⊥) → r ≡ record { code = E11; place = place_of_head p 1; other = None } → IsRuleMistyped t p r
   of_wire : HeadsMatch t p → IsMistyped t p.member r → IsRuleMistyped t p r

@@ -1,4 +1,4 @@
--- When a net over any names of agents is typed. Lafont 1990: a wire joins an output to an input of one type.
+-- Typed nets over any names of agents. Lafont 1990: a wire joins an output to an input of one type.
 use Rattle.std.specs.Prelude.{◌≡◌, ◌⊎◌, slice_get, Option, Some, None}
 use Rattle.in_symbols.specs.declared.symbols.PortType.{PortType}
 use Rattle.in_net.specs.Interactions.{Redex, stands_for}

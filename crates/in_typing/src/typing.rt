@@ -66,7 +66,7 @@ pub fn type_net(symbols: &Symbols, net: &Net) -> Result<(), Refusal>
 /// output to an input of one type; a boundary end counts with the opposite of the type of its place. Lafont 1990: the right member
 /// has, at each end, the type of the port that it replaces.
 ///
-/// Refused with E11 at the name of the second head in the text, where the heads' principal types aren't opposite; else with E10
+/// Refused with E11 at the name of the second head in the text, if the heads' principal types aren't opposite; otherwise with E10
 /// at the place of the first wire, in the order of their places, whose two types aren't opposite.
 pub fn type_rule(symbols: &Symbols, rule: &Rule) -> Result<(), Refusal>
     requires { IsRuleOver symbols.now rule.now }

@@ -1,4 +1,4 @@
--- Where wires lead from outputs to inputs, and all outputs of a node are of one class, a crossing circle is a directed one.
+-- If wires lead from outputs to inputs, and all outputs of a node are of one class, a crossing circle is a directed one.
 use Rattle.std.proofs.Common.{◌≡◌, ℕ, Bool, true, false, List, [], ◌∷◌, refl, sym, inl, inr, ◌∙◌}
 use Rattle.std.proofs.lemmas.Bool.{false_from_ne_true, true_from_ne_false}
 use Rattle.std.specs.List.{AllByRecursion}

@@ -1,5 +1,5 @@
--- Which way the wires of an open net lead. Lafont 1990: a wire joins an output to an input. That classes of outputs and the circles in
--- this direction decide what is derivable is this project's own.
+-- The direction of the wires of an open net. Lafont 1990: a wire joins an output to an input. That classes of outputs and the circles in
+-- this direction decide whether a net is derivable is this project's own.
 use Rattle.std.specs.Prelude.{◌≡◌, ◌≢◌, ◌⊎◌, ℕ, Bool, true, false, List, ◌∷◌}
 use Rattle.std.specs.List.{AllByRecursion}
 use Rattle.in_base.specs.Graphs.{Graph, Passage, entered, left, LeadsThrough, IsCrossing, AreApart}
@@ -31,7 +31,7 @@ AreByThemselves o out = (n i j : ℕ) → IsOpenPoint o (Port n i) → IsOpenPoi
 abbrev pub IsAlong : {V : Type 0} → (V → ℕ → Bool) → Passage V → Type 0
 IsAlong out p = (out p.node p.enter ≡ false) × (out p.node p.leave ≡ true)
 
--- one or more different nodes in a cycle, each entered by an input and left by an output: what each gives is needed for it
+-- one or more different nodes in a cycle, each entered by an input and left by an output: each needs the value that it gives
 pub record DirectedCircle (g : Graph) (out : g.Node → ℕ → Bool) : Type 0 where
   pub first : Passage g.Node
   pub rest : List (Passage g.Node)
@@ -43,7 +43,7 @@ pub record DirectedCircle (g : Graph) (out : g.Node → ℕ → Bool) : Type 0 w
 abbrev pub Crosses : (g : Graph) (out : g.Node → ℕ → Bool) → DirectedCircle g out → Type 0
 Crosses g out c = AllByRecursion (IsCrossing g) (c.first ∷ c.rest)
 
--- ---- circles that no braces mend
+-- ---- circles that no braces remove
 
 -- an agent, entered or left by its principal port, and by another one
 abbrev pub IsByPrincipal : OpenNet → Passage ℕ → Type 0

@@ -6,11 +6,11 @@ use Rattle.in_open_nets.specs.OpenNets.{OpenNet, IsOpenNet, IsDerivable, open_gr
 use Rattle.in_open_nets.specs.Stuck.{IsFirstStuck}
 use Rattle.in_usual_braces.specs.Directions.{Outputs, AreSigned, HaveOutputsTogether, HaveOutputsTogetherIn, AreByThemselves, DirectedCircle, Crosses, PrincipalCircle}
 
--- where all outputs of a node are of one class, a net is derivable exactly when no directed circle crosses
+-- if all outputs of a node are of one class, a net is derivable exactly when no directed circle crosses
 abbrev pub CrossingDirectedCirclesDecide : Type 0
 CrossingDirectedCirclesDecide = (o : OpenNet) (out : Outputs) → IsOpenNet o → AreSigned o out → HaveOutputsTogether o out → IsDerivable o ↔ ((c : DirectedCircle (open_graph o) out) → Crosses (open_graph o) out c → ⊥)
 
--- where no input of a node is of the class of an output, each directed circle crosses
+-- if no input of a node is of the class of an output, each directed circle crosses
 abbrev pub DirectedCirclesCross : Type 0
 DirectedCirclesCross = (o : OpenNet) (out : Outputs) → IsOpenNet o → AreByThemselves o out → (c : DirectedCircle (open_graph o) out) → Crosses (open_graph o) out c
 
@@ -18,11 +18,11 @@ DirectedCirclesCross = (o : OpenNet) (out : Outputs) → IsOpenNet o → AreByTh
 abbrev pub UsualBracesDecide : Type 0
 UsualBracesDecide = (o : OpenNet) (out : Outputs) → IsOpenNet o → AreSigned o out → HaveOutputsTogether o out → AreByThemselves o out → IsDerivable o ↔ (DirectedCircle (open_graph o) out → ⊥)
 
--- a circle that goes through the principal port of each of its agents excludes a derivation, in whatever classes auxiliary ports are
+-- a circle that goes through the principal port of each of its agents excludes a derivation, for any classes of auxiliary ports
 abbrev pub NoBracesMend : Type 0
 NoBracesMend = (o : OpenNet) → IsOpenNet o → PrincipalCircle o → IsDerivable o → ⊥
 
--- where all outputs of each node of the first stuck sub-net are of one class, a directed circle in it crosses
+-- if all outputs of each node of the first stuck sub-net are of one class, a directed circle in it crosses
 abbrev pub StuckPartsHaveCircles : Type 0
 StuckPartsHaveCircles = (o : OpenNet) (out : Outputs) → IsOpenNet o → AreSigned o out → (t : ℕ → Bool) → IsFirstStuck o t → HaveOutputsTogetherIn o out t →
     (c : DirectedCircle (open_graph o) out) × Crosses (open_graph o) out c × AllByRecursion (λ p. IsIn p.node t) (c.first ∷ c.rest)

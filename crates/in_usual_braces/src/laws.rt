@@ -4,7 +4,7 @@ ghost use Rattle.in_usual_braces.specs.Laws.{CrossingDirectedCirclesDecide, Dire
 
 use in_open_nets::laws::{splits_or_first_stuck, splits_where_derivable};
 
-/// Where all outputs of a node are of one class, an open net is derivable exactly when it has no directed circle that enters and leaves
+/// If all outputs of a node are of one class, an open net is derivable exactly when it has no directed circle that enters and leaves
 /// each of its nodes by different classes. Derivable is Lafont 1990's semi-simple; that directed circles decide it is this project's own.
 pub fn crossing_directed_circles_decide()
     ensures { CrossingDirectedCirclesDecide }
@@ -13,7 +13,7 @@ pub fn crossing_directed_circles_decide()
     splits_where_derivable();
 }
 
-/// Where no input of a node is of the class of an output, each directed circle is such a one.
+/// If no input of a node is of the class of an output, each directed circle is such a circle.
 pub fn directed_circles_cross()
     ensures { DirectedCirclesCross }
 {}
@@ -26,7 +26,7 @@ pub fn usual_braces_decide()
     directed_circles_cross();
 }
 
-/// A circle that goes through the principal port of each of its agents excludes a derivation, whatever the braces around the other ports: the
+/// A circle that goes through the principal port of each of its agents excludes a derivation, for any braces around the other ports: the
 /// principal port is a class by itself.
 pub fn no_braces_mend()
     ensures { NoBracesMend }

@@ -93,7 +93,7 @@ module _ (t : Tables) (p : RuleParts) where
 -- ---- class nodes
 
 module _ (t : Tables) (o : OpenNet) (s : SymbolNo) (place : Place) (c n : ℕ) (m : OpenNode) (here : slice_get o.nodes n ≡ Some m) (is : IsClassNodeOf t s place c m) where
-  -- the place that a port of the class node stands for
+  -- the symbol's place for a port of the class node
   record Stands (i : ℕ) : Type 0 where
     at : ℕ
     within : suc at ≤ arity_of t s.0
@@ -129,7 +129,7 @@ module _ (t : Tables) (o : OpenNet) (s : SymbolNo) (place : Place) (c n : ℕ) (
       let one : i ≡ j = sym (class_at_node i) ∙ same ∙ class_at_node j in
       not_both (signs_of t o n j) f (ap (signs_of t o n) (sym one) ∙ e)
 
-  -- it only gives, or only takes
+  -- it has only outputs, or only inputs
   one_way : AreUsual t → (i j : ℕ) → i < length m.class_of → j < length m.class_of → signs_of t o n i ≡ false → signs_of t o n j ≡ true → ⊥
   one_way usual i j h k e f =
       let u = stands i h in

@@ -11,11 +11,11 @@ use Rattle.in_usual_braces_of_programs.specs.Signs.{AreUsual, AreWide, signs_of}
 abbrev pub AreListedSigned : Tables → OpenNet → Type 0
 AreListedSigned t o = (w n i m j : ℕ) → slice_get o.wires w ≡ Some (Port n i, Port m j) → signs_of t o n i ≢ signs_of t o m j
 
--- where all outputs of each symbol are of one class, so are those of each node
+-- if all outputs of each symbol are of one class, so are those of each node
 abbrev pub StayTogether : Tables → OpenNet → Type 0
 StayTogether t o = AreWide t → HaveOutputsTogether o (signs_of t o)
 
--- .. and where no input of a symbol is of that class, no input of a node is of the class of one of its outputs
+-- .. and if no input of a symbol is of that class, no input of a node is of the class of one of its outputs
 abbrev pub StayByThemselves : Tables → OpenNet → Type 0
 StayByThemselves t o = AreUsual t → AreByThemselves o (signs_of t o)
 

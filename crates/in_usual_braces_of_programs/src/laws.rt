@@ -11,14 +11,14 @@ pub fn nets_in_usual_braces()
     usual_braces_decide();
 }
 
-/// And so is the open net of a typed rule.
+/// The open net of a typed rule is so too.
 pub fn rules_in_usual_braces()
     ensures { RulesInUsualBraces }
 {
     usual_braces_decide();
 }
 
-/// A directed circle of a rule's open net is one of agents of the right member: class nodes only give, or only take.
+/// A directed circle of a rule's open net is one of agents of the right member: a class node has only outputs, or only inputs.
 pub fn circles_are_of_agents()
     ensures { CirclesAreOfAgents }
 {}
@@ -31,7 +31,7 @@ pub fn nets_in_wide_braces()
     crossing_directed_circles_decide();
 }
 
-/// And so is the open net of a typed rule.
+/// The open net of a typed rule is so too.
 pub fn rules_in_wide_braces()
     ensures { RulesInWideBraces }
 {

@@ -4,7 +4,7 @@ ghost use Rattle.in_usual_programs.specs.Laws.{AcceptedHaveNoCircle, RefusedHave
 
 use in_usual_braces_of_programs::laws::{nets_decide, right_members_decide};
 
-/// Of a text whose names, nets and types have no fault, with symbols in usual braces: a rule is semi-simple exactly when its right
+/// In a text whose names, nets and types have no fault, with symbols in usual braces: a rule is semi-simple exactly when its right
 /// member has no directed circle, and so is the net.
 pub fn texts_decide()
     ensures { TextsDecide }
@@ -21,7 +21,7 @@ pub fn accepted_have_no_circle()
     right_members_decide();
 }
 
-/// And where a rule in usual braces is refused with E12, its right member has a directed circle; so has a net that is refused with E13.
+/// If a rule in usual braces is refused with E12, its right member has a directed circle; so has a net that is refused with E13.
 pub fn refused_have_circles()
     ensures { RefusedHaveCircles }
 {

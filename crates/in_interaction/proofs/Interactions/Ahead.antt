@@ -91,7 +91,7 @@ module _ {A : Type 0} (sig : Signature) (classed : AreClasses sig) (n : Net A) (
   ahead zero x there = last_step x (n.partner (Port x 0)) refl (net.joined (Port x 0) (has_point x there))
   ahead (suc k) x there = one_step k x (n.partner (Port x 0)) refl (net.joined (Port x 0) (has_point x there)) (λ y h. ahead k y h)
 
-  -- more agents than there are come again
+  -- a list of more agents than there are has one twice
   too_long : (ps : List (Passage A)) (from to : A × ℕ) → Walk (graph_of sig n) E L from ps to → length ps ≡ suc (length net.agents) → AllByRecursion (λ p. IsAmong p.node net.agents) ps → ⊥
   too_long [] from to w h all = omega arith
   too_long (p ∷ ps) from to w h all =

@@ -7,7 +7,7 @@ use Rattle.in_interaction.specs.Pieces.{name_after}
 use Rattle.in_net.proofs.Public.{end_of_pair, end_of}
 
 module _ {A B : Type 0} (sig : Signature) (n : Net A) (x : Redex A B) (name : B → A) (net : IsNet sig n) (inside : IsNet sig x.member) (redex : IsRedex sig n x) (naming : IsNaming n x name) where
-  -- where a path of places ends
+  -- the end of a path of places
   abbrev Ends : Point A → Place A B → Type 0
   Ends v q = IsAfter (name_after name) q v × Stays q
 

@@ -21,7 +21,7 @@ IsOn (New y i) = Unit {0}
 IsOn (Boundary e) = Unit {0}
 IsOn (Loose k) = ⊥
 
--- a stop that is entered inside, and what stands before and after it
+-- a stop that is entered inside, and the stops before and after it
 record FoundInside {A B : Type 0} (ps : List (Stop A B)) : Type 0 where
   before : List (Stop A B)
   here : Stop A B
@@ -44,7 +44,7 @@ find_inside (p ∷ ps) = go (side p) (find_inside ps)
     go (inr e) (inl f) = inl (record { before = p ∷ f.before; here = f.here; after = f.after; whole = ap (λ r. p ∷ r) f.whole; inside = f.inside })
     go (inr e) (inr f) = inr (e, f)
 
--- the two nets of an interaction, and where their wires stand on its places
+-- the two nets of an interaction, with the places of their wires
 pub record Sides (A B C : Type 0) : Type 1 where
   -- the net before, with its active pair, and the port that is at each boundary end
   pub class : A → ℕ → ℕ
@@ -95,7 +95,7 @@ module _ {A B C : Type 0} (s : Sides A B C) where
       pub new : (y : B) (i j : ℕ) → En Inner (New y i) → Le Inner (New y j) → s.new_class y i ≢ s.new_class y j
       pub ends : (t : Side) (e : ℕ) → En t (Boundary e) → Le t (Boundary e) → ⊥
 
-    -- what is entered and left in the net before, and in the open right member
+    -- the ports that are entered and left in the net before, and in the open right member
     abbrev E_out : A × ℕ → Type 0
     E_out v = En Outer (Old v.0 v.1) × (v.0 ≢ s.one) × (v.0 ≢ s.two)
 
@@ -149,7 +149,7 @@ module _ {A B C : Type 0} (s : Sides A B C) where
           ]
         ]
 
-    -- what a walk that ends inside gives: a crossing circle before, or a walk of the open right member; from outside
+    -- the result of a walk that ends inside: a crossing circle before, or a walk of the open right member; from outside
     -- also the first boundary end by which it comes in, and a walk to it
     abbrev Result : Side → Place A B → Place A B → Type 0
     Result Outer p r = CrossingCircle before ⊎ ((f : ℕ) × (xs : List (Passage A)) × (ys : List (Passage (B ⊎ C))) × Walk before E_out L_out (outer_port p) xs (s.port f) × Le Inner (Boundary f) × Walk open_member E_in L_in (inr (s.group f), f) ys (inner_port r))

@@ -39,7 +39,7 @@ module _ {A B : Type 0} (sig : Signature) (n : Net A) (x : Redex A B) where
   abbrev through : ℕ → ℕ → Passage Node
   through e f = record { node = inr (class_node sig x e); enter = e; leave = f }
 
-  -- a passage through one class node in place of each outer piece
+  -- a passage through one class node for each outer piece
   abbrev walk : List (Piece A B) → List (Passage Node)
   walk [] = []
   walk (Outside e ps f ∷ qs) = through e f ∷ walk qs

@@ -1,4 +1,4 @@
--- Cycles as lists: begun elsewhere, renamed, joined.
+-- Cycles as lists: with another beginning, renamed, joined.
 use Rattle.std.proofs.Common.{◌≡◌, ◌≢◌, List, [], ◌∷◌, ◌++◌, map, sym, subst, ap, append_assoc, append-nil}
 use Rattle.std.specs.List.{AllByRecursion}
 use Rattle.in_base.specs.Graphs.{Passage, AreApart}

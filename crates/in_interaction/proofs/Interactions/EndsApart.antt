@@ -1,4 +1,4 @@
--- The boundary ends that a cycle after an interaction passes are different: from each of them one path leads on, and one back.
+-- The boundary ends that a cycle after an interaction passes are different: one path continues from each of them, and one leads back.
 use Rattle.std.proofs.Common.{◌≡◌, ◌≢◌, ◌⊎◌, ◌<◌, ℕ, suc, List, [], ◌∷◌, length, sym, subst, ap, inl, inr, arith}
 use Rattle.std.specs.List.{AllByRecursion}
 use Rattle.in_base.specs.Graphs.{Passage, entered, left, AreApart}
@@ -12,7 +12,7 @@ use Rattle.in_interaction.proofs.Interactions.Cycles.{different_join}
 use Rattle.in_base.proofs.Each.{all_map, all_append}
 
 module _ {A B : Type 0} (wire : Side → Place A B → Place A B → Type 0) (wires : AreWires wire) where
-  -- from this end a path leads on to v, through fewer than k others, and one back to u
+  -- from this end one path leads to v, through fewer than k others, and one leads back to u
   record Between (u v : Place A B) (k e : ℕ) : Type 0 where
     side : Side
     on : List ℕ
@@ -35,7 +35,7 @@ module _ {A B : Type 0} (wire : Side → Place A B → Place A B → Type 0) (wi
             (λ f x. (e ∷ b.0, (wires.back (other s) (Boundary e) (Boundary f) x, subst (λ t. Path wire t (Boundary e) b.0 u) (sym (other_twice s)) b.1)))),
       )
 
-  -- two ways through one end are one way, or one is the other one gone back
+  -- two ways through one end are equal, or one is the other in the opposite direction
   meet : (u v x y : Place A B) (k l e f : ℕ) → e ≡ f → Stays v → Stays x → Stays y → (a : Between u v k e) (b : Between x y l f) → ((v ≡ y) × (a.on ≡ b.on)) ⊎ (v ≡ x)
   meet u v x y k l e f same hv hx hy a b = go a.side b.side a.goes (subst (λ z. Path wire (other b.side) (Boundary z) b.on y) (sym same) b.goes) (subst (λ z. Path wire b.side (Boundary z) b.back x) (sym same) b.came)
     where

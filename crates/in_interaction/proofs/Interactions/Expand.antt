@@ -12,7 +12,7 @@ use Rattle.in_interaction.proofs.Interactions.Stops.{AtPlace, tour_join, boundar
 abbrev pub place : {A B : Type 0} → (A ⊎ B) × ℕ → Place A B
 place v = elim v.0 [ inl x ↦ Old x v.1 | inr y ↦ New y v.1 ]
 
--- what holds of a port, of its place
+-- a property of a port, for its place
 abbrev pub at_place : {A B : Type 0} → ((A ⊎ B) × ℕ → Type 0) → Place A B → Type 0
 at_place P (Old x i) = P (inl x, i)
 at_place P (New y i) = P (inr y, i)

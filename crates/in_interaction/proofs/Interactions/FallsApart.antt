@@ -16,7 +16,7 @@ use Rattle.in_interaction.proofs.Interactions.Stops.{tour_to, tour_join, agents_
 use Rattle.in_interaction.proofs.Interactions.Tours.{Stop, At_old, At_new, Through, enters, leaves, Passes, AnyPlace, IsCrossingStop, LaidOut, agents_of, boundary_of}
 use Rattle.in_base.proofs.Each.{all_append, all_left, all_right}
 
--- the first boundary end on the way, and what stands before and after it
+-- the first boundary end on the way, and the stops before and after it
 record FirstEnd {A B : Type 0} (ss : List (Stop A B)) : Type 0 where
   before : List (Stop A B)
   side : Side
@@ -49,7 +49,7 @@ ends_turned : {A B : Type 0} (xs ys : List (Stop A B)) → AreDifferent (boundar
 ends_turned xs ys h = subst AreDifferent (sym (boundary_join ys xs)) (different_turned (boundary_of xs) (boundary_of ys) (subst AreDifferent (boundary_join xs ys) h))
 
 module _ {A B : Type 0} (sig : Signature) (classed : AreClasses sig) (n : Net A) (x : Redex A B) (net : IsNet sig n) (inside : IsNet sig x.member) (redex : IsRedex sig n x) where
-  -- the agents of a piece on a side, the piece, and what leads from a place to the boundary end where it ends
+  -- the agents of a piece on a side, the piece, and the way from a place to the boundary end where it ends
   abbrev Agents : Side → Type 0
   Agents Outer = List (Passage A)
   Agents Inner = List (Passage B)
@@ -62,7 +62,7 @@ module _ {A B : Type 0} (sig : Signature) (classed : AreClasses sig) (n : Net A)
   Goes Outer p ps f = LeadsThrough (graph_of sig n) (outer_port (sides sig n x) p) ps (end_port sig x f) × AllByRecursion (IsCrossing (graph_of sig n)) ps × AllByRecursion (λ q. (q.node ≢ x.one) × (q.node ≢ x.two)) ps
   Goes Inner p ps f = LeadsThrough (open_member sig x) (inner_port (sides sig n x) p) (map (renamed (λ y. inl y)) ps) (open_port sig x (Free f)) × AllByRecursion (IsCrossing (graph_of sig x.member)) ps
 
-  -- a walk to boundary end e, cut at its boundary ends: what is left of the piece in which it begins, and the later pieces
+  -- a walk to boundary end e, cut at its boundary ends: the rest of the piece in which it begins, and the later pieces
   record Cut (s : Side) (p : Place A B) (ss : List (Stop A B)) (t : Side) (e : ℕ) : Type 0 where
     here : Agents s
     to : ℕ
@@ -76,7 +76,7 @@ module _ {A B : Type 0} (sig : Signature) (classed : AreClasses sig) (n : Net A)
   abbrev IsCut : List (Stop A B) → Type 0
   IsCut ss = AllByRecursion (IsCrossingStop sig n x) ss × AreApart (agents_of ss)
 
-  -- the piece after a boundary end is one
+  -- the part after a boundary end is a piece
   outer_piece : (b : ℕ) (ss : List (Stop A B)) (t : Side) (e : ℕ) → AreApart (agents_of ss) → (r : Cut Outer (Boundary b) ss t e) → IsPiece sig n x (Outside b r.here r.to)
   outer_piece b ss t e apart r = record {
     leads = r.goes.0;

@@ -1,4 +1,4 @@
--- An interaction has one result. Two points are equal or not, which tells where a wire leads.
+-- An interaction has one result. Two points are equal or not: this decides where a wire leads.
 use Rattle.std.proofs.Common.{◌≡◌, ◌↔◌, ℕ, Some, refl, sym, ap, ◌∙◌}
 use mathlib.Core.Path.{fun_ext}
 use native.Mathlib.Decide.{ℕ_discrete}

@@ -1,4 +1,4 @@
--- Each point that stays is joined to one.
+-- Each point that stays is joined to a point.
 use Rattle.std.proofs.Common.{◌≡◌, ◌≢◌, ◌⊎◌, ◌+◌, ◌*◌, ◌-◌, ◌≤◌, ◌<◌, ℕ, zero, suc, Bool, true, false, cond, Option, Some, IsSomeAnd, List, [], ◌∷◌, length, refl, sym, subst, ap, inl, inr, ◌∙◌, arith, lt-ltb, ltb-true, ltb-false, le-ltb}
 use mathlib.Core.HLevel.{Discrete}
 use Rattle.std.specs.List.{AllByRecursion}

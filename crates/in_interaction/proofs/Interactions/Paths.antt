@@ -18,11 +18,11 @@ pub other_side : (s : Side) → other s ≡ s → ⊥
 other_side Outer e = cc
 other_side Inner e = cc
 
--- what stays is no boundary end
+-- a place that stays is no boundary end
 not_boundary : {A B : Type 0} (p : Place A B) (e : ℕ) → Stays p → p ≡ Boundary e → ⊥
 not_boundary p e h i = subst Stays i h
 
--- two boundary ends that are one place are one end
+-- two boundary ends at one place are equal
 pub same_end : {A B : Type 0} (e f : ℕ) → ◌≡◌ {A = Place A B} (Boundary e) (Boundary f) → e ≡ f
 same_end e f h = cc
 

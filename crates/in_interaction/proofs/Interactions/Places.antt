@@ -4,7 +4,7 @@ use mathlib.Core.Logic.{inl, inr}
 use Rattle.in_net.specs.Nets.{Point, Port, Free, Signature, Net}
 use Rattle.in_net.specs.Interactions.{Redex, Side, Outer, Inner, other, end_agent, end_place}
 
--- where a wire of either side ends: a port of an agent that stays, a port of a new agent, a boundary end, a free end of the net
+-- the end of a wire of either side: a port of an agent that stays, a port of a new agent, a boundary end, a free end of the net
 pub data Place (A B : Type 0) : Type 0 where
   Old : A → ℕ → Place A B
   New : B → ℕ → Place A B
@@ -58,14 +58,14 @@ wires {A} {B} sig n x Inner p q = (u v : Point B) × IsInside p u × IsInside q 
 abbrev pub HasSymbol : {A B : Type 0} → Net A → Redex A B → A ⊎ B → ℕ → Type 0
 HasSymbol n x m s = elim m [ inl y ↦ (y ≢ x.one) × (y ≢ x.two) × (n.symbol y ≡ Some s) | inr y ↦ x.member.symbol y ≡ Some s ]
 
--- the point after that is at a place, where the agents have these names
+-- the point after the interaction that is at a place, if the agents have these names
 abbrev pub IsAfter : {A B C : Type 0} → (A ⊎ B → C) → Place A B → Point C → Type 0
 IsAfter name (Old y i) p = p ≡ Port (name (inl y)) i
 IsAfter name (New y i) p = p ≡ Port (name (inr y)) i
 IsAfter name (Boundary e) p = ⊥
 IsAfter name (Loose k) p = p ≡ Free k
 
--- what is used of the net after the interaction, its agents named so
+-- the used properties of the net after the interaction, if its agents have these names
 pub record IsByPlaces {A B C : Type 0} (sig : Signature) (before : Net A) (x : Redex A B) (name : A ⊎ B → C) (after : Net C) : Type 0 where
   pub apart : (l m : A ⊎ B) (s t : ℕ) → HasSymbol before x l s → HasSymbol before x m t → name l ≡ name m → l ≡ m
   pub kept : (m : A ⊎ B) (s : ℕ) → HasSymbol before x m s → after.symbol (name m) ≡ Some s

@@ -14,7 +14,7 @@ module _ {A B : Type 0} (sig : Signature) (x : Redex A B) where
   abbrev Node : Type 0
   Node = B ⊎ (Bool × ℕ)
 
-  -- a port that no passage has is one by which none enters or leaves
+  -- no passage enters or leaves by a port that no passage has
   other_entered : (u v : Node × ℕ) (ps : List (Passage Node)) → AllByRecursion (λ w. u ≢ w) (ports_of ps) → IsEntered ps v → u ≢ v
   other_entered u v [] h e same = absurd e
   other_entered u v (p ∷ ps) h (inl e) same = h.0 (same ∙ sym e)
@@ -39,7 +39,7 @@ module _ {A B : Type 0} (sig : Signature) (x : Redex A B) where
   no_left p y v (q ∷ ps) is h (inl e) same = at_agent p.node q p.enter p.leave y is h.0 (same ∙ sym (ap (λ z. z.0) e))
   no_left p y v (q ∷ ps) is h (inr e) same = no_left p y v ps is h.1 e same
 
-  -- at a class node ports of one class are one
+  -- at a class node two ports of one class are equal
   one_port : (c : Bool × ℕ) (n : Node) (i j : ℕ) → n ≡ inr c → (open_member sig x).class n i ≡ (open_member sig x).class n j → i ≡ j
   one_port c n i j is e = subst (λ (z : Node). (open_member sig x).class z i ≡ (open_member sig x).class z j) is e
 

@@ -1,4 +1,4 @@
--- Where the new names are new, an interaction has a result.
+-- If the new names are new, an interaction has a result.
 use Rattle.std.proofs.Common.{◌≡◌, ◌≢◌, ◌⊎◌, ◌↔◌, ℕ, Option, Some, None, IsSome, List, [], ◌∷◌, refl, sym, subst, ap, inl, inr, ◌∙◌}
 use mathlib.Core.HLevel.{Discrete}
 use Rattle.in_net.specs.Nets.{Point, Port, Free, Signature, Net, IsNet}

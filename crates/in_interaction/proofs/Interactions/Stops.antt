@@ -4,7 +4,7 @@ use Rattle.in_net.specs.Interactions.{Side}
 use Rattle.in_interaction.proofs.Interactions.Places.{Place, Old, New, Boundary, Loose}
 use Rattle.in_interaction.proofs.Interactions.Tours.{Stop, At_old, At_new, Through, enters, leaves, Tour, agents_of, boundary_of}
 
--- a place where it holds of an agent's port, or a boundary end
+-- a place is an agent's port with this property, or a boundary end
 abbrev pub AtPlace : {A B : Type 0} → (Place A B → Type 0) → Side → Place A B → Type 0
 AtPlace P s (Old x i) = P (Old x i)
 AtPlace P s (New y i) = P (New y i)

@@ -1,4 +1,4 @@
--- Alternating paths through a boundary end: such a path falls into two halves there, two halves make a path, and a path is one.
+-- Alternating paths through a boundary end: such a path falls into two halves there, two halves make a path, and the path is determined.
 use Rattle.std.proofs.Common.{◌≡◌, ◌⊎◌, ◌+◌, ◌*◌, ◌≤◌, ◌<◌, ℕ, List, [], ◌∷◌, length, refl, sym, subst, ap, inl, inr, ◌∙◌, arith}
 use mathlib.Core.HLevel.{Discrete}
 use Rattle.in_base.specs.Lists.{IsAmong}
@@ -85,7 +85,7 @@ module _ {A B : Type 0} (sig : Signature) (n : Net A) (x : Redex A B) (name : B 
   pt_same e f w =
       end_same sig n x net inside redex e f (port_agent (end_agent sig x e) (end_agent sig x f) (end_place sig x e) (end_place sig x f) w) (port_place (end_agent sig x e) (end_agent sig x f) (end_place sig x e) (end_place sig x f) w)
 
-  -- from a point that stays one path goes
+  -- from a point that stays there is at most one path to such a point
   pub one_way : (s t : Side) (u v w : Point A) (es fs : List (Point A)) → (IsOfPair x u → ⊥) → (IsOfPair x v → ⊥) → (IsOfPair x w → ⊥) → Way s u es v → Way t u fs w → (es ≡ fs) × (v ≡ w)
   one_way Outer Outer u v w es fs hu hv hw a b = same_path (wire_of sig n x name) (IsOfPair x) (one_wire sig n x name net inside redex naming) Outer u es fs v w hv hw a b
   one_way Inner Inner u v w es fs hu hv hw a b = same_path (wire_of sig n x name) (IsOfPair x) (one_wire sig n x name net inside redex naming) Inner u es fs v w hv hw a b

@@ -64,7 +64,7 @@ AnyPlace s p = Unit {0}
 abbrev pub Passes : {A B : Type 0} → Signature → Net A → Redex A B → Side × Place A B → List (Stop A B) → Side × Place A B → Type 0
 Passes sig n x = Tour (wires sig n x) AnyPlace AnyPlace
 
--- a cycle of agents that stay, new agents and boundary ends: what stands between two boundary ends is joined by wires of the net
+-- a cycle of agents that stay, new agents and boundary ends: the stops between two boundary ends are joined by wires of the net
 -- before alone, or by wires of the right member alone, and the side changes at each boundary end. No agent and no boundary end comes twice
 pub record LaidOut {A B : Type 0} (sig : Signature) (n : Net A) (x : Redex A B) : Type 0 where
   pub first : Stop A B

@@ -16,7 +16,7 @@ module _ {A : Type 0} (sig : Signature) (classed : AreClasses sig) (n : Net A) (
       let s = symbol_of sig (n.symbol p.node) p.enter point in
       auxiliary s.0 p.enter h.1 (ap (λ o. class_of_symbol sig o p.enter) (sym s.1) ∙ same ∙ ap (λ o. class_of_symbol sig o p.leave) s.1 ∙ ap (λ i. sig.class_of s.0 i) h.0)
 
-  -- where a wire ends there is a point
+  -- the end of a wire is a point
   far_end : (u v : A × ℕ) → (graph_of sig n).Wire u v → IsPoint sig n (Port v.0 v.1)
   far_end u v w = net.points (Port v.0 v.1) (Port u.0 u.1) (net.back (Port u.0 u.1) (Port v.0 v.1) w)
 

@@ -1,4 +1,4 @@
--- Active pairs of a net that have an agent in common are one.
+-- Active pairs of a net that have an agent in common are equal.
 use Rattle.std.proofs.Common.{◌≡◌, ◌⊎◌, inl, inr, ℕ, Some, sym, ap, subst, ◌∙◌}
 use Rattle.in_symbols.specs.Tables.{Tables}
 use Rattle.in_net.specs.declared.nets.AgentNo.{AgentNo}

@@ -1,4 +1,4 @@
--- The list of the active pairs that an interaction makes is one.
+-- The list of the active pairs that an interaction makes is determined.
 use Rattle.std.proofs.Common.{ℕ, List, ◌++◌, map, sym, ap, ◌∙◌}
 use Rattle.in_net.specs.declared.nets.AgentNo.{AgentNo}
 use Rattle.in_interaction.specs.OutcomeLaws.{MadePairsAreListedOnce}

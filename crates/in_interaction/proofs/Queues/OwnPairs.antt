@@ -27,7 +27,7 @@ module _ (s : SiteParts) (site : IsSite s) (x : AgentNo) (c : SymbolNo) (there :
 
 -- ---- wire by wire
 
--- behind the pairs that were there stand those of the wires below one
+-- the pairs of the wires below this one come behind the earlier pairs
 abbrev pub AddsBelow : Tables → SiteParts → ℕ → List (AgentNo × AgentNo) → List (AgentNo × AgentNo) → Type 0
 AddsBelow t s w before after = (own : List (ℕ × ℕ)) × AreFirst t s.rule.member w own × (after ≡ before ++ map (renumbered s) own)
 

@@ -1,4 +1,4 @@
--- The active pairs after an interaction: those of other agents, those that it makes, and the right member's own. An agent is in one alone.
+-- The active pairs after an interaction: those of other agents, those that it makes, and the right member's own. An agent is in one at most.
 use Rattle.std.proofs.Common.{◌≡◌, ◌≢◌, ◌⊎◌, ◌↔◌, inl, inr, ◌≤◌, ℕ, Option, Some, None, List, [], slice_get, sym, ap, subst, ◌∙◌}
 use Rattle.std.specs.Prelude.{option_map}
 use Rattle.std.proofs.lemmas.Option.{none-some}

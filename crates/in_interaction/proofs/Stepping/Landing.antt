@@ -150,7 +150,7 @@ module _ (here : Site) where
         (subst (λ (z : Point ℕ). To (suc k) (coded_point z) (coded_point v)) (sym m.2)
         (lands k m.0 es v m.1 (omega arith) (subst (λ (z : Point ℕ). PairPath sig (net_of n) at name Inner z es v) m.2 w.2.2) h))
 
-    -- a point that stays is joined to where the path lands that its wire begins
+    -- a point that stays is joined to the end of the path that its wire begins
     pub outer_lands : (u f : Point ℕ) → Stays u → (net_of n).partner u ≡ Some f → (v : Point ℕ) × Joined u v × To most_turns (coded_point f) (coded_point v)
     outer_lands u f np w =
         elim (known here outer_next ℕ_discrete u f w (λ e. np (subst (IsOfPair at) (sym e) (inl refl))) (λ e. np (subst (IsOfPair at) (sym e) (inr refl)))) [
@@ -166,7 +166,7 @@ module _ (here : Site) where
               )
         ]
 
-    -- where a wire of a new agent's port leads: to a new agent, or to where the path lands that leaves by this boundary end
+    -- the wire of a new agent's port leads to a new agent, or to the end of the path that leaves by this boundary end
     abbrev pub InnerLands : Point ℕ → Point ℕ → Type 0
     InnerLands (Port l j) v = Port (name l) j ≡ v
     InnerLands (Free e) v = (r : Point ℕ) × ((net_of n).partner (pt e) ≡ Some r) × To most_turns (coded_point r) (coded_point v)

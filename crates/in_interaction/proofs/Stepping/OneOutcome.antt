@@ -1,4 +1,4 @@
--- The net after an interaction is one, and so are the lists of active pairs and of those that it makes.
+-- The net after an interaction is determined, and so are the lists of active pairs and of those that it makes.
 use Rattle.std.proofs.Common.{◌≡◌, inl, inr, ◌<◌, ℕ, zero, suc, Bool, Option, Some, None, List, [], ◌∷◌, map, length, slice_get, refl, sym, ap, subst, ◌∙◌, arith}
 use Rattle.std.specs.Prelude.{option_map, option_and_then}
 use Rattle.std.proofs.lemmas.Option.{same_Some}
@@ -34,7 +34,7 @@ module _ {X : Type 0} (Less : X → X → Type 0) (less_once : (x y : X) → Les
   abbrev pub Holds : List X → List X → Type 0
   Holds xs ys = (k : ℕ) (x : X) → slice_get xs k ≡ Some x → (j : ℕ) × (slice_get ys j ≡ Some x)
 
-  -- what the lists hold after one first element
+  -- after one first element, the second list holds the elements of the first one
   tails_hold : (x y : X) (xs ys : List X) → Rises (x ∷ xs) → x ≡ y → Holds (x ∷ xs) (y ∷ ys) → Holds xs ys
   tails_hold x y xs ys a e h k z p = at (h (suc k) z p)
     where
@@ -179,7 +179,7 @@ module _ (n : Parts) (r : RuleParts) (a b : AgentNo) (m k : Parts) (t : Tables) 
           (i, v.1 ∙ ap (λ (z : Wire). Some z) same)
       by_way i before (inr f) = absurd (not_both w.one w.other before (g.wires.turned i w.other w.one f))
 
--- whatever its wires are listed as
+-- for any list of wires
 module _ (n : Parts) (r : RuleParts) (a b : AgentNo) (m k : Parts) (t : Tables) (can : CanInteract t n r a b) (h : Interacts n r a b m) (g : Interacts n r a b k) where
   partners : (p : coded.Point) → partner_in m p ≡ partner_in k p
   partners p = same_option (partner_in m p) (partner_in k p) (λ q e. partner_there n r a b m k t can h g p q e) (λ q e. partner_there n r a b k m t can g h p q e)

@@ -175,7 +175,7 @@ module _ (s : SiteParts) (site : IsSite s) (cells : List (Option Cell)) (free : 
             let end : g.end ≡ coded_point v = cc in
             subst (Joined (Free k)) (ap point_of end ∙ round_point v) ((frees.each k f.0 g f.1 is).end t can)
 
-    -- a point that is joined to one has a partner
+    -- a point that is joined to another one has a partner
     ends_there : (y i : ℕ) (c : Cell) → i < length c.ends → (d : Cell) × (cell_at cells y ≡ Some d) × IsAgentAfter s y c d → (w : Point ℕ) × ((net_of m).partner (Port y i) ≡ Some w)
     ends_there y i c lt r =
         let many = r.2.many in

@@ -72,6 +72,6 @@ module _ (s : SiteParts) (site : IsSite s) where
           (coded_point r.2.0, out, subst (λ (z : ℕ). Lands (record s { first = z }) most_turns (coded_point r.2.0) (coded_point r.0)) first r.2.2),
         )
 
--- the point at which a path lands is that one's partner
+-- the point at which a path lands is the partner of its first point
 pub partner_is : (s : SiteParts) (t : Tables) (u v : Point ℕ) (p : coded.Point) → p ≡ coded_point v → Joined t s u v → Joined t s u (point_of p)
 partner_is s t u v p e h = subst (Joined t s u) (sym (ap point_of e ∙ round_point v)) h

@@ -254,7 +254,7 @@ principal_is (code.Port y zero) o x is e = let same : y ≡ x = cc in ap (λ (z 
 principal_is (code.Port y (suc i)) o x is e = cc
 principal_is (code.Free k) o x is e = cc
 
--- ---- what is answered at a boundary end
+-- ---- the result at a boundary end
 
 pub no_pair : (t : Tables) (s : SiteParts) (e : ℕ) (o : Option (AgentNo × AgentNo)) → o ≡ None → IsPairAtEnd t s e None → IsPairAtEnd t s e o
 no_pair t s e o is h = subst (IsPairAtEnd t s e) (sym is) h

@@ -1,4 +1,4 @@
--- Where two agents can interact: the net and the right member are nets, the pair is one of the definitions, and the unused numbers are names.
+-- Two agents that can interact: the net and the right member are nets, the pair is one of the definitions, and the unused numbers are names.
 use Rattle.std.proofs.Common.{◌≡◌, ◌+◌, ◌*◌, ◌≤◌, ℕ, Option, Some, None, length, length-append, refl, sym, ap, ◌∙◌, arith}
 use Rattle.std.specs.Prelude.{option_map}
 use Rattle.std.proofs.lemmas.List.{length-map}
@@ -84,7 +84,7 @@ module _ (here : Site) where
       let m = whole.ports b.0 y.0 y.1 in
       omega (arith, l, m, x.3, y.3)
 
--- what a lemma on interactions says here: it is given the net, the pair and the names, and what is known of them
+-- a lemma on interactions, at this site: it gets the net, the pair, the names, and their properties
 pub known : {Fact : (sig : Signature) (n : Net ℕ) (x : Redex ℕ ℕ) (name : ℕ → ℕ) → IsNet sig n → IsNet sig x.member → IsRedex sig n x → IsNaming n x name → Type 0} →
     (here : Site) →
     ((sig : Signature) (n : Net ℕ) (x : Redex ℕ ℕ) (name : ℕ → ℕ) →
@@ -92,7 +92,7 @@ pub known : {Fact : (sig : Signature) (n : Net ℕ) (x : Redex ℕ ℕ) (name : 
     Fact (signature_of here.t) (net_of here.n) (redex_at here.r here.a.0 here.b.0) (unused here.n.cells) (net here) (inside here) (redex here) (naming here)
 known here lemma = lemma (signature_of here.t) (net_of here.n) (redex_at here.r here.a.0 here.b.0) (unused here.n.cells) (net here) (inside here) (redex here) (naming here)
 
--- ---- of the code
+-- ---- in the code
 
 -- two agents that can interact at a site
 abbrev pub at_site : (s : SiteParts) → IsSite s → (t : Tables) → CanInteract t s.net s.rule s.one s.two → Site

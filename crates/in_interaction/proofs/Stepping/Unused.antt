@@ -1,4 +1,4 @@
--- Numbers without an agent: as they are found, how large they are, and that they are new.
+-- Numbers without an agent: how they are found, how large they are, and that they are new.
 use Rattle.std.proofs.Common.{◌≡◌, ◌⊎◌, inl, inr, ◌+◌, ◌-◌, ◌<◌, ◌≤◌, ℕ, zero, suc, Option, Some, None, List, [], ◌∷◌, ◌++◌, length, length-append, drop, cond, count_by, is_some, slice_get, refl, sym, ap, subst, ◌∙◌, arith}
 use Rattle.std.specs.Prelude.{option_and_then}
 use Rattle.std.proofs.lemmas.List.{drop_all}
@@ -9,7 +9,7 @@ use Rattle.in_net.specs.declared.nets.AgentNo.{AgentNo}
 use Rattle.in_net.specs.declared.nets.Cell.{Cell}
 use Rattle.in_base.proofs.Places.{last_at, kept_at}
 
--- ---- as they are found, cell by cell
+-- ---- found cell by cell
 
 at_none : (cs : List (Option Cell)) (i : ℕ) → slice_get cs i ≡ Some None → (unused (drop i cs) zero ≡ 0) × ((k : ℕ) → unused (drop i cs) (suc k) ≡ suc (unused (drop (suc i) cs) k))
 at_none [] i e = cc

@@ -35,7 +35,7 @@ module _ (t : Tables) (n : Parts) (w : ℕ) (p q : Point) (at : wire_in n w ≡ 
   same_wire : (x y : Point) → wire_in n w ≡ Some (x, y) → ◌≡◌ {A = Point × Point} (p, q) (x, y)
   same_wire x y e = some_same (wire_in n w) (p, q) (x, y) at e
 
-  -- a wire joins no pair where one of its points is no principal port
+  -- a wire joins no pair if one of its points is no principal port
   pub none_first : ((x : AgentNo) → p ≢ Port x 0) → (z : AgentNo × AgentNo) → JoinsAgents n w z → ⊥
   none_first never z (inl e) = never z.0 (ap (λ (u : Point × Point). u.0) (same_wire (Port z.0 0) (Port z.1 0) e))
   none_first never z (inr e) = never z.1 (ap (λ (u : Point × Point). u.0) (same_wire (Port z.1 0) (Port z.0 0) e))

@@ -1,4 +1,4 @@
--- Ports of an active pair, and the boundary ends of the right member that stand for them.
+-- Ports of an active pair, and the boundary ends of the right member at them.
 use Rattle.std.proofs.Common.{◌≡◌, ◌≢◌, ◌⊎◌, ◌-◌, ◌≤◌, Bool, true, false, cond, ℕ, suc, Option, Some, None, IsSomeAnd, List, [], ◌∷◌, refl, sym, subst, ap, inl, inr, ◌∙◌, arith, ltb-false}
 use Rattle.in_net.specs.Nets.{Point, Port, Free, Signature, Net, IsPoint, IsNet}
 use Rattle.in_net.specs.Interactions.{Redex, IsRedex, Side, Alternates, stands_for, wire_of, IsOfPair, IsNaming, of_first, end_agent, end_symbol, end_place}
@@ -59,7 +59,7 @@ module _ {A B : Type 0} (sig : Signature) (n : Net A) (x : Redex A B) (name : B 
   pub end_of_pair : (e : ℕ) → IsOfPair x (stands_for sig x name (Free e))
   end_of_pair e = cond_cases (of_first sig x e) x.one x.two
 
-  -- a boundary end stands for a port of the pair, and nothing else does
+  -- a boundary end is at a port of the pair, and no other point is
   pub end_of : (p : Point B) → IsPoint sig x.member p → IsOfPair x (stands_for sig x name p) → (e : ℕ) × (p ≡ Free e)
   end_of (Port k i) h o = absurd (not_pair k i h o)
   end_of (Free e) h o = (e, refl)

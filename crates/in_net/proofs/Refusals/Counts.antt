@@ -67,7 +67,7 @@ module _ (spots : List TextSpot) (names : ℕ) (twice : AreTwice spots (counted_
       let all = twice k m in_ g in
       absurd (let wrong : Often ≡ Twice = sym often ∙ all in cc)
 
-  -- two other spots of a name are one
+  -- two other spots of a name are equal
   pub other_is_one : (m i j k : ℕ) → m < names → i < length spots → j < length spots → k < length spots → name_of (nth_spot spots i) ≡ Some m → name_of (nth_spot spots j) ≡ Some m → name_of (nth_spot spots k) ≡ Some m →
       i ≢ j → i ≢ k → j ≡ k
   other_is_one m i j k lt i_in j_in k_in e f g ij ik = by_same (cases_eq j k)

@@ -48,14 +48,14 @@ first_of most t b agents arities names a c d =
     first_same (Coded most t b) (IsNetFaultAt most t b) _ (as_fault most t b) (of_fault most t b)
     (first_of_three E03 E07 E08 (IsTooManyAt most t b) (IsMisfitAt t b) (IsMiscountedAt t b) (omega arith) (omega arith) agents arities names a c d)
 
--- what is known of a body before it is read: its heads are symbols', its names are in order, its free names are different
+-- a body before it is read: its heads are symbols', its names are in order, its free names are different
 pub record IsReady (t : Tables) (b : Body) : Type 0 where
   pub known : IsBodyKnown t b
   pub rises : Rises (body_places b)
   pub order : Rises (text_places b)
   pub differ : AreDifferent b
 
--- what the code finds is the first fault
+-- the code finds the first fault
 pub found_first : (most : ℕ) (t : Tables) (b : Body) → IsReady t b → IsFirst (IsNetFaultAt most t b) (first_fault most t b (reading_of t b))
 found_first most t b ready =
     let r : Reading = reading_of t b in
@@ -89,6 +89,6 @@ none_miscounted most t b ready is =
     all_stand_twice t b r (names_read t b) (roots_rise t b ready.rises) (names_apart t b) ready.differ
     (refused_none E08 (counting.miscounted (length r.names) r.spots b.free) all.1)
 
--- the names that are read are in range, whatever the numbers of arguments
+-- the names that are read are in range, for any numbers of arguments
 pub names_inside : (t : Tables) (b : Body) → NamesInside (length (reading_of t b).names) (reading_of t b).spots
 names_inside t b = all_map _ _ (λ s h. name_inside t b (reading_of t b).names s h) (reading_of t b).spots (names_read t b).named_as

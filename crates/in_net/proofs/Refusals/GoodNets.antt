@@ -1,4 +1,4 @@
--- A net in which no agent and no name is refused is one whose wires can be followed.
+-- If no agent and no name of a net is refused, its wires can be followed.
 use Rattle.std.proofs.Common.{◌≡◌, ◌∙◌, ap, None}
 use Rattle.in_net.specs.declared.reading.Reading.{Reading}
 use Rattle.in_syntax.specs.declared.tree.Source.{Source}

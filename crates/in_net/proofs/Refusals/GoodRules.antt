@@ -1,4 +1,4 @@
--- A rule in which no agent and no name is refused is one whose wires can be followed; and the symbols of its heads.
+-- If no agent and no name of a rule is refused, its wires can be followed; and the symbols of its heads.
 use Rattle.std.proofs.Common.{◌≡◌, ◌∙◌, ℕ, ◌+◌, Bool, true, false, cond, ap, sym, refl, None, arith}
 use Rattle.in_syntax.specs.declared.tree.SourceRule.{SourceRule}
 use Rattle.in_symbols.specs.declared.symbols.SymbolNo.{SymbolNo}
@@ -30,7 +30,7 @@ good t r q readable is clear =
 pub from : (t : Tables) (r : SourceRule) (readable : IsReadable t r) → IsGood t (body_of_rule t r) → IsReadFrom t (ends_in t (body_of_rule t r)) (reading_of t (body_of_rule t r))
 from t r readable g = read_from.read_from t (body_of_rule t r) (read t (body_of_rule t r) g) readable.small (rule_few t r readable)
 
--- the boundary ends are as many, whichever symbol is the first
+-- the number of boundary ends doesn't depend on which symbol is the first
 abbrev pair_by : SymbolNo → SymbolNo → Bool → SymbolNo × SymbolNo
 pair_by c d turned = cond turned (d, c) (c, d)
 

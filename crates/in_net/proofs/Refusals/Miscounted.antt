@@ -166,7 +166,7 @@ module _ (t : Tables) (body : Body) (r : Reading) (names : AreNamesRead t body r
       w : IsVariableAt t body r.names h.name q
       w = variable_at h.three h.name q h.inside h.stands
 
-      -- where an occurrence of the name before the third one stands
+      -- the spot of an occurrence of the name before the third one
       earlier_one : (x : Term) → Occurs t body (name_of w.term) x → IsBefore x w.term → (g : IsHeldAt r x) × (((g.spot ≡ h.one) ⊎ (g.spot ≡ h.two)))
       earlier_one x o less =
           let ox : Occurs t body (name_in h.name r.names) x = (o.0, o.1, o.2 ∙ sym w.name) in
@@ -348,7 +348,7 @@ module _ (t : Tables) (body : Body) (r : Reading) (names : AreNamesRead t body r
   pub names_least : IsLeast (IsMiscountedAt t body) (miscounted (length r.names) r.spots body.free)
   names_least = least_same Miscounts (IsMiscountedAt t body) (miscounted (length r.names) r.spots body.free) to_text of_text (miscounted_least r.spots (length r.names) body.free inside)
 
-  -- ---- where none is miscounted, each name occurs twice
+  -- ---- if no name is miscounted, each name occurs twice
 
   lonely_none : miscounted (length r.names) r.spots body.free ≡ None → (q : Place) → Miscounts q → ⊥
   lonely_none none q h = (subst (IsLeast Miscounts) none (miscounted_least r.spots (length r.names) body.free inside)) q h

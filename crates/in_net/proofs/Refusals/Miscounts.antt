@@ -88,7 +88,7 @@ occurrence_name spots at m n q is e = some_is (sym e ∙ ap name_of is)
     some_is : Some m ≡ Some n → m ≡ n
     some_is e = cc
 
--- what a third one at this very spot is
+-- a third occurrence at this very spot
 abbrev IsHere : List TextSpot → ℕ → ℕ → Seen → Place → Type 0
 IsHere spots at m s q = (s ≡ Twice) × (nth_spot spots at ≡ Occurrence m q)
 

@@ -181,7 +181,7 @@ arities_least t b =
     back q (inl h) = by_term q h.term h.there (record { symbol = h.symbol; agent = h.agent; apart = h.apart; place = h.place })
     back q (inr h) = inl (among_any (λ h. InHead t h q) b.heads h.left h.there (inl (record { symbol = h.symbol; named = h.named; apart = h.apart; place = h.place })))
 
--- ---- where there is no misfit, all fit
+-- ---- without a misfit, all fit
 
 here_fits : (t : Tables) (o : Option ℕ) (k : ℕ) (p : Place) → misfit_here t o k p ≡ None → fits_arity t o k ≡ true
 here_fits t None k p e = refl

@@ -11,7 +11,7 @@ use Rattle.in_net.specs.Building.{nth_spot}
 abbrev pub Has : List TextSpot → ℕ → ℕ → Type 0
 Has spots m i = name_of (nth_spot spots i) ≡ Some m
 
--- what is seen of a name before a spot
+-- the count of a name before a spot
 abbrev pub IsStanding : List TextSpot → ℕ → ℕ → Seen → Type 0
 IsStanding spots at m Never = (i : ℕ) → i < at → Has spots m i → ⊥
 IsStanding spots at m (Once a) = (a < at) × Has spots m a × ((i : ℕ) → i < at → Has spots m i → i ≡ a)

@@ -65,7 +65,7 @@ module _ (t : Tables) (r : SourceRule) (known : IsRuleKnown t.names r) (fits : a
       let both = and_parts _ _ (and_parts _ _ (and_parts _ _ fits).0).1 in
       terms_fit t (number_in r.second.name.text t.names) (length r.second.terms) known.1.0 (and_parts _ _ both.0).0
 
-  -- whichever of the heads has the first ends
+  -- for either head with the first ends
   ends_by : (turned : Bool) → AreHeadsOf t (record { free = []; heads = heads_at r (cond turned (arity_of t d) 0) (cond turned 0 (arity_of t c)); equations = r.equations })
   ends_by true = record {
     apart = (apart, (λ i j w. absurd (omega (arith, w)), tt));

@@ -1,4 +1,4 @@
--- Where each name before ( is a symbol's: a variable has no arguments, and the same holds of an agent's.
+-- If each name before ( is a symbol's, a variable has no arguments, and the same holds of an agent's arguments.
 use Rattle.std.proofs.Common.{◌≡◌, ℕ, Bool, true, false, ◌||◌, List, [], ◌∷◌, map, Option, None, refl, sym, ◌∙◌, ap, is_some}
 use Rattle.in_syntax.specs.declared.tree.Term.{Term, out-Term}
 use Rattle.in_symbols.specs.Names.{number_in}

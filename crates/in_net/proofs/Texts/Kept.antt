@@ -1,4 +1,4 @@
--- What is read stays read: joints and variables of a text that are among the spots.
+-- The reading keeps its parts: joints and variables of a text that are among the spots.
 use Rattle.std.proofs.Common.{◌≡◌, ◌≢◌, ℕ, ◌+◌, ◌<◌, List, [], ◌++◌, length, length-append, refl, sym, ◌∙◌, ap, subst, arith}
 use Rattle.in_syntax.specs.declared.places.Place.{Place}
 use Rattle.in_syntax.specs.declared.tree.Term.{Term}

@@ -1,4 +1,4 @@
--- Where each name before ( and [ is a symbol's, in a whole body.
+-- Each name before ( and [ is a symbol's, in a whole body.
 use Rattle.std.proofs.Common.{◌≡◌, ◌≢◌, ◌⊎◌, inl, inr, ℕ, zero, suc, ◌<◌, ◌≤◌, true, List, [], ◌∷◌, map, Some, None, slice_get, sym, ◌∙◌, ap, arith}
 use Rattle.std.specs.List.{AllByRecursion}
 use Rattle.in_syntax.specs.declared.tree.Source.{Source}

@@ -4,7 +4,7 @@ use Rattle.std.specs.Prelude.{option_and_then}
 use Rattle.std.proofs.lemmas.Option.{slice_get_read, slice_get_within, get_or_from_slice_get}
 use Rattle.in_net.specs.declared.nets.Cell.{Cell}
 
--- what was read at an index
+-- the reading at an index is nothing
 pub none_read : {X : Type 0} (xs : List (Option X)) (i : ℕ) (o : Option X) → i < length xs → o ≡ get_or xs i o → is_some o ≡ false → slice_get xs i ≡ Some None
 none_read xs i None h e is = slice_get_read xs (length xs) i None refl h e
 none_read xs i (Some x) h e is = cc
@@ -13,7 +13,7 @@ pub some_read : {X : Type 0} (xs : List (Option X)) (i : ℕ) (o : Option X) →
 some_read xs i None h e is = cc
 some_read xs i (Some x) h e is = (x, slice_get_read xs (length xs) i (Some x) refl h e)
 
--- what was read where there is something
+-- the reading at an index that has something
 pub there_read : {X : Type 0} (xs : List (Option X)) (i : ℕ) (o : Option X) (x : X) → option_and_then (λ (o : Option X). o) (slice_get xs i) ≡ Some x → o ≡ get_or xs i o → o ≡ Some x
 there_read {X} xs i o x e is = go (slice_get xs i) refl e
   where

@@ -41,7 +41,7 @@ free_spots : (k : ℕ) (fs : List SourceFree) (r : Reading) → AllByRecursion I
 free_spots k [] r all = all
 free_spots k (f ∷ fs) r all = free_spots (k + 1) fs (reads_free_end k f r) (all_append IsFreeSpot r.spots (Free k (number_with r.names f.name.text) ∷ []) all (tt, tt))
 
--- what reading on adds
+-- the spots that further reading adds
 pub record Adds (t : Tables) (b : Body) (before after : Reading) : Type 0 where
   pub more : List TextSpot
   pub spots : after.spots ≡ before.spots ++ more

@@ -29,7 +29,7 @@ use Rattle.in_net.proofs.Texts.Kept.{IsSettled, Keeps, keeps_both, keeps_itself,
 use Rattle.in_net.proofs.Texts.Terms.{IsHeldIn, IsReadOn, held_stays, reads_on, among_middle, middle}
 use Rattle.std.proofs.lemmas.Bool.{and_parts, cases_eq, cases_lt}
 
--- what is read but for some spots, which wait to be joined and are free or boundary ends: they are joined to nothing, and each other
+-- a reading in which some spots wait to be joined and are free or boundary ends: they are joined to nothing, and each other
 -- spot is joined
 pub record IsReadBut (t : Tables) (b : Body) (free count : ℕ) (waits : ℕ → Type 0) (r : Reading) : Type 0 where
   pub read : IsRead t b free count r
@@ -56,7 +56,7 @@ pub record IsEquationHeld (t : Tables) (e : Equation) (r : Reading) : Type 0 whe
 equation_stays : (t : Tables) (e : Equation) (r q : Reading) → Keeps r q → IsEquationHeld t e r → IsEquationHeld t e q
 equation_stays t e r q keeps h = record { joint = keeps.settled _ _ _ h.joint; left = held_stays t e.left r q keeps h.left; right = held_stays t e.right r q keeps h.right }
 
--- what reading an equation does
+-- the reading after an equation
 pub record IsEquationRead (t : Tables) (b : Body) (free count : ℕ) (waits : ℕ → Type 0) (e : Equation) (before after : Reading) : Type 0 where
   pub net : IsReadBut t b free count waits after
   pub keeps : Keeps before after
@@ -157,7 +157,7 @@ equation_read t b free count waits small e r among fits_left fits_right known ne
         beyond (inl g) = g
         beyond (inr g) = absurd (y (omega (arith, g, b_, w2)))
 
--- what reading equations does
+-- the reading after equations
 pub record AreEquationsRead (t : Tables) (b : Body) (free count : ℕ) (waits : ℕ → Type 0) (es : List Equation) (before after : Reading) : Type 0 where
   pub net : IsReadBut t b free count waits after
   pub keeps : Keeps before after
@@ -188,7 +188,7 @@ equations_read t b free count waits small (e ∷ es) r among fits known net =
 
 -- ---- the terms of a head
 
--- what reading a head's term and its joint does
+-- the reading after a head's term and its joint
 pub record IsPlaceRead (t : Tables) (b : Body) (free count : ℕ) (waits : ℕ → Type 0) (at : ℕ) (v : Term) (before after : Reading) : Type 0 where
   pub net : IsReadBut t b free count waits after
   pub keeps : Keeps before after
@@ -303,7 +303,7 @@ module _ (t : Tables) (b : Body) (free count : ℕ) (waits then_ : ℕ → Type 
         held = held_stays t v r1 r2 keeps_one on.held;
       }
 
--- what reading the terms of a head does, from one place on
+-- the reading after the terms of a head, from one place on
 pub record ArePlacesRead (t : Tables) (b : Body) (free count : ℕ) (waits : ℕ → Type 0) (first port : ℕ) (vs : List Term) (before after : Reading) : Type 0 where
   pub net : IsReadBut t b free count waits after
   pub keeps : Keeps before after
@@ -407,7 +407,7 @@ abbrev pub AtHeads : List LeftHead → (ℕ → Type 0) → ℕ → Type 0
 AtHeads [] rest i = rest i
 AtHeads (h ∷ hs) rest i = ((j : ℕ) × (j < length h.head.terms) × (i ≡ h.first + j)) ⊎ AtHeads hs rest i
 
--- no and_parts heads share an end, nor a head one with others
+-- no two heads share an end, and no head shares one with others
 abbrev pub AreHeadsApart : List LeftHead → (ℕ → Type 0) → Type 0
 AreHeadsApart [] rest = Unit {0}
 AreHeadsApart (h ∷ hs) rest = ((i j : ℕ) → AtHeads hs rest i → j < length h.head.terms → i ≢ h.first + j) × AreHeadsApart hs rest
@@ -556,7 +556,7 @@ begun t b r heads h = record {
     self : (i : ℕ) → i < length r.spots → nth_link (links_of r) i ≡ self_link i
     self i lt = let e : 0 + i ≡ i = omega arith in ap (λ js. nth_link (with_joints (self_links 0 (length r.spots)) js) i) h.joints ∙ nth_self 0 (length r.spots) i lt ∙ ap self_link e
 
--- ---- what is read of a body
+-- ---- the reading of a body
 
 abbrev pub ends_in : Tables → Body → ℕ
 ends_in t b = length b.free + ends_of t b.heads

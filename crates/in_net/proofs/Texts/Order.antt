@@ -96,7 +96,7 @@ free_roots : (k : ℕ) (fs : List SourceFree) (r : Reading) → root_places (rea
 free_roots k [] r = refl
 free_roots k (f ∷ fs) r = free_roots (k + 1) fs (reads_free_end k f r) ∙ roots_append r.spots (Free k (number_with r.names f.name.text) ∷ []) ∙ append-nil (root_places r.spots)
 
--- ---- what rises still rises without some of it
+-- ---- places that rise still rise without some of them
 
 without_middle : (xs ys : List Place) (y : Place) → Rises (xs ++ y ∷ ys) → Rises (xs ++ ys)
 without_middle [] ys y h = h.1
@@ -148,11 +148,11 @@ roots_ends : (r : Reading) (n : ℕ) → root_places (with_ends r n).spots ≡ r
 roots_ends r zero = refl
 roots_ends r (suc n) = roots_append r.spots (boundary_spots (length r.spots) (suc n)) ∙ ap (λ z. root_places r.spots ++ z) (ends_rootless (length r.spots) (suc n)) ∙ append-nil (root_places r.spots)
 
--- the places of all names of a body but those of heads
+-- the places of all names of a body except those of heads
 abbrev pub body_places : Body → List Place
 body_places b = name_places_in b.heads ++ name_places b.equations
 
--- what is read of a body is in the order of its text
+-- the reading of a body is in the order of its text
 pub roots_rise : (t : Tables) (b : Body) → Rises (body_places b) → Rises (root_places (reading_of t b).spots)
 roots_rise t b order =
     let ends : Reading = with_ends (reads_free b.free) (ends_of t b.heads) in

@@ -49,7 +49,7 @@ IsNamed t b names (Free k m) = IsFreeAt b names k m
 IsNamed t b names (End k) = Unit {0}
 IsNamed t b names (Occurrence m p) = IsVariableAt t b names m p
 
--- what is read so far, with at most `count` names
+-- the reading so far, with at most `count` names
 pub record IsRead (t : Tables) (b : Body) (free count : ℕ) (r : Reading) : Type 0 where
   pub numbered : IsNumbered t free r
   pub joints : JointsInside (length r.spots) r.joints
@@ -340,7 +340,7 @@ more_names t b free names most r le read = record {
 
 -- ---- a free or boundary end
 
--- where only ends are read so far, the next one is added
+-- if only ends are read so far, the next one is added
 module _ (t : Tables) (b : Body) (k : ℕ) (r : Reading) (count : length r.spots ≡ k) (no_agents : r.agents ≡ []) (no_joints : r.joints ≡ []) (read : IsRead t b k 0 r)
     (s : TextSpot) (is_end : IsEnd s k) (names : List (List ℕ)) (all : AllByRecursion (IsNamed t b names) r.spots) (named_end : IsNamed t b names s) where
   abbrev and_end : Reading

@@ -15,7 +15,7 @@ use Rattle.in_net.proofs.Wiring.Links.{all_at}
 use Rattle.in_net.proofs.Texts.NetRead.{IsBodyRead, ends_in, names_in_body}
 use Rattle.in_syntax.specs.Tokens.{text_limit}
 
--- what holds of each element, one by one
+-- a property of each element, one by one
 pub from_each : {X : Type 0} (P : X → Type 0) (xs : List X) (d : X) → ((i : ℕ) → i < length xs → P (get_or xs i d)) → AllByRecursion P xs
 from_each P [] d h = tt
 from_each P (x ∷ xs) d h = (h 0 (omega arith), from_each P xs d (λ i lt. h (suc i) (omega (arith, lt))))
@@ -23,7 +23,7 @@ from_each P (x ∷ xs) d h = (h 0 (omega arith), from_each P xs d (λ i lt. h (s
 abbrev pub IsFew : Tables → Body → Type 0
 IsFew t b = (ends_in t b ≤ max_free) × (names_in_body b ≤ text_limit)
 
--- what was read of a body whose numbers of arguments fit
+-- the reading of a body whose numbers of arguments fit
 module _ (t : Tables) (b : Body) (read : IsBodyRead t b (reading_of t b)) where
   abbrev r : Reading
   r = reading_of t b

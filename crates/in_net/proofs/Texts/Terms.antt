@@ -38,7 +38,7 @@ pub record IsHeldIn (t : Tables) (u : Term) (r : Reading) : Type 0 where
 pub held_stays : (t : Tables) (u : Term) (r q : Reading) → Keeps r q → IsHeldIn t u r → IsHeldIn t u q
 held_stays t u r q keeps h = record { arguments = λ v w i part symbol is. keeps.settled _ _ _ (h.arguments v w i part symbol is); variables = λ v part variable. keeps.held v (h.variables v part variable) }
 
--- what reading a term does
+-- the reading after a term
 pub record IsReadOn (t : Tables) (b : Body) (free count : ℕ) (u : Term) (before after : Reading) (root : ℕ) : Type 0 where
   pub read : IsRead t b free count after
   pub more : List TextSpot
@@ -54,13 +54,13 @@ pub record IsReadOn (t : Tables) (b : Body) (free count : ℕ) (u : Term) (befor
   pub keeps : Keeps before after
   pub held : IsHeldIn t u after
 
--- what is joined of an agent that begins at a spot, before the argument at that port is read
+-- the links of an agent that begins at a spot, before the argument at that port is read
 pub record IsPast (first arity port : ℕ) (q : Reading) : Type 0 where
   pub alone : (j : ℕ) → port ≤ j → j ≤ arity → (nth_link (links_of q) (first + j)).to ≡ first + j
   pub root : (nth_link (links_of q) first).to ≡ first
   pub joined : (i : ℕ) → first < i → i < length q.spots → (i < first + port) ⊎ (first + arity < i) → (nth_link (links_of q) i).to ≢ i
 
--- what reading the rest of the arguments does
+-- the reading after the rest of the arguments
 pub record AreReadOn (t : Tables) (b : Body) (free count first port : ℕ) (u : Term) (args : List Term) (before after : Reading) : Type 0 where
   pub read : IsRead t b free count after
   pub more : List TextSpot

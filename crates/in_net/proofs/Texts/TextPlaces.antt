@@ -12,7 +12,7 @@ use Rattle.in_symbols.specs.Tables.{Tables}
 use Rattle.in_net.specs.TextNet as text
 use Rattle.in_net.specs.TextNet.{Body, LeftHead, IsPartOf, itself, deeper, IsTermOf, in_left, in_right, in_head, PlacedJoint, of_equation, of_argument, of_head, turned, Chain, one_placed, one_name, then_name, then_placed, Kind, place_of}
 
--- where names and ~ are in a body: the names of its heads' terms, and each equation's names and ~
+-- the places of names and ~ in a body: the names of its heads' terms, and each equation's names and ~
 abbrev pub text_places : Body → List Place
 text_places b = flat_map (λ h. flat_map term_places h.head.terms) b.heads ++ flat_map equation_places b.equations
 

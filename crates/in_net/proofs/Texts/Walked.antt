@@ -12,7 +12,7 @@ use Rattle.in_net.specs.declared.reading.Reading.{Reading}
 use Rattle.in_net.specs.Reading.{reader_of, reads_arguments, reads_equation, reads_equations, reads_on, with_named, with_joint, port_of, read_at, reading_names}
 use Rattle.in_net.proofs.Texts.Folds.{place_read, read_named}
 
--- what is read of a term, and what is known of it then
+-- the reading of a term, and its properties
 abbrev read_so : NetReader → Reading × ℕ → Term → NetReader × ReadTerm
 read_so n there u = (reads_on n there.0, read_at there.1 (out-Term u).name.place)
 

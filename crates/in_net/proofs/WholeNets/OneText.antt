@@ -71,7 +71,7 @@ single_wires t b good apart x y z p q v w =
     let at : IsLastOf q v.places = subst (IsLastOf q) (sym way.1) w.place in
     (way.0, apart p q (chain_place t b v.first v.last x y v.places p v.chain v.place.0) (chain_place t b w.first w.last x z w.places q w.chain w.place.0) (last_once v.places p q v.place at))
 
--- ---- agents stand apart
+-- ---- agents are apart
 
 nth_of : (as_ : List Agent) (i : ℕ) (p : Place) → slice_get (map (λ (a : Agent). a.place) as_) i ≡ Some p → (i < length as_) × ((nth_agent as_ i).place ≡ p)
 nth_of [] i p e = cc
@@ -153,7 +153,7 @@ misfit_place t b p (inr h) =
     (among_right h.left.head.name.place (map (λ (f : SourceFree). f.name.place) b.free) (map (λ (h : LeftHead). h.head.name.place) b.heads ++ text_places b)
     (among_left h.left.head.name.place (map (λ (h : LeftHead). h.head.name.place) b.heads) (text_places b) (in_map (λ (h : LeftHead). h.head.name.place) b.heads h.left h.there)))
 
--- the codes of faults of names, and where they stand
+-- the codes of faults of names, and their places
 abbrev IsNamed : Body → Code → Place → Type 0
 IsNamed b c p = IsOneOf E03 E07 E08 c × IsAmong p (all_places b)
 
@@ -169,7 +169,7 @@ one_name_fault most t b c d p q apart h k =
     let both = both_first c d p q (h.first d q k.stands) (k.first c p h.stands) in
     (code_is E03 E07 E08 (omega arith) (omega arith) c d a.0 e.0 both.1, apart p q a.1 e.1 both.0)
 
--- ---- where no fault stands, all is good
+-- ---- without a fault, all is good
 
 no_first : (most : ℕ) (t : Tables) (b : Body) → IsReady t b → HasNoNetFault most t b → None ≡ first_fault most t b (reading_of t b)
 no_first most t b ready none = by_fault (first_fault most t b (reading_of t b)) refl
@@ -280,7 +280,7 @@ one_rule_built s t i sized order tabled a b h k =
 
 -- ---- of the program of a text
 
--- what stands in its net is among what stands in it
+-- the places in a program's net are among those in the program
 net_apart : (s : Source) → BeginApart (source_places s) → BeginApart (all_places (body_of s.net))
 net_apart s apart p q h k e = apart p q (there p h) (there q k) e
   where

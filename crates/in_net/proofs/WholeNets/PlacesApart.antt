@@ -24,7 +24,7 @@ use Rattle.in_net.proofs.Wiring.Naming as naming
 use Rattle.in_net.proofs.Wiring.Naming.{AreOfText, IsLast, IsSecond, step_on}
 use Rattle.in_net.proofs.Wiring.Ways.{nth_seen, IsOpen, IsJoiningAt, no_place_before, spot_named}
 
--- of these spots, two that are joined at one place are joined to each other, or are one
+-- of these spots, two that are joined at one place are joined to each other, or are equal
 abbrev pub AreApart : ℕ → List Link → Type 0
 AreApart n links = (i j : ℕ) → i < n → j < n → (nth_link links i).to ≢ i → (nth_link links j).to ≢ j → (nth_link links i).place.from ≡ (nth_link links j).place.from → (i ≡ j) ⊎ ((nth_link links i).to ≡ j)
 
@@ -62,7 +62,7 @@ module _ (n a b : ℕ) (links new : List Link) (closed : Option Place) (a_in : a
     abbrev pb : Place
     pb = (nth_link links b).place
 
-    -- which of the joined spots it is, where it is joined
+    -- the joined spot that i is, if it is one of them
     data Which (i : ℕ) : Type 0 where
       is_p : i ≡ p → Which i
       is_q : i ≡ q → Which i

@@ -89,7 +89,7 @@ no_free (f ∷ fs) (suc k) q e = let less = no_free fs k q e in omega (arith, le
 abbrev agent_no : ℕ → AgentNo
 agent_no a = record { 0 = a }
 
--- the net of what was read and joined
+-- the net of a reading and its links
 module _ (t : Tables) (free : List FreeEnd) (r : Reading) (links : List Link) (numbered : IsNumbered t (length free) r) (joined : IsJoined r.spots links) (ends : AreJoinedTo r.spots links free) (wires : List Wire) (places : List Place) where
   abbrev net : Parts
   net = as_built (cells_of t r.spots links r.agents) free wires places
@@ -142,7 +142,7 @@ module _ (t : Tables) (free : List FreeEnd) (r : Reading) (links : List Link) (n
       by_spot (spot.End j) e m = at_end j (subst (λ s. IsEnd s j) (sym e) refl)
       by_spot (spot.Occurrence m_ x) e m = absurd m
 
-  -- each point of the net stands somewhere
+  -- each point of the net has a spot
   pub stands_at : (p q : Point) → partner_in net p ≡ Some q → (k : ℕ) × Stands r.spots p k × (q ≡ partner_of r.spots links k)
   stands_at (Port a i) q e =
       let lt = agent_in (cell_in net a.0) refl e in

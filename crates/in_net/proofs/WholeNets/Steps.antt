@@ -14,7 +14,7 @@ use Rattle.in_net.specs.declared.nets.Wire.{Wire}
 use Rattle.in_net.specs.Building.{partner_of, ends_from, cell_of, cells_of, free_end_of, free_ends_from, wire_of, wires_from}
 use Rattle.in_net.proofs.Wiring.Links.{from_place}
 
--- what is there, one more, and the rest
+-- some elements, one more, and the rest
 one_of : {X : Type 0} (xs new rest all : List X) (x : X) → new ≡ xs ++ x ∷ [] → xs ++ x ∷ rest ≡ all → new ++ rest ≡ all
 one_of xs new rest all x pushed e = ap (λ z. z ++ rest) pushed ∙ append_assoc xs (x ∷ []) rest ∙ e
 

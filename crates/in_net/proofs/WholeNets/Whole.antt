@@ -107,7 +107,7 @@ distinct_at (w ∷ ws) (suc i) zero d lt in_ h = absurd (omega (arith, lt))
 distinct_at (w ∷ ws) (suc i) (suc j) d lt in_ h = distinct_at ws i j d (omega (arith, lt)) (omega (arith, in_)) h.1
 
 module _ (t : Tables) (r : Reading) (links : List Link) (read : (p : Point) (k l : ℕ) → Stands r.spots p k → Stands r.spots p l → k ≡ l) (joined : IsJoined r.spots links) where
-  -- the and_parts points of a found wire, where they stand
+  -- the spots of the two points of a found wire
   one_stands : (from k : ℕ) (w : Wire) → IsFoundAt r.spots links from k w → Stands r.spots w.one k
   one_stands from k w f = record {
     inside = f.inside;

@@ -8,7 +8,7 @@ use Rattle.in_net.specs.declared.nets.Point.{Point}
 use Rattle.in_net.specs.declared.nets.Point.TheVariants.{Port, Free}
 use Rattle.in_net.specs.Parts.{Parts, IsWhole, IsPointOf, cell_in, partner_in, wire_in}
 
--- what has a partner is a point of the net
+-- a point with a partner is a point of the net
 pub has_partner : (n : Parts) (p q : Point) → partner_in n p ≡ Some q → IsPointOf n p
 has_partner n (Port x i) q e = by_cell (cell_in n x.0) e
   where

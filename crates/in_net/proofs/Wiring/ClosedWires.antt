@@ -92,7 +92,7 @@ module _ (t : Tables) (b : Body) (free count : ℕ) (r : Reading) (net : IsNetRe
       let le = all_among q ps round.last all (on.inside round.last (same.within round.last round.last_is.0)) in
       record { found = round.found; is = round.closed_is; no_later = omega (arith, le, round.no_later) }
 
-  -- what is found is no later than any closed wire
+  -- the found place is no later than any closed wire
   pub found_first : (q : Place) → IsClosedWireOf t b q → IsFoundBy (joining_of r).closed q
   found_first q wire = by_spot (nth_spot spots at.spot) refl (subst IsOccurrence (sym at.is) wire.occurs)
     where

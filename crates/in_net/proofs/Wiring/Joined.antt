@@ -31,7 +31,7 @@ use Rattle.in_net.proofs.Refusals.Standing.{IsStanding}
 use Rattle.in_net.proofs.Wiring.Ways.{nth_seen, IsMet, kind_of, IsOpen, IsWay, IsJoiningAt}
 use Rattle.in_net.proofs.Wiring.Naming.{AreOfText, IsLast, step_on}
 
--- ---- a name that occurs twice stands no third time
+-- ---- a name that occurs twice doesn't occur a third time
 
 often_named : (seen : List Seen) (at m : ℕ) (o : Option ℕ) → m < length seen → nth_seen seen m ≡ Often → nth_seen (count_name seen at o) m ≡ Often
 often_named seen at m None lt is = is

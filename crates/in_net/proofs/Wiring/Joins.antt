@@ -58,7 +58,7 @@ again_inside n (Once one) at lt = tt
 again_inside n Twice at lt = tt
 again_inside n Often at lt = tt
 
--- what one spot keeps
+-- the properties that one spot keeps
 pub record IsStepKept (j k : Joining) : Type 0 where
   pub links : length k.links ≡ length j.links
   pub seen : length k.seen ≡ length j.seen

@@ -1,4 +1,4 @@
--- A chain that begins where a closed wire goes through follows it.
+-- A chain that begins on a closed wire follows it.
 use Rattle.std.proofs.Common.{◌≡◌, ◌⊎◌, inl, inr, List, [], ◌∷◌, ◌++◌, sym, ap, subst}
 use Rattle.in_syntax.specs.declared.places.Place.{Place}
 use Rattle.in_symbols.specs.Tables.{Tables}
@@ -83,7 +83,7 @@ module _ (t : Tables) (b : Body) (r : Reading) (h : IsReadWhole t b r) where
       let on = named_on x x o ps joint loop in
       record { occurs = on.occurs; within = λ d m. absurd m; round = ps; loop = to_name t b placed o x o ps on.chain at joint; inside = λ d m. m }
 
-  -- a joint, and what follows it
+  -- a joint, and the chain after it
   after : (l : Kind) (o y : TextSpot) (one along ps qs : List Place) → ((d : Place) → IsAmong d one → IsAmong d ps) → ((d : Place) → IsAmong d qs → IsAmong d ps) → IsFollowed t b l y along qs → IsFollowed t b l y (one ++ along) ps
   after l o y one along ps qs first inside on = record {
     occurs = on.occurs;

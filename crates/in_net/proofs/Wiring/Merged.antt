@@ -1,4 +1,4 @@
--- What each spot is joined to after two spots of a name are joined.
+-- The partner of each spot after two spots of a name are joined.
 use Rattle.std.proofs.Common.{◌≡◌, ◌≢◌, ◌⊎◌, inl, inr, ℕ, ◌<◌, Bool, true, false, cond, ◌==◌, List, length, Option, Some, None, refl, sym, ◌∙◌, ap, subst, arith, set}
 use Rattle.std.proofs.lemmas.Bool.{eqb-true, eqb-false}
 use Rattle.std.proofs.lemmas.List.{length-set, get_or-set_same, get_or-set_other}
@@ -32,7 +32,7 @@ pub record IsClosed (links new : List Link) (a b : ℕ) (closed : Option Place) 
   pub other : (nth_link new b).to ≡ b
   pub rest : (i : ℕ) → i ≢ a → i ≢ b → nth_link new i ≡ nth_link links i
 
--- what they were joined to is joined: p and q
+-- their partners are joined: p and q
 pub record IsOpened (links new : List Link) (a b p q : ℕ) (closed : Option Place) : Type 0 where
   pub on : p ≢ b
   pub place : closed ≡ None

@@ -34,14 +34,14 @@ pub record AreOfText (t : Tables) (b : Body) (names : List (List ℕ)) (spots : 
 pub seen_other : (seen : List Seen) (m n : ℕ) (x : Seen) → n ≢ m → nth_seen (set seen m x) n ≡ nth_seen seen n
 seen_other seen m n x differ = get_or-set_other seen m n x Never differ
 
--- a spot of another name is an end as it was
+-- a spot of another name is an end as before
 open_back : (seen : List Seen) (m : ℕ) (x : Seen) (s : TextSpot) → counting.name_of s ≢ Some m → IsOpen (set seen m x) s → IsOpen seen s
 open_back seen m x (Port a i p) other h = tt
 open_back seen m x (End k) other h = tt
 open_back seen m x (Free k n) other h = subst IsMet (seen_other seen m n x (λ e. other (ap Some e))) h
 open_back seen m x (Occurrence n p) other h = λ met. h (subst IsMet (sym (seen_other seen m n x (λ e. other (ap Some e)))) met)
 
--- of two places the earlier is one
+-- the earlier of two places is one of the two
 earlier_is : (c d : Option Place) (p : Place) → earlier c d ≡ Some p → (c ≡ Some p) ⊎ (d ≡ Some p)
 earlier_is None d p e = inr e
 earlier_is (Some q) None p e = inl e
@@ -51,7 +51,7 @@ earlier_is (Some q) (Some r) p e = by_test (nat_lt r.from q.from) e
     by_test true e = inr e
     by_test false e = inl e
 
--- what holds of both holds of the earlier
+-- if both places have a property, the earlier one has it
 earlier_by : {P : Place → Type 0} (c d : Option Place) → ((x : Place) → c ≡ Some x → P x) → ((x : Place) → d ≡ Some x → P x) → (x : Place) → earlier c d ≡ Some x → P x
 earlier_by c d one other x e = elim (earlier_is c d x e) [ inl f ↦ one x f | inr f ↦ other x f ]
 
@@ -158,7 +158,7 @@ module _ (t : Tables) (b : Body) (names : List (List ℕ)) (spots : List TextSpo
   self_back : (new : List Link) (i : ℕ) → (nth_link new i).to ≡ i → Back new i
   self_back new i e = ap (nth_link new) e ∙ ap (λ k. let l : Link = record { to = k; place = (nth_link new i).place } in l) e
 
-  -- where the two are joined to nothing, and what was joined to nothing else is as it was
+  -- the two are joined to nothing now, and a spot that was joined to nothing before is unchanged, apart from the two
   module _ (new : List Link) (one : (n : ℕ) (x : Place) → nth_spot spots a ≡ Occurrence n x → (nth_link new a).to ≡ a) (other : (nth_link new at).to ≡ at)
       (rest : (i : ℕ) → i < length spots → i ≢ a → i ≢ at → (nth_link links i).to ≡ i → nth_link new i ≡ nth_link links i) where
     used_by : (i n : ℕ) (x : Place) → i < length spots → nth_spot spots i ≡ Occurrence n x → IsMet (nth_seen seen2 n) → (i ≡ a) ⊎ (i ≢ a) → (i ≡ at) ⊎ (i ≢ at) → (nth_link new i).to ≡ i
@@ -183,7 +183,7 @@ module _ (t : Tables) (b : Body) (names : List (List ℕ)) (spots : List TextSpo
     abbrev pub after_closed : Joining
     after_closed = record { links = new; seen = seen2; closed = earlier j.closed closed }
 
-    -- where it is closed, the first spot is an occurrence too
+    -- if it is closed, the first spot is an occurrence too
     pub first_occurs : (x : Place) × (nth_spot spots a ≡ Occurrence m x)
     first_occurs = by_spot (spot_named (nth_spot spots a) m two.first.1)
       where
@@ -276,7 +276,7 @@ module _ (t : Tables) (b : Body) (names : List (List ℕ)) (spots : List TextSpo
         go (inr e) (inr f) (inr g) (inl k) = is_a k (λ x. f (k ∙ x))
         go (inr e) (inr f) (inr g) (inr k) = is_else k g f e
 
-    -- what another spot is joined to is another one
+    -- the partner of another spot is another one
     to_else : (i : ℕ) → i < length spots → i ≢ a → i ≢ at → i ≢ p → i ≢ q → ((nth_link links i).to ≢ a) × ((nth_link links i).to ≢ at) × ((nth_link links i).to ≢ p) × ((nth_link links i).to ≢ q)
     to_else i lt x y z w = (
       (λ e. z (sym (to_of i lt) ∙ ap (λ k. (nth_link links k).to) e)),
@@ -348,7 +348,7 @@ module _ (t : Tables) (b : Body) (names : List (List ℕ)) (spots : List TextSpo
     way_at : IsWay t b (nth_spot spots at) (nth_spot spots q) pb
     way_at = h.way at at_in two.open_at
 
-    -- the spot that an end is joined to is an end, but for the two
+    -- the partner of an end is an end, apart from the two
     way_from : (i c : ℕ) → c < length spots → i ≡ (nth_link links c).to → IsOpen j.seen (nth_spot spots i) → IsWay t b (nth_spot spots i) (nth_spot spots c) (nth_link links c).place
     way_from i c lt e open_ =
         let there : nth_link links i ≡ record { to = c; place = (nth_link links c).place } = ap (nth_link links) e ∙ h.back c lt in
@@ -417,7 +417,7 @@ module _ (t : Tables) (b : Body) (names : List (List ℕ)) (spots : List TextSpo
       by_outcome (inl x) = closed_on (merged links a at).0 (merged links a at).1 (length-merged links a at ∙ h.size) x
       by_outcome (inr x) = opened_on (merged links a at).0 (merged links a at).1 (length-merged links a at ∙ h.size) x
 
--- a name's state that is put in the place of another, where it is met as that is
+-- a name's state that replaces another, if both are met or neither is
 module _ (seen : List Seen) (m : ℕ) (x : Seen) (there : nth_seen (set seen m x) m ≡ x) (same : IsMet x → IsMet (nth_seen seen m)) (still : IsMet (nth_seen seen m) → IsMet x) where
   pub met_back : (n : ℕ) → IsMet (nth_seen (set seen m x) n) → IsMet (nth_seen seen n)
   met_back n = by_name (cases_eq n m)

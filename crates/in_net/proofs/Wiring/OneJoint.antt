@@ -23,9 +23,9 @@ use Rattle.in_net.proofs.Wiring.Single.{IsReadWhole, one_spot, settled_of, one_p
 use Rattle.in_net.proofs.Wiring.Sound.{named}
 use Rattle.in_net.proofs.Texts.TextPlaces.{text_places, argument_of, part_place}
 
--- ---- what stands in two parts of places that rise
+-- ---- places in two parts of a list that rises
 
--- what stands in the first part is before what stands in the second one
+-- a place in the first part is before one in the second part
 rises_between : (xs ys : List Place) (p q : Place) → Rises (xs ++ ys) → IsAmong p xs → IsAmong q ys → p.from < q.from
 rises_between [] ys p q up h k = absurd h
 rises_between (x ∷ xs) ys p q up (inl e) k = subst (λ p. p.from < q.from) e (among_all (λ q. x.from < q.from) (xs ++ ys) q up.0 (among_right q xs ys k))
@@ -62,7 +62,7 @@ no_name_here f p up (inr h) same =
     let lt = among_all (λ q. f.tilde.from < q.from) (term_places f.right) p on.0 h in
     absurd (omega (arith, lt, same))
 
--- where a ~ stands, no name stands
+-- a place of a ~ isn't that of a name
 no_name : (es : List Equation) (e f : Equation) (p : Place) → Rises (flat_map equation_places es) → IsAmong e es → IsAmong f es → IsNameIn f p → e.tilde.from ≢ p.from
 no_name [] e f p up h k in_ same = absurd h
 no_name (g ∷ es) e f p up (inl a) (inl b) in_ same =
@@ -90,7 +90,7 @@ no_term b e v up among (IsTermOf.in_head g w there inside part) same =
     let lt = rises_between (head_names b) (flat_map equation_places b.equations) (place_of v) e.tilde up here (in_flat equation_places b.equations e e.tilde among (tilde_in e)) in
     absurd (omega (arith, lt, same))
 
--- ---- what kinds of joints there are
+-- ---- the kinds of joints
 
 -- the joint of an equation at its ~
 record IsEqual (t : Tables) (b : Body) (x y : text.TextSpot) (p : Place) : Type 0 where
@@ -139,12 +139,12 @@ root_of (End k) (Some n) p e = cc
 root_of (Occurrence m q) None p e = let place : q ≡ p = cc in ap (λ q. q ∷ []) place
 root_of (Occurrence m q) (Some n) p e = cc
 
--- the same joint, whichever of its spots is named first
+-- the same joint, with its spots in either order
 abbrev pub AreOne : text.TextSpot → text.TextSpot → text.TextSpot → text.TextSpot → Type 0
 AreOne x y u v = ((x ≡ u) × (y ≡ v)) ⊎ ((x ≡ v) × (y ≡ u))
 
 module _ (t : Tables) (b : Body) (r : Reading) (h : IsReadWhole t b r) (up : Rises (text_places b)) where
-  -- spots of terms whose first tokens are at one byte are one
+  -- spots of terms whose first tokens are at one byte are equal
   one_root : (x y z w : text.TextSpot) (p q : Place) → PlacedJoint t b x y p → PlacedJoint t b z w q → LeadsToTerm t b y p → LeadsToTerm t b w q → p.from ≡ q.from → y ≡ w
   one_root x y z w p q j k a c same =
       let s = settled_of t b r h x y p j in
@@ -193,11 +193,11 @@ module _ (t : Tables) (b : Body) (r : Reading) (h : IsReadWhole t b r) (up : Ris
   by_sorts x y z w p q j k same (leads_back a) (leads c) = let e = both_lead y x z w p q (turned x y p j) k a c same in inr (e.1, e.0)
   by_sorts x y z w p q j k same (leads_back a) (leads_back c) = let e = both_lead y x w z p q (turned x y p j) (turned z w q k) a c same in inl (e.1, e.0)
 
-  -- two joints at one place are one
+  -- two joints at one place are equal
   pub one_joint : (x y z w : text.TextSpot) (p q : Place) → PlacedJoint t b x y p → PlacedJoint t b z w q → p.from ≡ q.from → AreOne x y z w
   one_joint x y z w p q j k same = by_sorts x y z w p q j k same (sort_of t b x y p j) (sort_of t b z w q k)
 
-  -- so links of two spots are at one place only where they are one link
+  -- so links of two spots are at one place only if they are one link
   pub links_apart : (i j : ℕ) → i < length r.spots → j < length r.spots → (nth_link (links_of r) i).to ≢ i → (nth_link (links_of r) j).to ≢ j → (nth_link (links_of r) i).place.from ≡ (nth_link (links_of r) j).place.from →
       (i ≡ j) ⊎ ((nth_link (links_of r) i).to ≡ j)
   links_apart i j i_in j_in i_to j_to same =

@@ -1,4 +1,4 @@
--- The end of the chain from each occurrence whose name is joined: an end of what is joined so far, or round a closed wire.
+-- The end of the chain from each occurrence whose name is joined: an end of the joints so far, or round a closed wire.
 use Rattle.std.proofs.Common.{if◌then◌else◌, ◌≡◌, ◌≢◌, ◌⊎◌, inl, inr, ℕ, ◌<◌, ◌≤◌, Bool, true, false, nat_lt, ltb-true, ltb-false, List, ◌++◌, length, Option, Some, None, refl, sym, ◌∙◌, ap, subst, arith, set}
 use Rattle.std.proofs.lemmas.List.{get_or-set_same}
 use Rattle.std.proofs.lemmas.Option.{same_Some}
@@ -25,7 +25,7 @@ use Rattle.in_net.proofs.Wiring.Ways.{nth_seen, IsMet, kind_of, IsOpen, IsWay, I
 use Rattle.in_net.proofs.Wiring.Naming as naming
 use Rattle.in_net.proofs.Wiring.Naming.{AreOfText, IsLast, IsSecond, seen_other, met_back, met_on}
 
--- a closed wire goes through the spot, and the first one that is known stands no later
+-- a closed wire goes through the spot, and the first known one is no later
 pub record IsRound (t : Tables) (b : Body) (closed : Option Place) (s : text.TextSpot) : Type 0 where
   pub places : List Place
   pub loop : Chain t b of_name placed s s places
@@ -127,7 +127,7 @@ met_or_not (Once a) = inr (λ x. x)
 met_or_not Twice = inl tt
 met_or_not Often = inl tt
 
--- what an end is joined to is an end
+-- the partner of an end is an end
 linked_open : (t : Tables) (b : Body) (spots : List TextSpot) (count at : ℕ) (j : Joining) → IsJoiningAt t b spots count at j → (i : ℕ) → i < length spots → IsOpen j.seen (nth_spot spots i) → IsOpen j.seen (nth_spot spots (nth_link j.links i).to)
 linked_open t b spots count at j h i lt open_ = by_spot (nth_spot spots k) refl
   where
@@ -175,7 +175,7 @@ module _ (t : Tables) (b : Body) (names : List (List ℕ)) (spots : List TextSpo
   still_open : (i : ℕ) → i < length spots → i ≢ a → i ≢ at → IsOpen j.seen (nth_spot spots i) → IsOpen seen2 (nth_spot spots i)
   still_open i lt x y open_ = open_on j.seen m Twice (nth_spot spots i) (two.is_one_of i lt x y) open_
 
-  -- where chains lead on from the two, if they reached them or begin there
+  -- the ends of chains from the two, if they reached them or begin there
   module _ (closed : Option Place) where
     abbrev Out2 : text.TextSpot → Type 0
     Out2 s = IsOut t b spots seen2 (earlier j.closed closed) s

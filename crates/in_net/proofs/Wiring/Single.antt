@@ -28,7 +28,7 @@ use Rattle.in_net.proofs.Texts.NetRead.{IsBodyRead}
 use Rattle.in_net.proofs.Texts.Order.{root_place, root_places, same_root}
 use Rattle.in_net.proofs.Refusals.Counts.{other_is_one}
 
--- what was read of a body, and what makes its joints single
+-- the reading of a body, and the properties that make its joints single
 pub record IsReadWhole (t : Tables) (b : Body) (r : Reading) : Type 0 where
   pub body : IsBodyRead t b r
   pub names : AreNamesRead t b r
@@ -45,7 +45,7 @@ module _ (t : Tables) (b : Body) (r : Reading) (h : IsReadWhole t b r) where
   rising : (i j : ℕ) (p : Place) → i < length r.spots → j < length r.spots → root_place (nth_spot r.spots i) ≡ p ∷ [] → root_place (nth_spot r.spots j) ≡ p ∷ [] → i ≡ j
   rising i j p = same_root r.spots i j p h.rises
 
-  -- agents of one place are one
+  -- agents of one place are equal
   first_of : (k a i : ℕ) (p : Place) → k < length r.spots → nth_spot r.spots k ≡ Port a i p → ((nth_agent r.agents a).first < length r.spots) × (root_place (nth_spot r.spots (nth_agent r.agents a).first) ≡ p ∷ [])
   first_of k a i p lt is =
       let port = h.body.net.read.numbered.port k a i p lt is in
@@ -239,7 +239,7 @@ module _ (t : Tables) (b : Body) (r : Reading) (h : IsReadWhole t b r) where
   named_port (End k) m p i e f = cc
   named_port (Occurrence l q) m p i e f = cc
 
-  -- a port has no joint of a name, nor has a boundary end, a free end none of a place
+  -- a port and a boundary end have no joint of a name, and a free end has none of a place
   port_unnamed : (p : Place) (i : ℕ) (y : text.TextSpot) → NameJoint t b (text.port_at p i) y → ⊥
   port_unnamed p i y j = let s = twin_of (text.port_at p i) y j in named_port (nth_spot r.spots s.one) s.number p i s.one_named s.one_is
 
@@ -285,7 +285,7 @@ module _ (t : Tables) (b : Body) (r : Reading) (h : IsReadWhole t b r) where
   first_kind _ _ (text.free_end k) _ _ no_ (Chain.then_name l _ o y q ps joint occurs rest) = kind_bound k (placed_bound k o q joint)
   first_kind _ _ (text.free_end k) _ _ no_ (Chain.then_placed l _ o y ps joint occurs rest) = kind_free k (named_free k o joint)
 
-  -- two chains that begin alike and can't be longer are one
+  -- two chains that begin alike and can't be longer are equal
   pub one_chain : (k l m : Kind) (x y z : text.TextSpot) (ps qs : List Place) → (IsOccurrence y → ⊥) → (IsOccurrence z → ⊥) → Chain t b k l x y ps → Chain t b k m x z qs → (y ≡ z) × (ps ≡ qs)
   one_chain _ _ _ x _ _ _ _ no_y no_z (Chain.one_placed _ y p j) (Chain.one_placed _ z q g) = let same = one_placed_joint x y z p q j g in (same.0, ap (λ p. p ∷ []) same.1)
   one_chain _ _ _ x _ _ _ _ no_y no_z (Chain.one_placed _ y p j) (Chain.then_name m _ o z q qs g occurs rest) = absurd (no_y (subst IsOccurrence (sym (one_placed_joint x y o p q j g).0) occurs))

@@ -1,4 +1,4 @@
--- What two spots of a reading are joined by is a joint of the text.
+-- Two spots that a reading joins have a joint in the text.
 use Rattle.std.proofs.Common.{◌≡◌, ◌≢◌, ◌⊎◌, inl, inr, ℕ, ◌+◌, ◌<◌, ◌≤◌, List, ◌++◌, length, length-append, sym, ◌∙◌, ap, subst, arith}
 use Rattle.std.proofs.lemmas.Bool.{cases_eq}
 use Rattle.in_syntax.specs.declared.places.Place.{Place}
@@ -23,7 +23,7 @@ named (Occurrence m p) = text.occurrence p
 abbrev pub joined : List TextSpot → List TextJoint → List Link
 joined spots js = with_joints (self_links 0 (length spots)) js
 
--- what a spot is joined to leads back, and they are joined in the text, at that place
+-- the partner of a spot leads back, and the text joins them at that place
 pub record IsLinked (t : Tables) (b : Body) (spots : List TextSpot) (links : List Link) : Type 0 where
   pub inside : LeadToSpots spots links
   pub back : LeadBack spots links

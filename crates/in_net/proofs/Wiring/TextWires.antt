@@ -58,7 +58,7 @@ module _ (t : Tables) (b : Body) (free : List FreeEnd) (r : Reading) (links : Li
   abbrev net : Parts
   net = as_built (cells_of t r.spots links r.agents) free wires (map (λ a. a.place) r.agents)
 
-  -- the spot of the text that a point is
+  -- the spot of the text for a point
   named_point : (p : Point) (k : ℕ) → Stands r.spots p k → named (nth_spot r.spots k) ≡ spot_at net p
   named_point p k h = subst (λ p. named (nth_spot r.spots k) ≡ spot_at net p) h.is (by_spot (nth_spot r.spots k) refl h.point)
     where
@@ -134,9 +134,9 @@ module _ (t : Tables) (b : Body) (free : List FreeEnd) (r : Reading) (links : Li
         comes_before t (length free) r numbered x y found.spot (nth_link links found.spot).to found.one found.other found.later;
   }
 
--- ---- what is read of a body
+-- ---- the reading of a body
 
--- what is known of a body before it is read, and of its numbers: as much is read as there is, and each name twice
+-- a body before it is read, and its numbers: as much is read as there is, and each name twice
 pub record IsGood (t : Tables) (b : Body) : Type 0 where
   pub ready : IsReady t b
   pub small : HaveFewPorts t

@@ -33,7 +33,7 @@ kind_of (Free k m) = of_name
 kind_of (End k) = placed
 kind_of (Occurrence m p) = placed
 
--- a spot is an end of what is joined so far: a port, a boundary end, a free end whose name was met, an occurrence whose name wasn't
+-- a spot is an end of the joints so far: a port, a boundary end, a free end whose name was met, or an occurrence whose name wasn't
 abbrev pub IsOpen : List Seen → TextSpot → Type 0
 IsOpen seen (Port a i p) = Unit {0}
 IsOpen seen (Free k m) = IsMet (nth_seen seen m)
@@ -46,7 +46,7 @@ pub record IsWay (t : Tables) (b : Body) (s u : TextSpot) (place : Place) : Type
   pub chain : Chain t b (kind_of s) (kind_of u) (named s) (named u) places
   pub last : IsLastOf place places
 
--- what is joined before a spot
+-- the joints before a spot
 pub record IsJoiningAt (t : Tables) (b : Body) (spots : List TextSpot) (names at : ℕ) (j : Joining) : Type 0 where
   pub size : length j.links ≡ length spots
   pub count : length j.seen ≡ names
@@ -85,7 +85,7 @@ free_joint t b names j m q h k =
     subst (λ y. NameJoint t b (text.free_end j) (text.occurrence y)) k.place (NameJoint.of_free j h.end k.term h.declared k.there k.variable (sym k.name ∙ h.name))
 
 module _ (t : Tables) (b : Body) (s u x y : TextSpot) (m : ℕ) (q : Place) (pa pb : Place) (y_is : y ≡ Occurrence m q) where
-  -- x and y are the spots of the name, s and u what they lead to
+  -- x and y are the spots of the name, s and u their partners
   pub on_through : (p : Place) → x ≡ Occurrence m p → NameJoint t b (named x) (named y) → IsWay t b s x pa → IsWay t b y u pb → IsWay t b s u (later_of pa pb)
   on_through p x_is joint before after =
       let before_chain : Chain t b (kind_of s) placed (named s) (text.occurrence p) before.places = subst (λ z. Chain t b (kind_of s) (kind_of z) (named s) (named z) before.places) x_is before.chain in

@@ -1,4 +1,4 @@
--- At each wire, a part's ends for the one point and for the other differ as its ports do.
+-- At each wire, a part's ends for one point and for the other differ as its ports do.
 use Rattle.std.proofs.Common.{◌≡◌, ◌+◌, ℕ, Bool, true, false, ◌||◌, nat_eq, ◌<◌, length, List, [], ◌∷◌, refl, sym, ap, inl, inr, ◌∙◌, arith}
 use Rattle.in_open_nets.specs.declared.open_nets.OpenPoint.{OpenPoint}
 use Rattle.in_open_nets.specs.Constructions.{IsIn}
@@ -53,7 +53,7 @@ module _ (o : OpenNet) where
   or_or true c = refl
   or_or false c = refl
 
-  -- a step's part is balanced where those that it names are
+  -- a step's part is balanced if those that it names are
   pub step_balanced : (parts : List Part) (k : ℕ) (step : Step) (xs : List Part) (x : Part) → AreEarlier parts k (named step) xs → ShareNothing xs → AllBalanced xs → Joins o step xs x → ((n : ℕ) → is_among n (own_nodes step) ≡ true → nodes_of xs n ≡ false) → ((n : ℕ) → x.nodes n ≡ all_nodes step xs n) → IsBalanced x.ends x.nodes
   step_balanced parts k Empty [] x e s b j fresh nodes w p q h =
       let f = none_same x.nodes p q nodes in

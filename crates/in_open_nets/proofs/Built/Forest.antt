@@ -85,7 +85,7 @@ or_sum false false f = refl
 abbrev pub Agrees : ℕ → List Part → List Part → Type 0
 Agrees k parts all = (i : ℕ) (y : Part) → slice_get parts i ≡ Some y → slice_get all (k + i) ≡ Some y
 
--- steps from number k on, what they build, and those of them that no step names
+-- steps from number k on, their parts, and those that no step names
 pub record Forest (o : OpenNet) (k : ℕ) (steps : List Step) (parts : List Part) (roots : List ℕ) (tops : List Part) : Type 0 where
   pub same : length parts ≡ length steps
   pub each : (all : List Part) → Agrees k parts all → (i : ℕ) (step : Step) → slice_get steps i ≡ Some step → (y : Part) × (slice_get parts i ≡ Some y) × BuildsPart o all (k + i) step y

@@ -1,4 +1,4 @@
--- What splits is built by the constructions.
+-- A set of nodes that splits is built by the constructions.
 use Rattle.std.proofs.Common.{◌≡◌, ◌≢◌, ◌⊎◌, ◌↔◌, ◌<◌, ◌≤◌, ◌+◌, ℕ, zero, suc, Bool, true, false, cond, ◌&&◌, ◌||◌, not, nat_eq, Option, Some, None, IsSomeAnd, length, slice_get, refl, sym, subst, ap, inl, inr, ◌∙◌, eq-eqb, eqb-true, ne_eqb, arith}
 use mathlib.Core.Path.{fun_ext}
 use Rattle.in_open_nets.specs.declared.open_nets.OpenPoint.TheVariants.{Port}
@@ -35,7 +35,7 @@ agent_or_class (Some m) x e = go m.node
     go (AgentNode y) = inl tt
     go (ClassNode y c) = inr tt
 
--- what is closed under the constructions, where a cut is at the principal port of an agent or at a class node
+-- a property that the constructions keep, if a cut is at the principal port of an agent or at a class node
 pub record Constructions (o : OpenNet) (B : (ℕ → Bool) → Type 0) : Type 0 where
   pub empty : (s : ℕ → Bool) → ((n : ℕ) → s n ≡ false) → B s
   pub given : (n : ℕ) (s : ℕ → Bool) → IsClass o n → ((m : ℕ) → IsIn m s ↔ (m ≡ n)) → ((i j w : ℕ) → IsWire o w (Port n i) (Port n j) → ⊥) → B s
@@ -101,7 +101,7 @@ module _ (o : OpenNet) (net : IsOpenNet o) (BuiltSet : (ℕ → Bool) → Type 0
       | inr d ↦ or_right (test (link b j)) (below b j) (below_self b j (omega arith) h)
     ]
 
-    -- components, each joined to a by one wire at most, beside a
+    -- components, each joined to a by at most one wire, beside a
     module _ (a t : ℕ → Bool) (a_in : (m : ℕ) → IsIn m a → m < length o.nodes) (apart : (m : ℕ) → IsIn m a → IsIn m t → ⊥) (inside : (m : ℕ) → IsIn m t → Without n s m) (closed : (l m : ℕ) → IsIn l t → Link l m → IsIn m t) (one : (w l i m j v l' i' m' j' : ℕ) → IsIn l a → IsIn m t → IsIn l' a → IsIn m' t → Link m m' → Wired w l i m j → Wired v l' i' m' j' → ((l ≡ l') × (i ≡ i')) × ((m ≡ m') × (j ≡ j'))) (firm : (w l i m j : ℕ) → IsIn l a → IsIn m t → Wired w l i m j → IsAgent o l → i ≡ 0) (built : BuiltSet a) (nets : (m : ℕ) → IsIn m t → BuiltSet (component o net s in_net n m)) where
       upto : ℕ → ℕ → Bool
       upto b j = a j || (t j && below b j)
@@ -249,7 +249,7 @@ module _ (o : OpenNet) (net : IsOpenNet o) (BuiltSet : (ℕ → Bool) → Type 0
       touch_class : (i j m : ℕ) → Touch i m → Touch j m → class_in o n i ≡ class_in o n j
       touch_class i j m t u = splits.touched i j t.1 u.1 t.2 u.2 (t.0, t.3) (u.0, u.3) (join t.1 m u.1 t.4 (back u.1 m u.4))
 
-      -- the class of the ports below b that touch the component of m; else 0
+      -- the class of the ports below b that touch the component of m; 0 if there is none
       abbrev class_below : ℕ → ℕ → ℕ
       class_below zero m = 0
       class_below (suc b) m = cond (test (touch b m)) (class_in o n b) (class_below b m)
@@ -288,7 +288,7 @@ module _ (o : OpenNet) (net : IsOpenNet o) (BuiltSet : (ℕ → Bool) → Type 0
       part_touched : (i m : ℕ) → Touch i m → part m ≡ class_in o n i
       part_touched i m t = class_touched (ports_of o n) i m (in_ports o net t.0 n i (Port t.1 t.2) t.3) t
 
-      -- the nodes but n that are numbered c
+      -- the nodes numbered c, without n
       abbrev of_class : ℕ → ℕ → Bool
       of_class c m = test (without o net s in_net n m) && nat_eq (part m) c
 
@@ -373,7 +373,7 @@ module _ (o : OpenNet) (net : IsOpenNet o) (BuiltSet : (ℕ → Bool) → Type 0
           other : (m : ℕ) → IsIn m joined → m ≢ n → Without n s m × (part m ≢ 0)
           other m h d = elim (joined_cases m h) [ inl e ↦ absurd (d e) | inr e ↦ e ]
 
-          -- from these only n's principal port leads on
+          -- of these only n's principal port leads on
           leads : (w l i m j : ℕ) → IsIn l joined → IsIn m (of_class 0) → Wired w l i m j → (l ≡ n) × (i ≡ 0)
           leads w l i m j a b h = elim (joined_cases l a) [
             | inl e ↦

@@ -20,7 +20,7 @@ module _ (g : Graph) (same : Discrete g.Node) (E L : g.Node × ℕ → Type 0) (
   abbrev AreIn : (g.Node → Bool) → List (Passage g.Node) → Type 0
   AreIn s ps = AllByRecursion (λ q. IsIn q.node s) ps
 
-  -- a walk that begins in X stays there, where no wire leads from X to another node of s
+  -- a walk that begins in X stays there, if no wire leads from X to another node of s
   stay : (S X : g.Node → Type 0) → ((u v : g.Node × ℕ) → g.Wire u v → X u.0 → S v.0 → X v.0) → (from to : g.Node × ℕ) (ps : List (Passage g.Node)) → Walk g E L from ps to → X from.0 → AllByRecursion (λ q. S q.node) ps → AllByRecursion (λ q. X q.node) ps
   stay S X closed from to [] w x h = tt
   stay S X closed from to (p ∷ ps) w x h =
@@ -91,7 +91,7 @@ module _ (g : Graph) (same : Discrete g.Node) (E L : g.Node × ℕ → Type 0) (
   not_from n s part many r wire_back c h e =
       through c.first.node s part many (subst (λ v. IsGraft g v many s part) e r) wire_back c.first.enter c.first.leave c.rest c.closed h.1 c.leaves c.enters
 
-  -- a closed walk in a, or in b, where at most one wire joins the two
+  -- a closed walk in a, or in b, if at most one wire joins the two
   in_parts : (s a b : g.Node → Bool) → AreParts s a b → ((u v : g.Node × ℕ) → g.Wire u v → g.Wire v u) → (p q : g.Node × ℕ) → g.Wire p q → ((u v : g.Node × ℕ) → g.Wire u v → IsIn u.0 a → IsIn v.0 b → (u ≡ p) × (v ≡ q)) → (c : Circuit g E L) → AreIn s (c.first ∷ c.rest) → AreIn a (c.first ∷ c.rest) ⊎ AreIn b (c.first ∷ c.rest)
   in_parts s a b parts wire_back p q joined only c h =
       let only_back : (u v : g.Node × ℕ) → g.Wire u v → IsIn u.0 b → IsIn v.0 a → (u ≡ q) × (v ≡ p) =
@@ -137,7 +137,7 @@ module _ (g : Graph) (same : Discrete g.Node) (E L : g.Node × ℕ → Type 0) (
       go (no e) (inr f) net =
           net (r.others c.first.node h.0 (λ i. e (sym i))) (r.most c.first.node h.0 (λ i. e (sym i))) (avoid n s part (classes n) r c.first c.rest (entered c.first) c.closed h (e, f))
 
--- the nodes of a walk and the one where it ends are where each wire ends
+-- if each wire ends in s, the nodes of a walk and its end are in s
 leads_in : (g : Graph) (s : g.Node → Bool) → ((u v : g.Node × ℕ) → g.Wire u v → IsIn v.0 s) → (from to : g.Node × ℕ) (ps : List (Passage g.Node)) → LeadsThrough g from ps to → AllByRecursion (λ q. IsIn q.node s) ps × IsIn to.0 s
 leads_in g s all from to [] w = (tt, all from to w)
 leads_in g s all from to (p ∷ ps) w =

@@ -40,7 +40,7 @@ find_port : (s : ℕ → Bool) (q : OpenPoint) → ((m : ℕ) × (j : ℕ) × (q
 find_port s (Port m j) = elim (cases_Bool (s m)) [ inl h ↦ inl (m, j, refl, h) | inr h ↦ inr (λ n i e k. not_both (s m) (subst (λ z. IsIn z s) (sym (port_place m n j i e).0) k) h) ]
 find_port s (Free k) = inr (λ n i e h. let e' : ◌≡◌ {A = OpenPoint} (Free k) (Port n i) = e in cc)
 
--- the number of the first part with the node, counted from c on; else 0
+-- the number of the first part with the node, counted from c on; 0 if there is none
 abbrev part_from : ℕ → List Part → ℕ → ℕ
 part_from c [] m = 0
 part_from c (x ∷ xs) m = cond (x.nodes m) c (part_from (suc c) xs m)
@@ -379,7 +379,7 @@ module _ (o : OpenNet) (net : IsOpenNet o) where
         | inr k ↦ cc
       ]
 
-  -- a step's part is good where those that it names are
+  -- a step's part is good if those that it names are
   pub step_good : (ps : List Part) (k : ℕ) (step : Step) (xs : List Part) (x : Part) → AreEarlier ps k (named step) xs → ShareNothing xs → AllGood xs → Joins o step xs x → ((n : ℕ) → is_among n (own_nodes step) ≡ true → nodes_of xs n ≡ false) → ((n : ℕ) → x.nodes n ≡ all_nodes o step xs n) → IsClean x → Built (open_graph o) (IsAgent o) (classes_of o) x.nodes
   step_good ps k Empty [] x e s b j fresh nodes clean = empty x.nodes nodes
   step_good ps k Empty (y ∷ ys) x e s b j fresh nodes clean = absurd e

@@ -120,7 +120,7 @@ module _ (o : OpenNet) (net : IsOpenNet o) (steps : List Step) (d : IsDerivation
         step_good o net d.parts k step build.from r.0 build.earlier build.apart good build.joins fresh build.nodes,
       )
 
-  -- the last step has what a step has
+  -- the last step has the nodes of each step
   climb : (b j : ℕ) → length steps ≤ j + b → (x : Part) → slice_get d.parts j ≡ Some x → (m : ℕ) → IsIn m x.nodes → j < length steps → (z : Part) → slice_get d.parts (length steps - 1) ≡ Some z → IsIn m z.nodes
   climb zero j l x g m h jl z last = absurd (omega arith)
   climb (suc b) j l x g m h jl z last = elim (eqb_tells (suc j) (length steps)) [

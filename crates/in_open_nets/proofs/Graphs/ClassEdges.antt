@@ -55,7 +55,7 @@ entry hubs m = slice_index_or hubs m no_hub
 abbrev IsEdgeAt : HubNumbers → List (ℕ × ℕ) → ℕ → Type 0
 IsEdgeAt h edges k = slice_get edges (h.edge + k) ≡ Some (h.vertex, h.vertex + 1 + k)
 
--- .. where none of the part is between
+-- .. if none of the part is between
 module _ (o : OpenNet) (part : List Bool) (b c : ℕ) (up : b ≤ c) (none : (m : ℕ) → m < c → IsIn m (nodes_in part) → m < b) (hubs : List HubNumbers) where
   pub numbers_up : (count : ℕ) → HaveNumbers o part b hubs count → HaveNumbers o part c hubs count
   numbers_up count n = record {

@@ -5,7 +5,7 @@ use Rattle.std.proofs.lemmas.List.{set-get_or}
 use Rattle.in_open_nets.specs.Constructions.{IsIn}
 use Rattle.in_open_nets.specs.Members.{nodes_in, missing}
 
--- a list is made as long as asked for, of one item
+-- a list is made of one item, as long as requested
 module _ {X : Type 0} (b : X) where
   pub resized : (n k : ℕ) → k ≡ n → take n [] ++ replicate k b ≡ replicate n b
   resized zero k e = ap (λ z. replicate z b) e

@@ -14,7 +14,7 @@ module _ (o : OpenNet) (part : List Bool) (ns : List ℕ) (l : IsListed (nodes_i
   pub next_small : length part ≡ length o.nodes → (i : ℕ) → i < length ns → get_or ns i 0 < length o.nodes
   next_small size i b = let a = in_length part (get_or ns i 0) (next_in (nodes_in part) ns l i b) in omega arith
 
-  -- none splits it but the next one
+  -- if no earlier node splits the part, and the next one does, it is the first
   pub first_next : (i : ℕ) → i < length ns → NoneSplits o part (past ns i) → SplitsIt o part (get_or ns i 0) → IsFirst o part (get_or ns i 0)
   first_next i b none s = record {
     here = s.0;

@@ -56,7 +56,7 @@ module _ (ms : List ℕ) (last absent : ℕ) (h : AreMarks ms last absent) (n : 
   pub put_out : (k : ℕ) → nodes_in (marked last ms) n ≡ true → k ≡ absent + 1 → AreMarks (set ms n 0) last k
   put_out k here e = put 0 k (omega arith) (let a = more here in let b = ap missing marked_out in omega arith)
 
--- none has a mark that comes after the last one
+-- no number has a mark after the last one
 pub none_marked : (last : ℕ) (ms : List ℕ) → ((n : ℕ) → get_or ms n 0 ≤ last) → (n : ℕ) → nodes_in (marked (last + 1) ms) n ≡ false
 none_marked last [] most n = refl
 none_marked last (k ∷ ks) most zero = ne_eqb k (last + 1) (λ e. let a = most 0 in omega arith)

@@ -47,7 +47,7 @@ last low (n ∷ []) m r (inr h) = absurd h
 last low (n ∷ k ∷ ns) m r (inl e) = let a = last (suc n) (k ∷ ns) k r.1 (inl refl) in let b = r.1.0 in omega arith
 last low (n ∷ k ∷ ns) m r (inr h) = last (suc n) (k ∷ ns) m r.1 h
 
--- they rise, and are the numbers for which this holds
+-- the numbers rise, and are those with this property
 pub record Lists (P : ℕ → Type 0) (ns : List ℕ) : Type 0 where
   pub rises : RisesThrough 0 ns
   pub all : (n : ℕ) → P n ↔ Among n ns
@@ -100,7 +100,7 @@ module _ (nodes : ℕ → Bool) (ns : List ℕ) (l : IsListed nodes ns) where
     | inr d ↦ let e = past_next ns i in inl (none_between i m b h (omega arith))
   ]
 
-  -- what holds of no member, or of all that are no members, and of the members one after another
+  -- a property of no member, or of all numbers that are no members, and of the members one after another
   module _ (P : ℕ → Type 0) (out : (m : ℕ) → (IsIn m nodes → ⊥) → P m) where
     pub holds_before : (i : ℕ) → i < length ns → ((m : ℕ) → m < past ns i → P m) → (m : ℕ) → m < get_or ns i 0 → P m
     holds_before i b h m k = elim (at_most (past ns i) m) [
@@ -214,7 +214,7 @@ tests_in count (n ∷ ns) small m =
 pub tests_listed : (count : ℕ) (ns : List ℕ) → RisesThrough 0 ns → ((n : ℕ) → Among n ns → n < count) → IsListed (nodes_in (tests_of count ns)) ns
 tests_listed count ns r small = record { rises = r; all = tests_in count ns small }
 
--- what lists a set has its tests
+-- a list of a set has the set's tests
 module _ (tests : List Bool) (ns : List ℕ) (l : IsListed (nodes_in tests) ns) where
   small : (n : ℕ) → Among n ns → n < length tests
   small n h = in_length tests n ((l.all n).1 h)

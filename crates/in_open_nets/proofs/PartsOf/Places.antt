@@ -4,13 +4,13 @@ use Rattle.std.proofs.Math.ListN.{set}
 use Rattle.std.proofs.lemmas.List.{get_or-set_same, get_or-set_other}
 use Rattle.in_open_nets.specs.Members.{nodes_in}
 
--- the sets are united below k, and as they were from there on
+-- the sets are united below k, and unchanged from there on
 pub record IsUnitedTo (more old new : List Bool) (k : ℕ) : Type 0 where
   pub size : length new ≡ length old
   pub below : (n : ℕ) → n < k → nodes_in new n ≡ (nodes_in more n || nodes_in old n)
   pub above : (n : ℕ) → (n < k → ⊥) → nodes_in new n ≡ nodes_in old n
 
--- what is at the places of a list with one place set
+-- the element at a place of a list with one place set
 pub at_set : {X : Type 0} (xs : List X) (k : ℕ) (y d : X) (n : ℕ) → k < length xs → n ≡ k → get_or (set xs k y) n d ≡ y
 at_set xs k y d n l e = subst (λ z. get_or (set xs k y) z d ≡ y) (sym e) (get_or-set_same xs k y d l)
 

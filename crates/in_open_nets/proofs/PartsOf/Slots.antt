@@ -50,7 +50,7 @@ module _ (o : OpenNet) (orderly : IsOrderly o) where
   length_led slots w (Port n i) q = length-set slots (n * (max_ports + 1) + i) (Some (w, q))
   length_led slots w (Free k) q = refl
 
-  -- what a slot has after a write
+  -- the content of a slot after a write
   at_led : (slots : List Slot) (w : ℕ) (n i : ℕ) (q : OpenPoint) → n * (max_ports + 1) + i < length slots → i < max_ports + 1 → (m j : ℕ) → j < max_ports + 1
       → ((m ≡ n) × (j ≡ i) × (slot_at (led slots w (Port n i) q) m j ≡ Some (w, q))) ⊎ (slot_at (led slots w (Port n i) q) m j ≡ slot_at slots m j)
   at_led slots w n i q l a m j b = elim (same_nat (m * (max_ports + 1) + j) (n * (max_ports + 1) + i)) [
@@ -118,7 +118,7 @@ module _ (o : OpenNet) (orderly : IsOrderly o) where
         ];
       }
 
-  -- what leads to a set of nodes
+  -- the wires that lead to a set of nodes
   pub neighbour_free : (within : List Bool) (w n i k : ℕ) → IsWire o w (Port n i) (Free k) → IsNeighbour o within n i None
   neighbour_free within w n i k h v l j g m = let e = (orderly.net.once w v (Port n i) (Free k) (Port l j) h g).1 in cc
 

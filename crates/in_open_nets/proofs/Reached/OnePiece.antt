@@ -95,7 +95,7 @@ module _ (o : OpenNet) (part rest : List Bool) (n : ℕ) (left : IsRest n part r
     ]
   ]
 
--- what n leaves of a set lacks at most one node more
+-- a set without n lacks at most one node more
 rest_missing : (part rest : List Bool) (n : ℕ) → length part ≡ length rest → IsRest n part rest → missing rest ≤ missing part + 1
 rest_missing part rest n size left =
     let fewer = missing_fewer (set part n false) rest (length-set part n false ∙ size) inside in
@@ -113,6 +113,6 @@ rest_missing part rest n size left =
       | inr d ↦ (left k).1 (sym (at_other part n false false k d) ∙ h, d)
     ]
 
--- where two nodes lack, the set was not the whole net
+-- if it lacks two nodes, the set was not the whole net
 pub left_piece : (o : OpenNet) (n : ℕ) (rest : List Bool) → IsLeftOf o n rest → 1 < missing rest → AreNeighboursJoined o rest n → IsOnePiece o rest
 left_piece o n rest h few joins = let a = rest_missing h.0 rest n h.1 h.2 in rest_piece o h.0 rest n h.2 (h.3 (omega arith)) joins

@@ -36,7 +36,7 @@ among_cases [] k x (inr h) = absurd h
 among_cases (y ∷ ys) k x (inl e) = inl (inl e)
 among_cases (y ∷ ys) k x (inr h) = elim (among_cases ys k x h) [ inl g ↦ inl (inr g) | inr g ↦ inr g ]
 
--- what is listed from a place on
+-- the rest of a list from a place on
 pub drop_last : (k : ℕ) (xs : List ℕ) (y : ℕ) → k ≤ length xs → drop k (xs ++ y ∷ []) ≡ drop k xs ++ y ∷ []
 drop_last zero xs y l = refl
 drop_last (suc k) [] y l = absurd (omega arith)

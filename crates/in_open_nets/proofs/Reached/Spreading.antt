@@ -27,7 +27,7 @@ module _ (o : OpenNet) (orderly : IsOrderly o) (within : List Bool) (n b : ℕ) 
   goes_free : (w k : ℕ) → IsWire o w (Port n b) (Free k) → Spreads o within n (b + 1) r q r' q'
   goes_free w k h = spread_past o orderly.net within n b r q r' q' s (neighbour_free o orderly within w n b k h)
 
--- ---- wherever the search is in what it has found
+-- ---- for any place of the search among the found nodes
 
 pub over_start : (o : OpenNet) → IsOrderly o → (within : List Bool) (n : ℕ) (r : List Bool) (q : List ℕ) → SpreadsOver o within n 0 r q r q
 over_start o orderly within n r q = record { size = refl; longer = omega arith; each = λ place l. spread_start o orderly.net within n r (drop place q) }

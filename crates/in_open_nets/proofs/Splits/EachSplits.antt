@@ -8,14 +8,14 @@ use Rattle.in_open_nets.proofs.Reached.Links.{link_first, link_last, link_map}
 use Rattle.in_open_nets.proofs.PartsOf.Sums.{both_left, both_right, not_both, swap_parts}
 
 module _ (g : Graph) (wire_back : (u v : g.Node × ℕ) → g.Wire u v → g.Wire v u) where
-  -- links between nodes of P stay in Q, where wires do
+  -- links between nodes of P stay in Q, if wires do
   link_stay : (P Q : g.Node → Type 0) → ((l m : g.Node) (i j : ℕ) → g.Wire (l, i) (m, j) → P l → P m → Q l → Q m) → (R : g.Node → Type 0) → ((n : g.Node) → P n → Q n → R n) → (u v : g.Node) → Q u → Linked g P u v → Linked g R u v × Q v
   link_stay P Q closed R both u v q (alone _ h) = (alone u (both u h q), q)
   link_stay P Q closed R both u v q (onward _ m _ i j h w k) =
       let r = link_stay P Q closed R both m v (closed u m i j w h (link_first g P m v k) q) k in
       (onward u m v i j (both u h q) w r.0, r.1)
 
-  -- what splits the part of t in Q splits t, where no wire of t leaves Q
+  -- a node that splits the part of t in Q splits t, if no wire of t leaves Q
   lift : (t part : g.Node → Bool) (Q : g.Node → Type 0) → ((k : g.Node) → IsIn k t → Q k → IsIn k part) → ((l m : g.Node) (i j : ℕ) → g.Wire (l, i) (m, j) → IsIn l t → IsIn m t → Q l → Q m) → (n : g.Node) → IsIn n t → Q n → SplitsAt g n part → SplitsAt g n t
   lift t part Q both closed n here q s = record {
     own = s.own;
@@ -55,7 +55,7 @@ module _ (g : Graph) (wire_back : (u v : g.Node × ℕ) → g.Wire u v → g.Wir
           )
         ]
 
-    -- what splits the part of t in a splits t
+    -- a node that splits the part of t in a splits t
     lift_over : (t : g.Node → Bool) → ((k : g.Node) → IsIn k t → IsIn k s) → (n : g.Node) → IsIn n t → IsIn n a → SplitsAt g n (λ k. t k && a k) → SplitsAt g n t
     lift_over t in_s n here na split = record {
       own = split.own;

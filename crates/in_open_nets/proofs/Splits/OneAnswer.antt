@@ -43,14 +43,14 @@ one_first_splitting o part None (Some m) size h g = absurd (not_none o part size
 one_first_splitting o part (Some n) None size h g = absurd (not_none o part size n g h)
 one_first_splitting o part (Some n) (Some m) size h g = ap Some (one_first o part size n m h g)
 
--- ---- numbers that rise are one list
+-- ---- a list of rising numbers is determined
 
 above : (low n : ℕ) (ns : List ℕ) → RisesThrough low ns → Among n ns → low ≤ n
 above low n [] up h = absurd h
 above low n (m ∷ ns) up (inl e) = let le = up.0 in omega (arith, le, e)
 above low n (m ∷ ns) up (inr h) = let le = up.0 in let rest = above (suc m) n ns up.1 h in omega (arith, le, rest)
 
--- the first numbers are one
+-- the first numbers are equal
 one_head : (n m : ℕ) (ns ms : List ℕ) → RisesThrough (suc n) ns → RisesThrough (suc m) ms → Among n (m ∷ ms) → Among m (n ∷ ns) → n ≡ m
 one_head n m ns ms a b (inl e) k = e
 one_head n m ns ms a b (inr h) (inl e) = sym e

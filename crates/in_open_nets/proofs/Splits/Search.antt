@@ -222,7 +222,7 @@ module _ (o : OpenNet) (net : IsOpenNet o) where
     one_turn c k l (inr a) (inl b) = absurd (a.0 b.0 b.1)
     one_turn c k l (inr a) (inr b) = let x = a.1.3 b.1.0 b.1.1 in let y = b.1.3 a.1.0 a.1.1 in let u = a.1.2 in let v = b.1.2 in omega arith
 
-    -- components of one turn are one
+    -- components with a node in common are equal
     pub meet_same : (c d : ℕ → Bool) → IsComponent (open_graph o) (Without n s) c → IsComponent (open_graph o) (Without n s) d → (l : ℕ) → IsIn l c → IsIn l d → c ≡ d
     meet_same c d a b l h g = fun_ext (λ k. same_test (c k) (d k) (over c d a b h g k) (over d c b a g h k))
       where
@@ -251,7 +251,7 @@ module _ (o : OpenNet) (net : IsOpenNet o) where
     | inr d ↦ elim (at_most n m) [ inl l ↦ absurd (b.first n a.here (omega arith) a.splits) | inr l ↦ absurd (a.first m b.here (omega arith) b.splits) ]
   ]
 
-  -- what splits has nay first stuck sub-net
+  -- a set that splits has no first stuck sub-net
   pub not_both_ways : (s t : ℕ → Bool) → FirstStuck o s t → AllSplit s → ⊥
   not_both_ways s _ (whole _ h) (none _ e) = not_both (s h.0.0) h.0.1 (e h.0.0)
   not_both_ways s _ (whole _ h) (first _ n f rest) = h.1 n f.here f.splits
@@ -355,7 +355,7 @@ module _ (o : OpenNet) (net : IsOpenNet o) where
       go (inr r) (inl stuck) found = inr (s, whole s ((r.0, r.2), λ n h k. stuck n (in_net n h) (h, k)))
       go (inr r) (inr q) found = among s in_net q.0 (record { here = q.2.0; splits = q.2.1; first = λ m h l k. let e = q.3 m (in_net m h) (h, k) in omega arith }) (found q.0 q.2.0)
 
-  -- there is one at most
+  -- there is at most one
   pub one_stuck : (s t u : ℕ → Bool) → ((m : ℕ) → IsIn m s → m < length o.nodes) → FirstStuck o s t → FirstStuck o s u → t ≡ u
   one_stuck s _ _ in_net (whole _ h) (whole _ k) = refl
   one_stuck s _ u in_net (whole _ h) (within _ n c k _ f part comes before stuck) = absurd (h.1 n f.here f.splits)

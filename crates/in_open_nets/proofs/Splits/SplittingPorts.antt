@@ -37,7 +37,7 @@ module _ (o : OpenNet) (net : IsOpenNet o) where
     | inr d ↦ ap (λ (z : ℕ). Some z) (sym same ∙ ap (λ z. unwrap_or z class) (all i (omega arith) t))
   ]
 
-  -- where all ports that lead into the part are of one class, the node splits it
+  -- if all ports that lead into the part are of one class, the node splits it
   pub one_class : (part : List Bool) (n : ℕ) (met : Option ℕ) → IsIn n (nodes_in part) → AreOfClass o part n (ports_of o n) met → SplitsIt o part n
   one_class part n met here all =
       let at : (i w : ℕ) (l k : ℕ) → IsWire o w (Port n i) (Port l k) → IsIn l (nodes_in part) → met ≡ Some (class_in o n i) = λ i w l k h g. all i (in_ports o net w n i (Port l k) h) (w, l, k, h, g) in

@@ -77,7 +77,7 @@ module _ (o : OpenNet) (part : List Bool) (n : ℕ) where
         let next = link_first (open_graph o) (Without n (nodes_in part)) x m r in
         link_label all x m c r (all l c h.0 k i w.0 x j (in_ports o net w.0 l i (Port x j) w.1) w.1 next.0 next.1)
 
-    -- what port b of l leads to has the label too
+    -- the node that port b of l leads to has the label too
     pub labelled_past : (l c b : ℕ) → AreLabelled o part n labels c l b → IsNeighbour o part l b None → AreLabelled o part n labels c l (b + 1)
     labelled_past l c b all none i w m j lt g here off = elim (same_nat i b) [
       | inl e ↦ absurd (none w m j (subst (λ z. IsWire o w (Port l z) (Port m j)) e g) here)

@@ -103,7 +103,7 @@ pub runs_are_glued : RunsAreGlued
 runs_are_glued p k parts after name cuts whole workers counts good reached apart glued runs idle =
     all p good name apart cuts k parts after counts (whole, glued, reached) workers runs idle
 
--- ---- runs that go on where one ended
+-- ---- runs that continue at the end of another one
 
 pub runs_go_on : RunsGoOn
 runs_go_on p j _ l n _ before (none _) = subst (λ k. Run p k l n) (omega arith) before

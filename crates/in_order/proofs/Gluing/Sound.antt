@@ -1,4 +1,4 @@
--- What holds of each sound net, reached or not; and parts of a sound net are sound.
+-- Properties of each sound net, reached or not; and parts of a sound net are sound.
 use Rattle.std.proofs.Common.{◌≡◌, ◌≢◌, ◌⊎◌, ◌-◌, ℕ, Option, Some, None, IsSome, List, [], ◌∷◌, map, slice_get, refl, sym, subst, ap, inl, inr, ◌∙◌}
 use native.Mathlib.Decide.{ℕ_discrete}
 use Rattle.std.specs.List.{AllByRecursion}

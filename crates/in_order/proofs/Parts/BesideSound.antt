@@ -1,4 +1,4 @@
--- Nets side by side are sound exactly if the net that they are is.
+-- Nets side by side are sound exactly if the net of both is.
 use Rattle.std.proofs.Common.{◌≡◌, ◌≢◌, ◌<◌, ◌≤◌, ℕ, zero, suc, Option, Some, None, IsSome, IsSomeAnd, List, [], ◌∷◌, ◌++◌, map, length, slice_get, refl, sym, subst, ap, ◌∙◌, arith}
 use Rattle.std.specs.List.{AllByRecursion}
 use Rattle.in_symbols.specs.declared.symbols.PortType.{PortType}
@@ -154,7 +154,7 @@ module _ (one two m : Net ℕ) (name : ℕ → ℕ) (ends : List (ℕ × ℕ)) (
 
       -- ---- circles
 
-      -- an agent of this part is led to from that place of another one of it
+      -- an agent of this part that a path reaches from that place of another one of it
       abbrev Next : ℕ × ℕ → ℕ → ℕ × ℕ → Type 0
       Next w l to = (x : ℕ) × (in_whole w.0 x ≡ to.0) × IsSome ((both w.0).symbol x) × ((both w.0).partner (Port w.1 l) ≡ Some (Port x to.1))
 
@@ -180,7 +180,7 @@ module _ (one two m : Net ℕ) (name : ℕ → ℕ) (ends : List (ℕ × ℕ)) (
       abbrev AreThere : ℕ → List (Passage ℕ) → Type 0
       AreThere i qs = AllByRecursion (λ q. IsSome ((both i).symbol q.node)) qs
 
-      -- what leads from an agent of a part stays in the part
+      -- a path from an agent of a part stays in the part
       record Lifted (i x l : ℕ) (ps : List (Passage ℕ)) (to : ℕ × ℕ) : Type 0 where
         qs : List (Passage ℕ)
         same : map (moved i) qs ≡ ps

@@ -117,7 +117,7 @@ module _ (parts other_parts : ℕ → Net ℕ) (f : ℕ → ℕ → ℕ) (named 
     (l.2.0, map h l.2.1, path_map Wire (IsJointEnd cuts) Wire' (IsJointEnd cuts) h wire_kept (λ u e. end_kept u.0 u.1 e) l.2.0 p l.2.1 q l.2.2),
   )
 
-  -- the spot of the parts that a spot of those under other names is
+  -- the spot of the parts for a spot of those under other names
   abbrev Was : Spot → Spot → Type 0
   Was p' p = h p ≡ p'
 

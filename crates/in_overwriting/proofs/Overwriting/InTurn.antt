@@ -29,7 +29,7 @@ module _ (sig : Signature) (n : Net ℕ) (x : Redex ℕ ℕ) (name : ℕ → ℕ
   turned : (u v : Point ℕ) → Sides u v → Sides v u
   turned u v a = (a.1, a.0, can.inside.back a.0 a.1 a.2, a.4, a.3)
 
-  -- what is written at a side stays
+  -- the partner that is written at a side stays
   keeps_one : (u v c d : Point ℕ) (f g : Partners) → Sides u v → Sides c d → AreStored c d f g → f u ≡ Some v → g u ≡ Some v
   keeps_one u v c d f g a b stored h = go (same_point u c) (same_point u d)
     where
@@ -56,7 +56,7 @@ module _ (sig : Signature) (n : Net ℕ) (x : Redex ℕ ℕ) (name : ℕ → ℕ
   stored_at _ _ _ (wire_first p q ws c d f g h s t stored rest) wires y z u v (inr i) k l =
       stored_at ws g h rest (λ y z i. wires y z (inr i)) y z u v i k l
 
-  -- and elsewhere nothing is
+  -- and nothing is written elsewhere
   untouched : (ws : List (Point ℕ × Point ℕ)) (f h : Partners) → Stores ws f h → AreWires ws → (u : Point ℕ) → (IsSide sig n x name u → ⊥) → h u ≡ f u
   untouched _ _ _ (no_wire _) wires u clear = refl
   untouched _ _ _ (wire_first p q ws c d f g h s t stored rest) wires u clear =

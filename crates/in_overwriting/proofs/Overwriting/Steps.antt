@@ -1,4 +1,4 @@
--- Overwriting is interacting, where no wire leads back to the pair.
+-- Overwriting is interacting, if no wire leads back to the pair.
 use Rattle.std.proofs.Common.{◌≡◌, ◌≢◌, ◌⊎◌, ◌+◌, ◌<◌, ℕ, suc, Option, Some, None, [], length, refl, sym, subst, ap, inl, inr, ◌∙◌}
 use native.Mathlib.Decide.{ℕ_discrete}
 use Rattle.std.proofs.lemmas.Option.{none-some}
@@ -108,7 +108,7 @@ module _ (sig : Signature) (n : Net ℕ) (x : Redex ℕ ℕ) (name : ℕ → ℕ
       was u clear v (inl a) = absurd (clear (v, a))
       was u clear v (inr k) = k.2
 
-  -- what is overwritten has the partners of a net after the interaction
+  -- an overwritten net has the partners of a net after the interaction
   as_stepped : (after m : Net ℕ) → IsOverwritten sig n x name after → IsStep sig n x name m → (u : Point ℕ) → after.partner u ≡ m.partner u
   as_stepped after m over step u = go (m.partner u) refl (of_pair u)
     where
@@ -146,7 +146,7 @@ overwritten_exists sig n x name can =
 pub overwritten_is_one : OverwrittenIsOne
 overwritten_is_one sig n x name one two can h g = one_result sig n x name one two (stepped sig n x name can one h) (stepped sig n x name can two g)
 
--- ---- where a wire leads back
+-- ---- a wire that leads back
 
 module _ (sig : Signature) (n : Net ℕ) (x : Redex ℕ ℕ) (name : ℕ → ℕ) (after : Net ℕ) (net : IsNet sig n) (inside : IsNet sig x.member) (redex : IsRedex sig n x) (naming : IsNaming n x name) (over : IsOverwritten sig n x name after) where
   end_at : (y : ℕ) (i : ℕ) (u : Point ℕ) → IsOfPair x (Port y (suc i)) → n.partner (Port y (suc i)) ≡ Some u → (d : ℕ) × (d < length x.member.free) × (Port y (suc i) ≡ Port (end_agent sig x d) (end_place sig x d))

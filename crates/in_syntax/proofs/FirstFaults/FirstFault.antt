@@ -84,7 +84,7 @@ first_of_three i j k P Q R ij jk a b c first second third =
 pub first_as : (F : Code → Place → Type 0) (o : Option Refusal) (r : Refusal) → IsFirst F o → o ≡ Some r → IsFirstOf F r.code r.place × (let nothing : Option Place = None in r.other ≡ nothing)
 first_as F o r first is = let there = subst (IsFirst F) is first in (record { stands = there.0; first = there.1 }, there.2)
 
--- ---- two first faults are one
+-- ---- two first faults are equal
 
 -- they are at one byte, and have codes of one number
 pub both_first : (c d : Code) (p q : Place) → IsNoLater c p d q → IsNoLater d q c p → (p.from ≡ q.from) × (code_number c ≡ code_number d)

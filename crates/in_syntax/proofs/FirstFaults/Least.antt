@@ -5,7 +5,7 @@ use Rattle.in_syntax.specs.declared.places.Place.{Place}
 use Rattle.in_base.specs.Lists.{AnyByRecursion}
 use Rattle.in_syntax.specs.Refusals.{earlier, earliest}
 
--- one of the earliest places at which it stands; none where it stands nowhere
+-- one of the earliest places that have P; none if no place has it
 abbrev pub IsLeast : (Place → Type 0) → Option Place → Type 0
 IsLeast P None = (q : Place) → P q → ⊥
 IsLeast P (Some p) = P p × ((q : Place) → P q → p.from ≤ q.from)
@@ -76,7 +76,7 @@ least_of_all f P each xs =
     (λ q h. right (AnyByRecursion (λ x. P x q) xs) h) (λ q h. inr h)
     (least_earliest f P each (λ q. ⊥) None (λ q h. h) xs)
 
--- where none is earliest, there was none
+-- if the earlier of two places is none, both are none
 pub earlier_none : (a b : Option Place) → earlier a b ≡ None → (a ≡ None) × (b ≡ None)
 earlier_none None b e = (refl, e)
 earlier_none (Some p) None e = cc

@@ -41,7 +41,7 @@ abbrev leads_on : Step → Bool
 leads_on stuck = false
 leads_on _ = true
 
--- the tokens that are expected in a state are those with which a step leads on
+-- the tokens that are expected in a state are those with a step to another state
 abbrev Tells : Counts → State → Type 0
 Tells c p = (text : List ℕ) (place : Place) (k : TokenKind) → takes (expected_in p) (sign_at text k place) ≡ leads_on (step c p (sign_at text k place))
 
@@ -342,7 +342,7 @@ section_along (x ∷ m) r last path =
 section_after : (front : List Sign) (last : Reader) → Path start (unmarked front) last → section front ≡ section_of last.state
 section_after front last path = ap (λ z. section z) (sym (signs_unmarked front)) ∙ section_along (unmarked front) start last path
 
--- what is expected in a state can be expected in its section
+-- the tokens expected in a state can be expected in its section
 at_port : (o : PortOf) → (port_section o ≡ ports) ⊎ (port_section o ≡ free_port)
 at_port (Principal n) = inl refl
 at_port (Auxiliary s c number) = inl refl
@@ -376,9 +376,9 @@ stands (state.TermName b) = at_term b.of
 stands (state.TermEnd b t) = at_term_end_of b.of b.around t
 stands _ = tt
 
--- ---- what is expected
+-- ---- the expected tokens
 
--- where signs lead to a state, what is expected in it is expected after them
+-- if signs lead to a state, the tokens expected in it are expected after them
 pub expected_after : (text : List ℕ) (front : List Sign) (last : Reader) → Path start (unmarked front) last → IsExpected text front (expected_in last.state)
 expected_after text front last path = record {
   tokens = λ t. (
@@ -399,7 +399,7 @@ take_signs text zero tokens = refl
 take_signs text (suc i) [] = refl
 take_signs text (suc i) (t ∷ tokens) = ap (λ z. sign_of text t ∷ z) (take_signs text i tokens)
 
--- what the run notes is what is to be noted
+-- the run notes the right expectation
 pub noted : (text : List ℕ) (tokens : List Token) (r : Result Source Fault) (e : Expected) → Notes text tokens r e → IsNotedOf text tokens r e
 noted text tokens (Ok source) e is = is
 noted text tokens (Err (Refused r)) e (i, le, is, (last, leads, same)) =

@@ -1,4 +1,4 @@
--- The expected tokens after signs are one, and so are those noted for a text.
+-- Signs have at most one expectation, and a text has one noted expectation.
 use Rattle.std.proofs.Common.{◌≡◌, ◌⊎◌, inl, inr, ℕ, Bool, List, refl, sym, ◌∙◌, ap, subst, take, if◌then◌else◌, Err}
 use Rattle.std.proofs.Math.Path.{fun_ext}
 use Rattle.std.specs.Bool.{one_answer}
@@ -42,7 +42,7 @@ ending_in terms = expected.RuleEnd
 ending_in after_body = expected.RuleClose
 ending_in s = expected.AfterTerm part.Right
 
--- which kinds of tokens there are
+-- the kinds of tokens
 abbrev Kinds : Type 0
 Kinds = TokenKind → Bool
 
@@ -108,7 +108,7 @@ pub one_expected : OneExpected
 one_expected text front d e g h =
     sym (told text d (section front) g.sort) ∙ ap (λ f. by_tokens f (section front)) (fun_ext (same_tokens text front d e g h)) ∙ told text e (section front) h.sort
 
--- ---- what is noted
+-- ---- the noted expectation
 
 same_at : (s : List Sign) (c d : Code) (i j : ℕ) → IsOutcomeOfSigns s (fault c i) → IsOutcomeOfSigns s (fault d j) → i ≡ j
 same_at s c d i j p q =

@@ -29,7 +29,7 @@ pub signs_unmarked : (s : List Sign) → signs (unmarked s) ≡ s
 signs_unmarked [] = refl
 signs_unmarked (x ∷ s) = ap (λ z. x ∷ z) (signs_unmarked s)
 
--- the program that was read where the net is whole
+-- the program that was read, if the net is whole
 abbrev Reads : Reader → Spelling → SourceNet → Type 0
 Reads last m n = (p : GrammarProgram) × (spelling p ≡ m) × (source_of p ≡ record { types = last.types; symbols = last.symbols; rules = last.rules; net = n })
 
@@ -45,7 +45,7 @@ program_read last m n h e = (
 read_path : (m : Spelling) (last : Reader) → Path start m last → HasRead last m
 read_path m last path = has_read m [] start last read_nothing path
 
--- what leads from the start begins a program
+-- the signs of a path from the start begin a program
 begun : (front : Spelling) (last : Reader) → Path start front last → (p : GrammarProgram) × (more : Spelling) × (spelling p ≡ front ++ more)
 begun front last path =
     let c = can_end last in
@@ -56,7 +56,7 @@ done_state : (p : State) (n : SourceNet) → net_of p ≡ Some n → p ≡ state
 done_state (state.Done k) n e = let is : k ≡ n = cc in ap (λ z. state.Done z) is
 done_state p n e = cc
 
--- where the net is whole, nothing more is expected
+-- if the net is whole, nothing more is expected
 whole_state : (p : State) (r : Reader) (source : Source) (o : Option SourceNet) → net_of p ≡ o → whole r o ≡ reads source → expected_in p ≡ expected.Nothing
 whole_state p r source (Some n) e is = ap expected_in (done_state p n e)
 whole_state p r source None e is = cc
@@ -138,7 +138,7 @@ signs_begun front x b more =
     map-append (λ m. m.sign) (unmarked front ++ marked b x ∷ []) more
     ∙ ap (λ z. z ++ signs more) (map-append (λ m. m.sign) (unmarked front) (marked b x ∷ []) ∙ ap (λ z. z ++ x ∷ []) (signs_unmarked front))
 
--- some program continues with a sign that leads on
+-- some program continues with a sign that leads to another state
 pub begins_on : (front : List Sign) (x : Sign) (last next : Reader) (past : Bool) → Path start (unmarked front) last → turn last x ≡ turns past next → Begins (front ++ x ∷ [])
 begins_on front x last next past path e =
     let p = begun (unmarked front ++ marked past x ∷ []) next (join (unmarked front) (marked past x ∷ []) start last next path (next, e, refl)) in

@@ -1,4 +1,4 @@
--- What reading the tokens of a text and then their grammar gives.
+-- The result of reading the tokens of a text and then their grammar.
 use Rattle.std.proofs.Common.{◌≡◌, ℕ, List, [], ◌∷◌, drop, Result, Ok, Err, inr, arith, subst, IfOk}
 use Rattle.std.specs.List.{AllByRecursion}
 use Rattle.in_syntax.specs.declared.expecting.Expected.{Expected}
@@ -39,7 +39,7 @@ pub of_text_when : (text : List ℕ) (r : Result Source Fault) → Parses text r
 of_text_when text (Ok source) p = record { text = text; tree = p }
 of_text_when text (Err e) p = tt
 
--- what is noted of a text is what is noted of its tokens
+-- the noted expectation of a text's tokens is that of the text
 pub noted_when : (text : List ℕ) (ts : List Token) (before e : Expected) (r : Result Source Fault) → IsTokensOf text ts → IsNotedOf text ts r e → IsNoted text before e r
 noted_when text ts before e (Ok source) read n = n
 noted_when text ts before e (Err (Refused r)) read n = inr (ts, read, n)

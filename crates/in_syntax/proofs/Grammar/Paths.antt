@@ -57,7 +57,7 @@ same (x ∷ m) (y ∷ n) a b c p q e =
     let k = same m n p.0 b c p.2 (subst (λ z. Path z n c) (sym t.1) q.2) rest in
     (ap (λ z. z ∷ m) t.0 ∙ ap (λ z. y ∷ z) k.0, k.1)
 
--- ---- what the run of the code is
+-- ---- the outcome of the code's run
 
 abbrev pub IsFaultAt : Code → Reader → List Sign → Type 0
 IsFaultAt E02 r [] = net_of r.state ≡ None

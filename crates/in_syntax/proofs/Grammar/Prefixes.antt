@@ -1,4 +1,4 @@
--- With which prefixes of some signs a program begins.
+-- The prefixes of some signs with which a program begins.
 use Rattle.std.proofs.Common.{◌≡◌, ◌⊎◌, inl, inr, ℕ, zero, suc, ◌≤◌, ◌<◌, true, false, List, [], ◌∷◌, ◌++◌, length, take, drop, refl, sym, ◌∙◌, ap, subst, append_assoc, append-nil, arith, take-append-drop}
 use Rattle.std.proofs.lemmas.Bool.{cases_lt}
 use Rattle.std.proofs.lemmas.List.{map-append, take-take}
@@ -14,7 +14,7 @@ use Rattle.in_syntax.proofs.Grammar.Paths.{turns, turn, Path, split, same}
 use Rattle.in_syntax.proofs.Grammar.Complete.{done_with, program_path}
 use Rattle.in_syntax.proofs.Grammar.Outcomes.{signs_unmarked}
 
--- what begins a program begins with its prefixes
+-- a program that begins with signs begins with their prefixes
 front_begins : (a b : List Sign) → BeginsWithin (a ++ b) → BeginsWithin a
 front_begins a b (p, more, e) =
     (p, unmarked b ++ more, e ∙ ap (λ z. z ++ more) (map-append within a b) ∙ append_assoc (unmarked a) (unmarked b) more)

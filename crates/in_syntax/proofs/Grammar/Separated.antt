@@ -67,7 +67,7 @@ classes_snoc number (d ∷ cs) c =
     ap (λ z. spell_class number d ++ z) (classes_snoc (number + length d) cs c)
     ∙ sym (append_assoc (spell_class number d) (spell_classes (number + length d) cs) (spell_class (ports_after (number + length d) cs) c))
 
--- ---- items by what is declared before them
+-- ---- items by the declarations before them
 
 abbrev pub counted_all : Counts → List Item → Counts
 counted_all c [] = c

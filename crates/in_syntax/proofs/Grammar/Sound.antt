@@ -38,7 +38,7 @@ use Rattle.in_syntax.proofs.Grammar.Separated.{comma, before, separated_snoc, be
 use Rattle.in_syntax.proofs.Grammar.Paths.{turns, turn_of, Path}
 use Rattle.in_base.proofs.Each.{all_append}
 
--- ---- what of an item or the net is read before a state
+-- ---- the part of an item or the net that is read before a state
 
 abbrev pub arguments_at : ℕ → List Term → List Spelling
 arguments_at depth ts = map (λ a. a depth) (map spell_term ts)
@@ -83,12 +83,12 @@ net_front n = frees_front n.free ++ plain kind.CloseParenthesis ∷ plain kind.O
 abbrev pub heads_front : Counts → Head → Head → Spelling
 heads_front c f h = marked (nat_lt max_rules (c.rules + 1)) (Plain kind.Rule) ∷ (spell_head f ++ plain kind.Meets ∷ spell_head h)
 
--- up to where the next equation begins
+-- up to the beginning of the next equation
 abbrev pub body_front : Counts → EquationsOf → Spelling
 body_front c (body.Net n) = net_front n
 body_front c (body.Rule y p) = heads_front c y.first y.second ++ named (word_at p) ∷ plain kind.OpenBrace ∷ flat_map spell_equation y.equations
 
--- what is read before a term and the terms that are open around it
+-- the signs before a term and the terms that are open around it
 abbrev pub of_front : Counts → TermOf → Spelling
 of_front c (Left b) = body_front c b
 of_front c (Right b l p) = body_front c b ++ spell_term l 1 ++ within (Tilde p) ∷ []
@@ -163,7 +163,7 @@ IsFull (state.ClassEnd s c number) = AllByRecursion (λ c. 0 < length c) s.class
 IsFull (state.FreeEnd fs) = 0 < length fs
 IsFull _ = Unit {0}
 
--- what a step from a state has to keep
+-- the property that a step from a state has to keep
 abbrev pub KeepsAll : Counts → Spelling → Sign → Step → Type 0
 KeepsAll k l x (goes past q) = IsFull q × (spelled k q ≡ l ++ marked past x ∷ [])
 KeepsAll k l x (adds_types names) = (0 < length names) × (spell_types (k.types + 1) names ≡ l ++ within x ∷ [])
@@ -527,7 +527,7 @@ keeps k (state.TermOpen b n) x full = keeps_term_open k b n x
 keeps k (state.TermEnd b t) x full = keeps_after_term k b.of b.around t x
 keeps k (state.Done n) x full = tt
 
--- ---- what a reader has read
+-- ---- the signs read by a reader
 
 pub counts_types : (r : Reader) (names : List Name) → counts_of (with_types r names) ≡ counted (counts_of r) (types names)
 counts_types r names = ap (λ z. record { types = z; symbols = length r.symbols; rules = length r.rules }) (length-append r.types names)
@@ -559,7 +559,7 @@ with_item l k items i p x e n f =
     ∙ ap (λ z. spell_items none_yet items ++ spell_item z i) n
     ∙ sym (items_snoc none_yet items i) ∙ sym (append-nil (spell_items none_yet (items ++ i ∷ [])))
 
--- and what is declared after it
+-- the numbers of declarations with an item more
 count_item : (k next : Counts) (items : List Item) (i : Item) → k ≡ counted_all none_yet items → next ≡ counted k i → next ≡ counted_all none_yet (items ++ i ∷ [])
 count_item k next items i n e = e ∙ ap (λ z. counted z i) n ∙ sym (counted_snoc none_yet items i)
 

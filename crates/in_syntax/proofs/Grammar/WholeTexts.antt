@@ -1,4 +1,4 @@
--- AllByRecursion text has one tree or one first fault.
+-- Each text has one tree or one first fault.
 use Rattle.std.proofs.Common.{◌≡◌, ◌⊎◌, inl, inr, ℕ, List, drop, None, Result, Ok, Err, refl, sym, ◌∙◌, ap, subst}
 use Rattle.in_syntax.specs.declared.faults.Fault.TheVariants.{Refused, Memory}
 use Rattle.in_syntax.specs.declared.faults.Refusal.{Refusal}

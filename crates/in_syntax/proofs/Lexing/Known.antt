@@ -1,7 +1,7 @@
 -- A part of a text that is copied.
 use Rattle.std.proofs.Common.{◌≡◌, ℕ, ◌+◌, ◌-◌, ◌≤◌, List, ◌++◌, take, drop, length, sym, ◌∙◌, ap, arith, length-take, length-drop, take_at, take-add}
 
--- a copy of j bytes from i on, seen through what it was copied to
+-- a copy of j bytes from i on, as the front of its target
 pub copied : (i j : ℕ) (text new rest : List ℕ) → i + j ≤ length text → new ≡ take ((i + j) - i) (drop i text) → take (i + j) text ≡ take i text ++ take j (new ++ rest)
 copied i j text new rest fits e =
     let size : length new ≡ j = ap length e ∙ simp (length-take, length-drop) (omega arith) in

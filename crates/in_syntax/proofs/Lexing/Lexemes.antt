@@ -16,11 +16,11 @@ use Rattle.in_syntax.specs.Characters.{is_blank, begins_name, continues_name}
 use Rattle.in_syntax.specs.Tokens.{signs, beside, is_word, word_kind, kind_of, IsLongest, BeginsNoToken}
 use Rattle.in_syntax.specs.Cursors.{FirstIs, FirstFails}
 
--- an ASCII character begins a name where it is a letter or `_`
+-- an ASCII character begins a name if it is a letter or `_`
 pub begins_name-ascii : (c : ℕ) → c < 128 → begins_name c ≡ (is_ascii_alphabetic c || c == 95)
 begins_name-ascii c h = ap (λ b. b || c == 95) (is_xid_start-ascii c h)
 
--- what a name begins with it may continue with
+-- a character that begins a name may continue one
 pub continues-begins : (c : ℕ) → begins_name c ≡ true → continues_name c ≡ true
 continues-begins c h =
     go (is_xid_start c) (c == 95) refl refl h
@@ -37,7 +37,7 @@ continues-begins c h =
 other : (p : ℕ → Bool) (c n : ℕ) → p c ≡ true → p n ≡ false → (c == n) ≡ false
 other p c n h g = false_from_ne_true (c == n) (λ e. true≢false (sym h ∙ ap p (eqb-true c n e) ∙ g))
 
--- no sign begins with what a name begins with
+-- no sign begins with a character that begins a name
 pub beside-signs_name : (c : ℕ) (cs : List ℕ) → begins_name c ≡ true → beside (c ∷ cs) signs ≡ None
 beside-signs_name c cs h =
     let not : (n : ℕ) → begins_name n ≡ false → (c == n) ≡ false = λ n g. other begins_name c n h g in
@@ -86,7 +86,7 @@ pub is_word-some : (w : List ℕ) → is_word w ≡ true → 0 < length w
 is_word-some [] h = absurd (false≢true h)
 is_word-some (c ∷ cs) h = omega arith
 
--- a character with which no name begins is no word, whatever follows
+-- characters of which the first begins no name are no word
 no_word : (c : ℕ) (cs : List ℕ) → begins_name c ≡ false → kind_of (c ∷ cs) ≡ beside (c ∷ cs) signs
 no_word c cs h = kind_of-other (c ∷ cs) (and_left (begins_name c) (list_all continues_name cs) h)
 
@@ -110,7 +110,7 @@ longest_meets rest = record {
     no_name : begins_name 62 ≡ false
     no_name = begins_name-ascii 62 (lit< tt)
 
--- where no token begins
+-- no token begins here
 pub begins_no_token : (c : ℕ) (cs : List ℕ) → begins_name c ≡ false → beside (c ∷ []) signs ≡ None → (c == 62) ≡ false ⊎ FirstFails (λ d. d == 60) cs → BeginsNoToken (c ∷ cs)
 begins_no_token c cs h e g [] after f = refl
 begins_no_token c cs h e g (x ∷ []) after f =
@@ -128,7 +128,7 @@ begins_no_token c cs h e g (x ∷ d ∷ more) after f =
 differs : (w v : List ℕ) → w ≢ v → bytes_eq w v ≡ false
 differs w v n = false_from_ne_true (bytes_eq w v) (λ e. n ((bytes_eq-Decides w v).0 e))
 
--- what is no reserved word is a name
+-- a word that isn't reserved is a name
 pub word_kind-name : (w : List ℕ) → w ≢ codes "type" → w ≢ codes "symbol" → w ≢ codes "rule" → w ≢ codes "net" → word_kind w ≡ kind.Name
 word_kind-name w t s r n =
     let type = differs w (codes "type") t in

@@ -40,7 +40,7 @@ comment_goes s t text w rest first r ends =
       omega arith,
     )
 
--- the bytes of what was read
+-- the bytes of the characters that were read
 pub bytes_split : (text w rest : List ℕ) → IsUtf8 text → IsUtf8 rest → chars text ≡ w ++ chars rest → text ≡ encode_utf8_all w ++ rest
 bytes_split text w rest u v e = sym (encodes-chars text u) ∙ ap encode_utf8_all e ∙ encodes-append w (chars rest) ∙ ap (λ z. encode_utf8_all w ++ z) (encodes-chars rest v)
 
@@ -74,7 +74,7 @@ pub word_wrong : (s t : Spot) (text w rest : List ℕ) → FirstIs (λ c. begins
 word_wrong s t text w rest first r stops long =
     subst (λ cs. Faults s cs E03 s) (sym r.split) (too_long w (chars rest) (longest_word w (chars rest) (run_is_word s t text w rest first r stops) stops) long)
 
--- a token at the place that it takes
+-- a token at its place
 at_place : (s t : Spot) (text rest : List ℕ) (k l : TokenKind) (place : Place) → k ≡ l → place ≡ place_between s t → Goes s text (record { kind = l; place = place_between s t } ∷ []) t rest → Goes s text (record { kind = k; place = place } ∷ []) t rest
 at_place s t text rest k l place e f h =
     subst (λ p. Goes s text (record { kind = k; place = p } ∷ []) t rest) (sym f) (subst (λ j. Goes s text (record { kind = j; place = place_between s t } ∷ []) t rest) (sym e) h)
@@ -99,7 +99,7 @@ step_goes s t text rest c ts h b e passes = record {
 pub blank_goes : (s t : Spot) (text rest : List ℕ) (c : ℕ) → IsWithin s text → BeginsWith text c rest → t ≡ past s c → is_blank c ≡ true → Goes s text [] t rest
 blank_goes s t text rest c h b e is = step_goes s t text rest c [] h b e (blank is)
 
--- what the first character is known to be
+-- a property of the first character
 first_of_text : (P : ℕ → Type 0) (text rest : List ℕ) (c : ℕ) → FirstIs P (chars text) → BeginsWith text c rest → P c
 first_of_text P text rest c first b = subst (FirstIs P) b.chars first
 

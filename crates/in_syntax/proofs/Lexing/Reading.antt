@@ -24,7 +24,7 @@ texts_after text i tokens h = rw (add-one i) (texts_suc text i tokens h)
 abbrev no_token : Token
 no_token = record { kind = kind.Name; place = record { from = 0; to = 0; line = 0; col = 0 } }
 
--- a move that leads on makes the run go on from there
+-- after a move to another reader the run continues from there
 run_moved : (r next : Reader) (x : Sign) (s : List Sign) (m : Move) → moved r m ≡ Some next → along r x s m ≡ run next s
 run_moved r next x s (move.Goes p) e = let is : at_state r p ≡ next = cc in ap (λ z. run z s) is
 run_moved r next x s (move.Types names) e = let is : with_types r names ≡ next = cc in ap (λ z. run z s) is
@@ -41,7 +41,7 @@ pub goes_on : (text : List ℕ) (i : ℕ) (tokens : List Token) (reader next : R
 goes_on text i tokens reader next all lt takes e =
     rw (add-one i) (sym (run_taken reader next (sign_of text (get_or tokens i no_token)) (signs_of text (drop (suc i) tokens)) takes) ∙ ap (λ z. run reader (signs_of text z)) (sym (drop-cons tokens i no_token lt)) ∙ e)
 
--- ---- what leads to a reader
+-- ---- the signs that lead to a reader
 
 lead_on : (s : List Sign) (x : Sign) (r mid next : Reader) → SignsLead r s mid → taken mid x ≡ Some next → SignsLead r (s ++ x ∷ []) next
 lead_on [] x r mid next p e = (next, ap (λ z. taken z x) p ∙ e, refl)

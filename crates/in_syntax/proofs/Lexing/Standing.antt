@@ -53,7 +53,7 @@ token_stands text front w rest s k h is =
       kind = ap (λ z. kind_of (chars z)) part ∙ ap kind_of (chars-encodes w scalars) ∙ is;
     }
 
--- what is passed are the first characters, and its token is there
+-- the passed part is a front of the characters, and its token is there
 record IsPassed (text cs : List ℕ) (ts : List Token) (s t : Spot) (rest : List ℕ) : Type 0 where
   front : List ℕ
   split : cs ≡ front ++ rest

@@ -42,7 +42,7 @@ not_both text ts r p (first_fault code at a s) =
     reads_not_stops (chars (well_formed text)) code at p.reads s (ap chars (sym whole))
 not_both text ts r p (ill_formed a s l) = omega (arith, utf8_valid_len-IsUtf8 text p.utf8)
 
--- what stands at a spot and a text: nothing, something that is passed, or a fault
+-- a spot and a text have nothing, a part that is passed, or a fault
 data Stand (s : Spot) (cs : List ℕ) : Type 0 where
   nothing : cs ≡ [] → Stand s cs
   something : (ts : List Token) (t : Spot) (rest : List ℕ) → Passes s cs ts t rest → length rest < length cs → Stand s cs

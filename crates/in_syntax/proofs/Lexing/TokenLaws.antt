@@ -94,7 +94,7 @@ no_blank_hash c cs ds b e =
     let same : c ≡ 35 = cc in
     false≢true (ap is_blank (sym same) ∙ b)
 
--- what is passed at a spot and a text is determined
+-- the passed part at a spot of a text is determined
 pub passes_unique : (s : Spot) (cs ds : List ℕ) (ts us : List Token) (t u : Spot) (a b : List ℕ) → Passes s cs ts t a → Passes s ds us u b → cs ≡ ds → (ts ≡ us) × (t ≡ u) × (a ≡ b)
 passes_unique s cs ds ts us t u a b (blank {c = c} p) (blank {c = d} q) e = let same : c ≡ d = cc in (refl, ap (past s) same, cc)
 passes_unique s cs ds ts us t u a b (blank {c = c} {cs = x} p) (comment body rest q r) e = absurd (no_blank_hash c x (body ++ rest) p e)
@@ -111,7 +111,7 @@ passes_unique s cs ds ts us t u a b (token {k = k} v a' p q) (token {k = l} w b'
     let same = same_token v a' w b' k l e p p' in
     (ap (λ z. record { kind = z; place = place_between s (past_all s v) } ∷ []) same.2 ∙ ap (λ z. record { kind = l; place = place_between s (past_all s z) } ∷ []) same.0, ap (past_all s) same.0, same.1)
 
--- what is passed is something
+-- the passed part isn't empty
 passes_some : (s t : Spot) (cs rest : List ℕ) (ts : List Token) → Passes s cs ts t rest → cs ≡ [] → ⊥
 passes_some s t cs rest ts (blank p) e = absurd (cc)
 passes_some s t cs rest ts (comment body after p q) e = absurd (cc)
@@ -133,7 +133,7 @@ no_stray_token c cs w rest k h e f =
     let none : kind_of w ≡ None = h w rest e in
     absurd (cc)
 
--- what is a fault is not passed
+-- a fault is not passed
 no_pass : (s t u : Spot) (cs ds rest : List ℕ) (ts : List Token) (code : Code) → Passes s cs ts t rest → Faults s ds code u → cs ≡ ds → ⊥
 no_pass s t u cs ds rest ts code (blank {c = c} p) (stray {c = d} q r n) e =
     let same : c ≡ d = cc in
@@ -163,7 +163,7 @@ reads_unique ds us (goes_on {s = s} {t = t} {cs = cs} {rest = a} vs ws p r) (goe
     let more = reads_unique b ys r (subst (λ z. Reads z b ys) (sym same.1) h) same.2 in
     ap (λ z. z ++ ws) same.0 ∙ ap (λ z. xs ++ z) more
 
--- what reads to its end stops nowhere
+-- a text that reads to its end has no fault at which it stops
 pub reads_not_stops : {s : Spot} {cs : List ℕ} {ts : List Token} (ds : List ℕ) (code : Code) (at : Spot) → Reads s cs ts → Stops s ds code at → cs ≡ ds → ⊥
 reads_not_stops ds code at (ends {s = s}) (here f) e = faults_some s at ds code f (sym e)
 reads_not_stops ds code at (ends {s = s}) (later {t = t} {rest = rest} {ts = ts} p h) e = passes_some s t ds rest ts p (sym e)

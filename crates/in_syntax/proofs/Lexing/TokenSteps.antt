@@ -14,7 +14,7 @@ use Rattle.in_syntax.specs.Tokens.{Passes, blank, comment, token, Reads, Stops, 
 use Rattle.in_syntax.specs.Cursors.{RefusedBy, IsStopOf}
 use Rattle.in_syntax.proofs.Lexing.PastCharacters.{past_all-append}
 
--- a step leads on to the same end
+-- a step keeps the end of the text
 pub passes_end : (s t : Spot) (cs rest : List ℕ) (ts : List Token) → Passes s cs ts t rest → past_all t rest ≡ past_all s cs
 passes_end s t cs rest ts (blank is) = refl
 passes_end s t cs rest ts (comment body after a e) = sym (past_all-append s (35 ∷ body) after)
@@ -26,7 +26,7 @@ stop_is_fault text front (Refused r) short e h =
     subst (IsTokenFault text) (sym h.3) (first_fault h.0 h.1 short (subst (λ z. Stops start (chars z) h.0 h.1) e h.2))
 stop_is_fault text front (Memory m) short e h = tt
 
--- what comes after the longest front is a fault
+-- bytes after the longest front are a fault at its end
 pub end_is_fault : (text front : List ℕ) (ts : List Token) (end : Spot) → length text ≤ text_limit → front ≡ well_formed text → Reads start (chars front) ts → end ≡ past_all start (chars front) → length front < length text
     → IsTokenFault text (refusal_at E01 end)
 end_is_fault text front ts end short e reads is less =
@@ -34,7 +34,7 @@ end_is_fault text front ts end short e reads is less =
     subst (λ t. IsTokenFault text (refusal_at E01 t)) (sym (is ∙ ap (λ z. past_all start (chars z)) e))
     (ill_formed short (subst (λ z. Reads start (chars z) ts) e reads) shorter)
 
--- where nothing comes after the longest front, its tokens are the text's
+-- if there is nothing after the longest front, its tokens are the text's
 pub end_is_whole : (text front : List ℕ) (ts : List Token) → length text ≤ text_limit → front ≡ well_formed text → IsUtf8 front → Reads start (chars front) ts → length text ≤ length front → IsTokensOf text ts
 end_is_whole text front ts short e u reads whole =
     let size : length text ≤ utf8_valid_len text = omega (arith, whole, ap length e ∙ length-take-le (utf8_valid_len text) text (utf8_valid_len_le text)) in

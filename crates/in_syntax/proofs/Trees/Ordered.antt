@@ -43,7 +43,7 @@ places_append : (a b : Spelling) → places_of (a ++ b) ≡ places_of a ++ place
 places_append [] b = refl
 places_append (m ∷ a) b = ap (λ z. sign_places m.sign ++ z) (places_append a b) ∙ sym (append_assoc (sign_places m.sign) (places_of a) (places_of b))
 
--- what closes a list has no place
+-- a sign that closes a list has no place
 places_closed : (a : Spelling) (k : TokenKind) → places_of (a ++ plain k ∷ []) ≡ places_of a
 places_closed a k = places_append a (plain k ∷ []) ∙ append-nil (places_of a)
 
@@ -51,7 +51,7 @@ places_closed a k = places_append a (plain k ∷ []) ∙ append-nil (places_of a
 both_places : (a b : Spelling) (p q : List Place) → places_of a ≡ p → places_of b ≡ q → places_of (a ++ b) ≡ p ++ q
 both_places a b p q e f = places_append a b ∙ ap (λ z. z ++ places_of b) e ∙ ap (λ z. p ++ z) f
 
--- ---- the places of what the tree spells are those that it lists
+-- ---- the places that the tree spells are those that it lists
 
 -- the signs of a term have its places
 abbrev Placed : ℕ → Type 0
@@ -131,7 +131,7 @@ front_rising a b up = front_rises (places_of a) (places_of b) (subst Rises (plac
 back_rising : (a b : Spelling) → Rising (a ++ b) → Rising b
 back_rising a b up = back_rises (places_of a) (places_of b) (subst Rises (places_append a b) up)
 
--- a rule's names and ~ rise, where its signs do: the word `with` is between them
+-- a rule's names and ~ rise, if its signs do: the word `with` is between them
 with_rising : (ps : List Place) (w : Option Place) (es : List Equation) → StandAfterWord w es → Rises (ps ++ places_of (spell_with w es)) → Rises (ps ++ flat_map equation_places es)
 with_rising ps None es none up = subst (λ z. Rises (ps ++ flat_map equation_places z)) (sym none) up
 with_rising ps (Some p) es some up = without ps (subst (λ z. Rises (ps ++ p ∷ z)) (places_closed (flat_map spell_equation es) kind.CloseBrace ∙ equations_placed es) up)

@@ -26,7 +26,7 @@ use Rattle.in_syntax.proofs.Grammar.Separated.{counted_all}
 use Rattle.in_syntax.proofs.Lexing.Standing.{tokens_stand, tokens_in_order}
 use Rattle.in_syntax.proofs.Trees.Terms.{names_out, spell_out}
 
--- tokens that stand one after another are no more than the bytes
+-- tokens that follow one another are no more than the bytes
 fits_text : (text : List ℕ) (n : ℕ) (ts : List Token) → n ≤ length text → StandInOrder n ts → AllByRecursion (StandsIn text) ts → n + length ts ≤ length text
 fits_text text n [] le order all = omega arith
 fits_text text n (t ∷ ts) le order all =
@@ -211,7 +211,7 @@ items_few : (is : List Item) (c : Counts) → IsFew c → Unmarked (spell_items 
 items_few [] c few all = few
 items_few (i ∷ is) c few all = items_few is (counted c i) (item_few c i few (front_all (spell_item c i) (spell_items (counted c i) is) all)) (back_all (spell_item c i) (spell_items (counted c i) is) all)
 
--- what is counted is in the lists of the tree
+-- the counted declarations are in the lists of the tree
 count_types : (is : List Item) (c : Counts) → c.types + length (flat_map types_in is) ≡ (counted_all c is).types
 count_types [] c = omega arith
 count_types (types names ∷ is) c = omega (arith, count_types is (counted c (types names)), length-append names (flat_map types_in is))

@@ -21,7 +21,7 @@ module _ (P : Term → Type 0) (of_arguments : (u : Term) → AllByRecursion P (
   within zero u short = absurd (omega (arith, names_out u, short))
   within (suc h) u short = of_arguments u (all_within h (within h) (out-Term u).args (omega (arith, names_out u, short)))
 
-  -- what holds of a term where it holds of its arguments holds of each term
+  -- a property that holds of a term if it holds of its arguments holds of each term
   pub term_by_arguments : (u : Term) → P u
   term_by_arguments u = within (names_in u) u (omega arith)
 

@@ -20,7 +20,7 @@ listed_of s a free after new = after.listed free (ends_rejoined a.ends s.net.fre
 abbrev site_of : Parts → RuleParts → AgentNo → AgentNo → ℕ → List AgentNo → SiteParts
 site_of n r a b first names = record { net = n; rule = r; one = a; two = b; first = first; names = names }
 
--- the net with what is new, and with its free ends joined anew, is whole, and that of the definition
+-- the net with the new agents and wires, and with its free ends joined anew, is whole, and is that of the definition
 renewed : (s : SiteParts) (x : After) (free : List FreeEnd) → IsSite s → IsAfter s x → Rejoins x.ends s.net.free free →
     IsWhole (record (as_built x.cells free x.wires []) { built = false }) × Interacts s.net s.rule s.one s.two (record (as_built x.cells free x.wires []) { built = false })
 renewed s x free site is new =
@@ -28,7 +28,7 @@ renewed s x free site is new =
     let listed = listed_of s x free is new in
     (whole s site x.cells free x.wires is.count is.cells frees listed, interacts s site x.cells free x.wires is.count is.cells frees listed)
 
--- .. where the partners come as a slice of them
+-- .. if the partners are a slice
 rejoins : (ends slice : List Point) (old free : List FreeEnd) → slice ≡ ends → Rejoins slice old free → Rejoins ends old free
 rejoins ends slice old free e new = subst (λ (ps : List Point). Rejoins ps old free) e new
 

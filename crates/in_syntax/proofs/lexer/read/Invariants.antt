@@ -8,7 +8,7 @@ use Rattle.in_syntax.specs.Tokens.{Reads, Stops}
 use Rattle.in_syntax.specs.Cursors.{IsWithin}
 use Rattle.in_syntax.proofs.lexer.read.Given as goal
 
--- what the rest reads as, or stops at, the whole does, after the tokens so far
+-- if the rest reads as tokens, or stops at a fault, so does the whole, after the tokens so far
 abbrev pub invariant-loop-tokens : goal.invariant-loop-tokens
 invariant-loop-tokens l = record {
   within : IsWithin l.spot l.rest;

@@ -20,7 +20,7 @@ port_at cs x i h = go (option_and_then (λ (c : Option Cell). c) (slice_get cs x
     go None is h = absurd h
     go (Some c) is h = (c, is, h)
 
--- what is read at an index that is there
+-- reading at an index in range
 read_at : (ps : List Point) (i : ℕ) (d : Point) → i < length ps → slice_get ps i ≡ Some (slice_index_or ps i d)
 read_at ps i d lt = let q = at_index ps i lt in q.1 ∙ ap (λ (p : Point). Some p) (sym (get_or_from_slice_get ps i q.0 d q.1))
 

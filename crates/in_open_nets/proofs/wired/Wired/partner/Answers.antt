@@ -9,7 +9,7 @@ use Rattle.in_open_nets.proofs.PartsOf.Slots.{has_slot, port_point, slot_there, 
 use Rattle.in_open_nets.proofs.wired.Wired.partner.Goals as goal
 use Rattle.in_syntax.specs.Grammar.{max_ports}
 
--- what stands in the slot of a port, by any default
+-- the content of the slot of a port, by any default
 read : (o : OpenNet) → IsOrderly o → (slots found : List Slot) (n i : ℕ) (s : Slot) → IsWired o slots → i < ports_of o n → found ≡ slots
     → s ≡ get_or found (n * (max_ports + 1) + i) s → get_or slots (n * (max_ports + 1) + i) None ≡ s
 read o orderly slots found n i s w h e is =
