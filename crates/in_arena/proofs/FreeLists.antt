@@ -151,7 +151,7 @@ first_of xs next (f ∷ fs) h apart =
       listed = subst (λ k. IsFreeList xs k fs) (sym v.3) h.2.2;
     }
 
--- no free cell was used
+-- if the list ends at once, no used cell is free
 none_listed : (most : ℕ) (xs : List CellWords) (l : FreeList) (h : ListsFree most xs l) → l.next ≡ length xs → length h.free ≡ 0
 none_listed most xs l h e = none h.free h.listed
   where
