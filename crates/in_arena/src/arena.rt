@@ -275,7 +275,7 @@ impl Arena {
         self.words.write(self.base, spot.far_word(place), end);
     }
 
-    /// Writes the end at the place to which `at` leads, if that is one of a live cell, and returns true. For a free end, writes nothing and returns false.
+    /// Writes the end at the place to which `at` leads, if that is one of a live cell, and returns true. If `at` is a free end, returns false.
     #[inline(always)]
     pub fn set_at(&mut self, at: EndWord, end: EndWord) -> bool
         requires { (c : Number) (p : ℕ) → at ≡ Cell c p → p < places (state_at self.old c.0) }

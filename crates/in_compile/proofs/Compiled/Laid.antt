@@ -29,7 +29,7 @@ pub end_joint : (o : Option FreeEnd) → option_map (λ (f : FreeEnd). joint_of 
 end_joint None = refl
 end_joint (Some f) = refl
 
--- what stands in a list is there when the list is longer
+-- the ends in a list stay when the list gets longer
 pub ends_kept : (joints more : List Joint) (a : MemberAgent) → a.first + a.places ≤ length joints → ends_from (joints ++ more) a ≡ ends_from joints a
 ends_kept joints more a within =
     let room : a.places ≤ length (drop a.first joints) = omega (arith, within, length-drop a.first joints) in

@@ -1,4 +1,4 @@
--- What holds of each two of a list.
+-- Properties of each two elements of a list.
 use Rattle.std.proofs.Common.{inl, inr, ◌<◌, ◌+◌, ℕ, Bool, true, false, cond, List, [], ◌∷◌, ◌++◌, map, refl, subst, arith}
 use Rattle.std.specs.List.{AllByRecursion, enumerate_from, filter}
 use Rattle.in_base.specs.Lists.{IsAmong, Pairwise}

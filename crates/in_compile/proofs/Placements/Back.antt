@@ -1,4 +1,4 @@
--- What goes back to an arena, by its cells and by their number.
+-- Cells that go back to an arena, one by one and by their number.
 use Rattle.std.proofs.Common.{◌≡◌, ◌≢◌, ◌⊎◌, inl, inr, ◌<◌, ◌+◌, ◌*◌, ℕ, zero, suc, cond, List, [], ◌∷◌, length, take, drop, get_or, count_by, Some, slice_get, refl, sym, ap, subst, ◌∙◌, get_or-set_same, get_or-set_other, length-drop, arith}
 use Rattle.std.proofs.lemmas.Bool.{cases_eq}
 use Rattle.std.proofs.lemmas.List.{get_or-drop}
@@ -43,7 +43,7 @@ one_of_all a (m ∷ ns) x n (suc k) inside at = go (cases_eq n.0 m.0) (one_of_al
         ap (state_at (with_all a (m ∷ ns) x)) e ∙ get_or-set_same (with_all a ns x).states m.0 x Leased (subst (λ z. m.0 < z) (sym (count_all a ns x)) (subst (λ z. z < length a.states) e inside))
     go (inr other) rest = get_or-set_other (with_all a ns x).states m.0 n.0 x Leased other ∙ rest
 
--- ---- what was leased and goes back
+-- ---- leased cells that go back
 
 pub same_states : (xs ys : List State) → length xs ≡ length ys → ((n : ℕ) → get_or xs n Leased ≡ get_or ys n Leased) → xs ≡ ys
 same_states [] [] e h = refl
@@ -74,7 +74,7 @@ module _ (count : CellClass → ℕ) (a a' b' a'' : ArenaView) (all : HasAllCell
         (λ n. as_before n (one_or_same a adds.cells Leased n) (one_or_same (empty_bag a) adds.cells Vacant n)) i;
   }
 
--- ---- what is placed
+-- ---- placed cells
 
 -- a placed cell was the stock's
 placed_was : (need : Need) (s s' : StockParts) (p : PlacedParts) → TakesCells need p.cells s s' → AreCellsOf p.bag p.cells → (n : ℕ) → IsInBag p.bag n → state_at s.bag n ≡ Vacant
