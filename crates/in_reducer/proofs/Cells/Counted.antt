@@ -17,7 +17,7 @@ use Rattle.in_compile.specs.Cells.{is_of, takes, agents_of, count_of}
 use Rattle.in_reducer.specs.Standing.{agent_in, agents_in, at_rest, vacant_in, IsNetIn}
 use Rattle.in_reducer.proofs.Cells.AtRest.{agents_same}
 
--- ---- where something holds in a part of a list alone
+-- ---- states that only a part of a list has
 
 module _ (P : State → Bool) where
   abbrev one : State → ℕ
@@ -165,6 +165,6 @@ module _ (t : Tables) (a : ArenaView) (h : IsNetIn t a) where
   has_cells Large = all_cells Large
   has_cells Wide = all_cells Wide
 
--- .. where a leased cell counts as free
+-- .. if a leased cell counts as free
 pub cells_at_rest : (t : Tables) (a : ArenaView) → IsNetIn t (at_rest a) → (c : CellClass) → count_of (vacant_in (at_rest a)) c + agents_of t c (agents_in a) ≡ a.cells
 cells_at_rest t a net c = subst (λ (xs : List (Option Cell)). count_of (vacant_in (at_rest a)) c + agents_of t c xs ≡ a.cells) (agents_same a) (has_cells t (at_rest a) net c)

@@ -26,7 +26,7 @@ use Rattle.in_reducer.proofs.Cells.Counted.{all_cells}
 
 -- ---- agents
 
--- the agent of a number is what its cell holds; past the last cell there is none
+-- the agent of a number is the one in its cell; past the last cell there is none
 pub cell_is : (a : ArenaView) (free : List FreeEnd) (n : ℕ) → cell_in (unlisted (agents_in a) free) n ≡ agent_in (state_at a n)
 cell_is a free n =
     ap (option_and_then (λ (c : Option Cell). c)) (slice_get-map agent_in a.states n) ∙ held (slice_get a.states n)
@@ -36,7 +36,7 @@ cell_is a free n =
     held None = refl
     held (Some x) = refl
 
--- .. and its places lead where those of the cell do
+-- .. and its places lead where the cell's ends do
 pub partner_is : (a : ArenaView) (free : List FreeEnd) (x : AgentNo) (i : ℕ) → partner_in (unlisted (agents_in a) free) (Port x i) ≡ option_map point_at (end_at (state_at a x.0) i)
 partner_is a free x i = ap (option_and_then (λ (c : Cell). slice_get c.ends i)) (cell_is a free x.0) ∙ at (state_at a x.0)
   where

@@ -45,7 +45,7 @@ module _ {X : Type 0} (P : X → Bool) where
       let one : ◌≡◌ {A = ℕ} (cond (P (get_or xs i x)) 1 0) 1 = ap (λ (b : Bool). cond b 1 0) (ap P (get_or_from_slice_get xs i x x e) ∙ p) in
       omega (arith, before, all, more, one)
 
-  -- what passes is in the list, and passes
+  -- an element that passes is in the list
   pub of_filter : (xs : List X) (j : ℕ) (x : X) → slice_get (filter P xs) j ≡ Some x → (k : ℕ) × (slice_get xs k ≡ Some x) × (P x ≡ true)
   of_filter [] j x e = absurd (let f : None ≡ Some x = e in cc)
   of_filter (y ∷ xs) j x e = go (P y) refl j e (λ i f. (let r = of_filter xs i x f in (suc r.0, r.1, r.2)))
@@ -68,7 +68,7 @@ module _ {X : Type 0} (P : X → Bool) where
   once_filter [] once j k x e d = absurd (let f : None ≡ Some x = e in cc)
   once_filter (y ∷ xs) once j k x e d = go (P y) j k e d (once_filter xs (λ i l z a b. (let s = once (suc i) (suc l) z a b in omega (arith, s))))
     where
-      -- the first one stands nowhere else
+      -- the first one is at no other place
       other : (k : ℕ) → y ≡ x → slice_get (filter P xs) k ≡ Some x → ⊥
       other k is f = let r = of_filter xs k x f in let z = once 0 (suc r.0) x (ap (λ (v : X). Some v) is) r.1 in omega (arith, z)
 

@@ -1,4 +1,4 @@
--- A reducer after a part was glued on: the free ends of its own, and then by turns one of the part and one of the rest.
+-- A reducer after a part was glued on: the rest's own free ends, and then by turns one of the part and one of the rest.
 use Rattle.std.proofs.Common.{◌≡◌, ◌<◌, ◌≤◌, ◌+◌, ℕ, zero, suc, Option, Some, List, ◌++◌, length, length-append, map, take, slice_get, refl, sym, ap, subst, ◌∙◌, arith}
 use Rattle.std.proofs.lemmas.List.{length-map, length-take-le}
 use Rattle.std.proofs.lemmas.Option.{slice_get-map, slice_get_within}

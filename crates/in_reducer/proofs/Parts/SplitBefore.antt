@@ -50,7 +50,7 @@ module _ (r : Body) (k : KeepsNet r) where
   abbrev m : Net ℕ
   m = net_in (reducer_view r)
 
-  -- what its free ends lead to
+  -- the ends to which its free ends lead
   abbrev pub own_ends : List End
   own_ends = take (length (own_free r)) r.ends.items
 

@@ -42,7 +42,7 @@ one_more_end ns joints k j es v stands low is before =
 
 -- ---- free ends
 
--- what holds of each holds of one more
+-- a property of each element, and of one more
 pub each_push : {X : Type 0} (P : X → Type 0) (xs : List X) (x : X) → ((j : ℕ) (y : X) → slice_get xs j ≡ Some y → P y) → P x → (j : ℕ) (y : X) → slice_get (xs ++ x ∷ []) j ≡ Some y → P y
 each_push P [] x each here zero y e = subst P (same_Some x y e) here
 each_push P [] x each here (suc j) y e = cc

@@ -175,6 +175,6 @@ module _ (t : Tables) (n : Parts) (over : IsOver t n) (m : MemberParts) (of : Is
     pub wire_there : (k i l j : ℕ) → (net_of n).partner (Port k i) ≡ Some (Port l j) → end_at (state_at new (named ns k)) i ≡ Some (end_of (Port (named ns l) j))
     wire_there k i l j e = by_joint k i (ToAgent l j) (slice_get m.agents k) refl (inner_joint k i l j e)
 
-    -- at a place that leads to a boundary end stands its number
+    -- a place that leads to a boundary end holds the end's number
     pub end_number_there : (k i e : ℕ) → joint_at m (ToAgent k i) ≡ Some (ToBoundary e) → end_at (state_at new (named ns k)) i ≡ Some (end_in ns (ToBoundary e))
     end_number_there k i e h = by_joint k i (ToBoundary e) (slice_get m.agents k) refl h

@@ -135,7 +135,7 @@ module _ (r : Body) (k : KeepsNet r) (i : ℕ) (p : TemplateParts) (at : IsTempl
     room = room_there own is_own ends is_ends;
   })
 
-  -- what the pair needs is what the template does
+  -- the pair's need is the template's
   pub same_need : (x : Need) → NeedsAt (reducer_view r) i x → (c : CellClass) → count_of x c ≡ count_of p.member.need c
   same_need x needs c =
       let pair : needs.pair ≡ at.pair = same_Some needs.pair at.pair (sym needs.stands ∙ at.stands) in
