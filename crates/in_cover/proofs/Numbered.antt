@@ -35,7 +35,7 @@ written_as r x y = is_for_by r x y (cases_eq r.heads.0.0 x) (cases_eq r.heads.1.
 
 -- ---- one more rule
 
--- what the table has for two symbols, when the rule's number is written at its symbols in both orders
+-- the table's rule for two symbols, when the rule's number is written at its symbols in both orders
 read_by : (r : RuleParts) (old new : Cells) (k : RuleNo) → SetsBoth old r.heads.0.0 r.heads.1.0 k new → (x y : ℕ) →
     ((r.heads.0.0 ≡ x) × (r.heads.1.0 ≡ y)) ⊎ ((r.heads.0.0 ≡ x) × (r.heads.1.0 ≡ y) → ⊥) → ((r.heads.0.0 ≡ y) × (r.heads.1.0 ≡ x)) ⊎ ((r.heads.0.0 ≡ y) × (r.heads.1.0 ≡ x) → ⊥) →
     (IsRuleOfSymbols r x y × (rule_at new x y ≡ Some k)) ⊎ ((IsRuleOfSymbols r x y → ⊥) × (rule_at new x y ≡ rule_at old x y))

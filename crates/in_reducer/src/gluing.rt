@@ -58,8 +58,8 @@ fn list_part_numbers(cuts: Cuts, numbers: &mut Vec<u32>)
     }
 }
 
-/// Adds the live cells of a class, in the order of their numbers, to those of the classes before. Cells from the number on from which all are free
-/// aren't read. It takes no memory.
+/// Adds the live cells of a class, in the order of their numbers, to those of the classes before. Cells from `used` on, which are free, aren't
+/// read. It takes no memory.
 fn list_class(arena: &Arena, class: CellClass, cells: &mut Vec<CellNo>)
     requires leased { NoneLeased arena.now × HasAllCells arena.now }
     requires small { arena.now.cells ≤ most_cells }
