@@ -130,7 +130,7 @@ module _ {A : Type 0} (s : A → A → Bool) (test : IsTest s) where
           )),
     )
 
-    -- a number of a wire met stands nowhere, where the wire's variable doesn't
+    -- the number of a wire that was met is nowhere in the parts, if the wire's variable isn't
     number_nowhere : (ps : List (TextPart A)) → AllByRecursion (IsOfNet n) ps → (met : List (Point A)) (k : ℕ) (a b : Point A) → n.partner a ≡ Some b → At met k a → StandsTimes 0 (Variable a b) ps → StandsTimes 0 (Variable b a) ps → StandsTimes 0 k (numbers s met ps)
     number_nowhere [] of met k a b e h x y = tt
     number_nowhere (Bytes bs ∷ ps) of met k a b e h x y = number_nowhere ps of.1 met k a b e h x.1 y.1
@@ -156,7 +156,7 @@ module _ {A : Type 0} (s : A → A → Bool) (test : IsTest s) where
           again met h,
         )
 
-    -- .. and once, where its variable at the other point occurs once
+    -- .. and once, if its variable at the other point occurs once
     number_once : (ps : List (TextPart A)) → AllByRecursion (IsOfNet n) ps → (met : List (Point A)) (k : ℕ) (a b : Point A) → AreApart met → n.partner a ≡ Some b → At met k a → StandsTimes 0 (Variable a b) ps → StandsTimes 1 (Variable b a) ps → StandsTimes 1 k (numbers s met ps)
     number_once [] of met k a b apart e h x y = absurd y
     number_once (Bytes bs ∷ ps) of met k a b apart e h x (inl y) = cc
