@@ -117,7 +117,7 @@ first_are_bags bs cs b a of =
     (All-append (AreOfOne a) bs cs (all_left (AreOfOne a) bs (b ∷ []) front) (all_right (AreOfOne a) (bs ++ b ∷ []) cs one)))
     (λ n. let e = holders-first n bs cs b in omega (arith, e))
 
--- ---- what is given back
+-- ---- cells that are given back
 
 pub none_returned : (bs cs : List ArenaView) (a : ArenaView) → ((n : ℕ) → holders n cs ≡ holders n bs) → Returns bs cs a a
 none_returned bs cs a same = record {
@@ -139,7 +139,7 @@ returns_by bs cs bs' cs' a a' before after r = record {
   others = λ n same. let e = before n in let f = after n in r.others n (omega (arith, e, f, same));
 }
 
--- bags beside, which stay
+-- other bags stay
 pub returns_beside : (ds bs cs : List ArenaView) (a a' : ArenaView) → Returns bs cs a a' → Returns (ds ++ bs) (ds ++ cs) a a'
 returns_beside ds bs cs a a' r = record {
   memory = r.memory;
@@ -203,7 +203,7 @@ left_are_bags bs cs a a' of one r = record {
   once = λ n. let f = r.fewer n in let o = of.once n in omega (arith, f, o);
 }
 
--- .. also beside others
+-- .. also with other bags
 pub beside_are_bags : (ds bs cs : List ArenaView) (a a' : ArenaView) → AreBagsOf (ds ++ bs) a → Returns bs cs a a' → AreBagsOf cs a' → AreBagsOf (ds ++ cs) a'
 beside_are_bags ds bs cs a a' of r left =
     left_are_bags (ds ++ bs) (ds ++ cs) a a' of

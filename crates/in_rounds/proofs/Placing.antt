@@ -46,7 +46,7 @@ module _ (need : Need) (s s' : StockParts) (p : PlacedParts) (takes : TakesCells
 pub one_of_one : (a b c : ArenaView) → AreOfOne a b → AreOfOne b c → AreOfOne a c
 one_of_one a b c ab bc = (bc.0 ∙ ab.0, bc.1 ∙ ab.1)
 
--- ---- what a template needs
+-- ---- the need of a template
 
 -- a template that is found is one of the templates
 pub template_in : (ts : TemplatesParts) (c d : ℕ) (t : TemplateParts) → template_at ts c d ≡ Some t → (k : ℕ) × (slice_get ts.templates k ≡ Some t)

@@ -22,7 +22,7 @@ pub fn takes_are_one()
     ensures { TakesAreOne }
 {}
 
-/// Taking the first pairs in turn, one at least, until there are no more jobs or no room for the next one, is a round.
+/// Taking the first pairs in turn, at least one, until there are no more jobs or no room for the next one, is a round.
 pub fn rounds_end()
     ensures { RoundsEnd }
 {}
