@@ -14,7 +14,7 @@ use Rattle.in_claims.specs.Laws.{numbers_of, ClaimsAreApart, ClaimsAreBelowTheLi
 use Rattle.in_claims.specs.Seats.{BoardView, fresh, hand_of}
 use Rattle.in_claims.proofs.Sums.{at_most, if_below, two_of_sum, some_term, counted_at, stands_counted}
 
--- it stands where there is no seat
+-- the hand for a number without a seat
 abbrev nobody : Hand
 nobody = hand 0 (record { limit = 0; seats = 0 }) [] false
 
@@ -140,7 +140,7 @@ shared limit word a b claims = (
       elim (cases_lt 0 (count k a.numbers)) [ inl some ↦ inl (contained k a.numbers some) | inr none ↦ inr (contained k b.numbers (omega (arith, claimed))) ]),
 )
 
--- what is nothing at each new seat is nothing at all of them
+-- if f is 0 for each new seat, the sum of f over them is 0
 none_in_new : (f : Hand → ℕ) (board : BoardView) → f (hand_of (fresh board)) ≡ 0 → (n : ℕ) → sum_by f (map hand_of (replicate n (fresh board))) ≡ 0
 none_in_new f board none zero = refl
 none_in_new f board none (suc n) =

@@ -60,7 +60,7 @@ module _ (size : Size) (limit_fits : size.limit < 2 ^ 32) (seats_fit : size.seat
   rise =
       All-head (λ (v : Hand). IsStrictlyIncreasing v.numbers) h [] (all_in_view (λ (v : Hand). IsStrictlyIncreasing v.numbers) s.views id (h ∷ []) at kept.claims.rise)
 
-  -- what a sum over the hands is once this hand changes
+  -- a sum over the hands after this hand changes
   change_to : (f : Hand → ℕ) (u : Hand) → sum_by f (all_hands (set s.views id (u ∷ []))) + f h ≡ sum_by f (all_hands s.views) + f u
   change_to f u = omega (arith, change f s.views id (h ∷ []) (u ∷ []) at, sum_by-cons f h [], sum_by-cons f u [])
 

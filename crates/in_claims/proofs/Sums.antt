@@ -14,7 +14,7 @@ at_get [] i v e = absurd (some-ne-none v (sym e))
 at_get (x ∷ xs) zero v e = (omega arith, some-injective x v e)
 at_get (x ∷ xs) (suc i) v e = let t = at_get xs i v e in (omega (arith, t.0), t.1)
 
--- what a test counts
+-- the value of a test that is counted
 pub at_most : (b : Bool) (n : ℕ) → cond b n 0 ≤ n
 at_most true n = omega arith
 at_most false n = omega arith
@@ -46,7 +46,7 @@ sum_le f g [] each = omega arith
 sum_le f g (x ∷ xs) each =
     omega (arith, sum_by-cons f x xs, sum_by-cons g x xs, each 0 x (omega arith), sum_le f g xs (λ k d lt. each (suc k) d (omega arith)))
 
--- a number that is counted stands somewhere, and one that stands somewhere is counted
+-- a number is counted if and only if it is in the list
 pub counted_at : (xs : List ℕ) (k : ℕ) → 0 < count_by (λ j. eqb j k) xs → (i : ℕ) × (i < length xs) × (get_or xs i 0 ≡ k)
 counted_at xs k h = let t = some_term (λ j. cond (eqb j k) 1 0) xs 0 h in (t.0, t.1, one_is (get_or xs t.0 0) k t.2)
   where

@@ -31,7 +31,7 @@ each_of_all P [] all = All-nil (All P)
 each_of_all P (x ∷ xs) all =
     All-cons (All P) x xs (front P x (all_hands xs) all) (each_of_all P xs (back P x (all_hands xs) all))
 
--- what a sum over all hands is once this view is another
+-- a sum over all hands after this view changes
 pub change : (f : Hand → ℕ) (views : List (List Hand)) (id : ℕ) (old new : List Hand) → get_elem? views id ≡ some old →
     sum_by f (all_hands (set views id new)) + sum_by f old ≡ sum_by f (all_hands views) + sum_by f new
 change f views id old new at =

@@ -341,7 +341,7 @@ fn add_other_help(report: &mut Report, refused: Refused, best: Option<Trial>) {
     }
 }
 
-/// Adds help: the first of these remedies with which the text is accepted, otherwise the usual braces if they build the refused rule or net, otherwise
+/// Adds help: the first of these remedies with which the text is accepted, otherwise the usual braces if they build the refused rule or net, else
 /// the best of the remedies.
 pub(crate) fn add_help(report: &mut Report, remedies: &[Remedy], refused: Refused) {
     match best_of(report.alloc, refused, to_try(refused.text, remedies)) {
