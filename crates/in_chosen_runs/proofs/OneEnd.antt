@@ -20,7 +20,7 @@ use Rattle.in_chosen_runs.specs.declared.running.Chosen.{Chosen}
 turned : (m n : MachineParts) → IsMachine m → AreSame m n → AreSame n m
 turned m n machine same = an_equivalence.back m n (as_reducer m machine) same
 
--- what the one does the other can do
+-- one run can do the choices that the other does
 can_too : (m n o : MachineParts) (i : ℕ) → IsMachine m → AreSame m n → StepsAt n i o → CannotStep m i → ⊥
 can_too m n o i machine same s cannot =
     let back = turned m n machine same in

@@ -132,7 +132,7 @@ module _ (sig : Signature) (n m : Net ℕ) (x : Redex ℕ ℕ) (f name : ℕ →
           let same : w.0 ≡ y = sym (aside.stays w.0 not_one not_two) ∙ w.1 in
           ((λ e. not_one (same ∙ e)), (λ e. not_two (same ∙ e)), ap n.symbol (sym same) ∙ w.2)
 
-  -- ---- what is so overwritten
+  -- ---- the net that is overwritten
 
   module _ (after : Net ℕ) (over : IsOverwrittenInPlace sig n x name after) where
     kept_m : (u v : Point ℕ) → (IsOfPair z u → ⊥) → (IsSide sig m z name u → ⊥) → m.partner u ≡ Some v → after.partner u ≡ Some v

@@ -7,7 +7,7 @@ use Rattle.in_row.specs.Ends.{CellSize, Small, Large, Wide, Layout, IsLayout, Is
 
 -- ---- places
 
--- each place below 17 has a word of its own, which isn't the first one
+-- each place below 17 has its own word, which isn't the first one
 pub place_offset : (p : ℕ) → p < 17 → place_of (offset p) ≡ p
 place_offset zero lt = refl
 place_offset (suc zero) lt = refl

@@ -27,7 +27,7 @@ module _ (ws : Slots) (plus minus : ℕ) (one : IsHere ws plus) (two : IsHere ws
   pub second_inside : minus < length (put ws plus minus)
   second_inside = subst (λ k. minus < k) (sym (length-set ws plus (Some (Some minus)))) (here_inside ws minus two)
 
-  -- what was here stays here
+  -- a word that was here stays here
   pub still_here : (k : ℕ) → IsHere ws k → IsHere (both ws plus minus) k
   still_here k h = here_stays (put ws plus minus) minus plus k second_inside (here_stays ws plus minus k (here_inside ws plus one) h)
 

@@ -146,7 +146,7 @@ module _ (p : Program) (l : Limits) (k : ℕ) (m : MachineParts) (h : IsStateOfR
   pub ends_so : (s : Stop) → IsStop l.limit m k s → RunsTo p l (Ok (record { machine = m; interactions = k; stop = s }))
   ends_so s stop = ((h.reaches, h.within, stop), λ one. (let from = h.in_turn one in (from.0, from.1, record { run = from.2; within = h.within; stop = stop })))
 
--- ---- in turn, whatever workers there are
+-- ---- in turn, with any number of workers
 
 pub record IsInTurn (p : Program) (l : Limits) (k : ℕ) (m : MachineParts) : Type 0 where
   pub start : MachineParts

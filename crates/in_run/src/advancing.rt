@@ -14,7 +14,7 @@ use std::thread::Threads;
 /// The number of pairs that are taken before the next test whether a phase pays.
 const TURN: u64 = 1_024;
 
-/// Does some interactions on this thread, at most `most`: of the newest pairs while half of the cells are free, else of the oldest ones. Returns
+/// Does some interactions on this thread, at most `most`: of the newest pairs while half of the cells are free, otherwise of the oldest ones. Returns
 /// their number.
 fn take_alone(machine: &mut Machine, limits: Limits, most: u64) -> u64
     ensures goes { (m : MachineParts) (k : ℕ) → RunsAnyhow m k machine.old → RunsAnyhow m (result + k) machine.new }
