@@ -75,7 +75,7 @@ run_given : subcommand_of command_line run_words ≡ Some (codes "run", usual_ro
 unfolding clap_on_literals
 run_given = refl
 
--- what is found wrong in a word with a number, and in three of them
+-- the errors in a word with a number, and in three of them
 abbrev in_word : Bool → Kinds
 in_word b = or_else (or_else (cond b [] (ValueValidation ∷ [])) []) []
 

@@ -15,7 +15,7 @@ pub first_none : (a b : Kinds) → or_else a b ≡ [] → (a ≡ []) × (b ≡ [
 first_none [] b e = (refl, e)
 first_none (k ∷ ks) b e = cc
 
--- a use with no fault keeps what is known of the rows
+-- a use without a fault keeps this property of the rows
 abbrev pub Keeps : (List Row → Type 0) → Rule → Type 0
 Keeps Good a = (again : Bool) (values : List Text) (rows : List Row) → Good rows → use_fault again a values rows ≡ [] → Good (used a values rows)
 

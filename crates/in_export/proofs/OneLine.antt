@@ -23,7 +23,7 @@ exported_once text (Err (Refused q)) (Err (Refused r)) l r2 = checked_once text 
 exported_once text (Err (Refused q)) (Err (Memory e)) l r = tt
 exported_once text (Err (Memory e)) b l r = tt
 
--- what the check refuses is refused
+-- a text that the check refuses is refused
 pub refused_so : (text : List ℕ) (f : Fault) → IsChecked text (Err f) → Exports text (Err f)
 refused_so text (Refused r) h = h
 refused_so text (Memory e) h = tt

@@ -6,7 +6,7 @@ use Rattle.in_reducer.specs.Parting.{ReducesTo}
 use Rattle.in_reducer.specs.PartingLaws.{IsCutTimes, uncut, then_cut}
 use Rattle.in_reducer.proofs.Public.{cuts_are_undone}
 
--- what was there is cut w times, and is reduced to this since
+-- the net was cut w times, and reduced to this one since
 pub record IsCutAndReduced (m : MachineParts) (w k : ℕ) (now : MachineParts) : Type 0 where
   pub cut : MachineParts
   pub times : IsCutTimes m w cut

@@ -23,7 +23,7 @@ pub struct Watching<'a, T, E> {
     shows: bool,
     /// Whether figures are requested.
     counts: bool,
-    /// When the program was started, its run began, a line was shown, and the run stopped.
+    /// The times at which the program was started, its run began, a line was shown, and the run stopped.
     started: Option<Instant>,
     begun: Option<Instant>,
     shown: Option<Instant>,
