@@ -50,7 +50,7 @@ module _ (s s' : StockParts) (d : DoneParts) (g : GatherParts) (a : ArenaView) (
       let new = holders-cons n s'.bag (bags_of h.slots) in
       omega (arith, put, first, second, new))
 
--- what is taken is in hand
+-- a taken result is in hand
 pub taken_in_hand : (s : StockParts) (d : DoneParts) (g h : GatherParts) (job : ℕ) (a : ArenaView) → HaveAllLeased (s.bag ∷ bags_of g.slots) a → TakesDone g job (Some d) h → HaveAllLeased (d.placed.placed.bag ∷ s.bag ∷ bags_of h.slots) a
 taken_in_hand s d g h job a have takes =
     let bag = d.placed.placed.bag in

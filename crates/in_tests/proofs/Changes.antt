@@ -66,6 +66,6 @@ same_room a b c n e is =
 pub same_room_after : (a b d : ArenaView) (c : CellClass) (n : ℕ) (x : State) → b ≡ empty_bag a → d ≡ changed b n x → IsNumberOf a.cells c n → n < length d.states
 same_room_after a b d c n x e f is = let lt = same_room a b c n e is in omega (arith, lt, ap (λ (v : ArenaView). length v.states) f, length-set b.states n x)
 
--- what a cell is already it may become
+-- a cell may change to its own state
 pub same_again : (a : ArenaView) (n : ℕ) (x : State) → state_at a n ≡ x → changed a n x ≡ a
 same_again a n x is = λ i. record { memory = a.memory; cells = a.cells; states = (ap (set a.states n) (sym is) ∙ set-get_or a.states n Leased) i }

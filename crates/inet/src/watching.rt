@@ -33,7 +33,7 @@ pub struct Watching<'a, T, E> {
     seen: Option<Progress>,
 }
 
-/// The larger numbers of cells.
+/// The larger numbers of cells in use.
 fn with_most(seen: Option<Progress>, progress: Progress) -> Progress {
     let mut most = progress;
     if let Some(seen) = seen {
@@ -50,7 +50,7 @@ fn between(from: Option<Instant>, to: Option<Instant>) -> Option<Duration> {
 }
 
 impl<'a, T: Clock, E: Write> Watching<'a, T, E> {
-    /// A watch from now on.
+    /// A watch that begins now.
     pub fn new(
         clock: &'a T,
         alloc: Global,
@@ -96,7 +96,7 @@ impl<'a, T: Clock, E: Write> Watching<'a, T, E> {
         }
     }
 
-    /// Writes the time that something took.
+    /// Writes the time of a part of the run.
     fn tell_time(&mut self, what: &str, time: Duration) {
         let seconds = time.as_secs();
         let thousandths = time.subsec_millis();
