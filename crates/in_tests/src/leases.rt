@@ -111,7 +111,7 @@ pub fn make(
     cell
 }
 
-// This place leads to a live cell.
+// This place of a live cell holds this end.
 pub fn expect_port(rt: &impl Abort, arena: &Arena, cell: CellNo, place: u8, end: End)
     requires live { IsLive (state_at arena.now cell.0) }
     requires place { place < places (state_at arena.now cell.0) }

@@ -96,7 +96,7 @@ impl<'a, T: Clock, E: Write> Watching<'a, T, E> {
         }
     }
 
-    /// Writes the time of a part of the run.
+    /// Writes the time of this part of the program's work.
     fn tell_time(&mut self, what: &str, time: Duration) {
         let seconds = time.as_secs();
         let thousandths = time.subsec_millis();
