@@ -2,9 +2,9 @@
 //! interactions one after another.
 //!
 //! Jobs are the first pairs of the queue, by their symbols. `lending` gives each worker its `hand`: a seat at a board (`in_claims`), a stock with
-//! its share of the free cells (`sharing`), and room for its results. `working` is the work of a worker, each in a thread of its own (`threads`): it
 //! its share of the free cells (`sharing`), and room for its results. `working` is the work of a worker, each in its own thread (`threads`): it
 //! claims jobs from the board and places their templates. All hands come back by value; `bringing` frees the unused cells and puts the results in a
+//! `Gather` (`gathering`).
 //!
 //! A `Done` is a placed template with its job and the templates that made it, and is always the template of the job's symbols; a `Gather`
 //! keeps one for each job of a list. The cells on lease are counted by one number: that of the bags of a list that have a cell (`holders` in
