@@ -300,7 +300,7 @@ used most xs l h i lt new =
     let one : vacancy (get_or xs i None) ≡ 1 = ap vacancy new in
     omega (arith, counted, length-set xs i None, sum_by-set vacancy xs i None None inside, one, h.all)
 
--- .. and has a content where it isn't on lease
+-- .. and has a content if it isn't on lease
 pub used_cell : (s : CellWords) → (IsLeased (state_of s) → ⊥) → (s ≡ Some None → ⊥) → (c : Content) × (s ≡ Some (Some c))
 used_cell None out new = absurd (out tt)
 used_cell (Some None) out new = absurd (new refl)

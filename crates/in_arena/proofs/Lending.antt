@@ -117,7 +117,7 @@ vacant_or_leased e = cc
 
 -- ---- a lease stays one of its arena
 
--- where other cells change
+-- if other cells change
 pub still_of : (a : ArenaView) (l : LeaseView) (ns : List ℕ) (x : State) → IsOf l a → times l.number ns ≡ 0 → IsOf l (with_all a ns x)
 still_of a l ns x is other = record { memory = is.memory; cells = is.cells; number = is.number; leased = all_set-other a.states ns l.number x Leased other ∙ is.leased }
 
@@ -131,7 +131,7 @@ leased_still xs (m ∷ ns) n is = leased_still (set xs m Leased) ns n (⊎_elim 
     stays (y ∷ ys) zero = refl
     stays (y ∷ ys) (suc k) = stays ys k
 
--- and where any cells are leased
+-- .. and if any cells are leased
 pub still_leased : (a : ArenaView) (l : LeaseView) (ns : List ℕ) → IsOf l a → IsOf l (with_all a ns Leased)
 still_leased a l ns is = record { memory = is.memory; cells = is.cells; number = is.number; leased = leased_still a.states ns l.number is.leased }
 

@@ -22,7 +22,7 @@ use std::alloc::{AllocError, Global};
 use std::marker::Model;
 use std_alloc::room::may_hold;
 
-// How many words the row has for each number of cells of a class: four for each cell, and six and fourteen more for a large and a wide one.
+// The number of words that the row has for each number of cells of a class: four for each cell, and six and fourteen more for a large and a wide one.
 const WORDS: usize = 32;
 
 /// Cells in raw memory, the same number of each class, numbered class by class from 0. Contracts see the state of each cell, by its number: free,

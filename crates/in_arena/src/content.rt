@@ -55,7 +55,7 @@ impl CellClass {
         }
     }
 
-    /// How many ends a cell of this class has room for, the principal port's among them.
+    /// The number of ends for which a cell of this class has room, the principal port's among them.
     pub fn width(self) -> u8
         ensures { result ≡ width self }
     {

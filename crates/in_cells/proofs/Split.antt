@@ -157,7 +157,7 @@ module _ (from left old new : ArenaView) (agents names : List CellNo) (numbers :
       go (inl h) = absurd (not_both u (stays_in v u h (back.0 u v e)) at)
       go (inr h) = h
 
-  -- under its number in its part, a point is where it was
+  -- under its number in its part, a point has the same end as before
   in_place : (u : Point ℕ) → IsIn u → u ≡ placed number origin 1 (to u)
   in_place (Port y i) at = ap (λ (z : ℕ). Port z i) (sym (from_where at.0 (record { 0 = y }) at.1))
   in_place (Free f) at = ap Free (sym (split.places f 1 at.0 at.1) ∙ ap (place 1) (sym (split.part f at.0 at.1).0))

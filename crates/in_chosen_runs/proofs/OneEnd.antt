@@ -74,7 +74,7 @@ module _ (text : List ℕ) (p : Program) (accepted : IsAccepted text p) (choices
   middle : IsMachine h.middle × IsMachine g.middle × AreSame h.middle g.middle
   middle = same_choices h.start g.start h.middle g.middle (take o.chosen choices) one two start h.by_choice (subst (λ i. StepsBy g.start (take i choices) g.middle) (sym as_many) g.by_choice)
 
-  -- what comes after the choices of the second run comes after those of the first
+  -- the interactions after the second run's choices are possible after those of the first
   other : RunsUpToNumbers h.middle u.further u.machine
   other = let z = g.in_turn in (z.0, an_equivalence.through h.middle g.middle z.0 middle.2 z.1, z.2)
 

@@ -108,7 +108,7 @@ place_of hands k seat inside counted =
     stands_in : (numbers list : List ℕ) (k : ℕ) → list ≡ numbers → (i : ℕ) × (i < length numbers) × (get_or numbers i 0 ≡ k) → (place : ℕ) × (slice_get list place ≡ Some k)
     stands_in numbers list k same at = (at.0, ap (λ l. slice_get l at.0) same ∙ slice_get-get_or numbers at.0 0 at.1 ∙ ap (λ (n : ℕ). Some n) at.2)
 
--- where this number is claimed
+-- a seat and a place at which this number is claimed
 claimed_by : (hands : List Hand) (k : ℕ) → 1 ≤ times_claimed k hands → (seat : ℕ) × (place : ℕ) × (slice_get (numbers_of hands seat) place ≡ Some k)
 claimed_by hands k claimed =
     let seat = some_term (λ (u : Hand). count k u.numbers) hands nobody claimed in

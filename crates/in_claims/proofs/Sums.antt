@@ -40,7 +40,7 @@ some_term f (x ∷ xs) d h =
       | inr none ↦ let t = some_term f xs d (omega (arith, sum_by-cons f x xs)) in (suc t.0, (let below = t.1 in omega arith), t.2)
     ]
 
--- where each term of f is within that of g, so is the sum
+-- if each term of f is within that of g, so is the sum
 pub sum_le : {V : Type 0} (f g : V → ℕ) (xs : List V) → All (λ v. f v ≤ g v) xs → sum_by f xs ≤ sum_by g xs
 sum_le f g [] each = omega arith
 sum_le f g (x ∷ xs) each =

@@ -1,4 +1,4 @@
--- The hands in all views of a table, once one view is another: their sums, and what holds of each. And a view that has as many hands as all.
+-- The hands in all views of a table after one view changes: their sums, and the properties of each. And a view that has as many hands as all.
 use Rattle.std.proofs.Common.{◌≡◌, ℕ, zero, suc, ◌+◌, ◌≤◌, ◌<◌, List, [], ◌∷◌, ◌++◌, length, set, get_or, refl, sym, ap, subst, ◌∙◌, arith, All}
 use Rattle.std.specs.List.{sum_by}
 use Rattle.std.proofs.lemmas.List.{append-nil, length-append, get_or_append_left, get_or-append-add, nil_from_length}

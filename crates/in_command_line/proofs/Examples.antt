@@ -1,4 +1,4 @@
--- What words that are written out ask for.
+-- The requests of words that are written out.
 use Rattle.std.proofs.Common.{◌≡◌, ◌<◌, ◌≤◌, ◌^◌, ℕ, ◌++◌, Bool, true, false, cond, List, [], ◌∷◌, Some, refl, arith, rules}
 use Rattle.std.specs.Prelude.{codes}
 use Rattle.clap.specs.Kinds.{Kinds, or_else}

@@ -152,7 +152,7 @@ module _ (Good : List Row → Type 0) (s : Shape) (keep : AllKeep Good s.rules) 
       let parts = first_none (turn_fault s names w word) _ none in
       walk_keeps rest (walked s.rules names w word) (turn_keeps w word good parts.0) parts.1
 
--- ---- where such a walk stops
+-- ---- the end of such a walk
 
 -- the words name another subcommand than `help`
 abbrev pub IsNoHelp : Text → Type 0

@@ -1,4 +1,4 @@
--- Words in which `clap` finds no error ask for one action.
+-- Words in which `clap` finds no error request one action.
 use Rattle.std.proofs.Common.{◌≡◌, ◌||◌, Bool, true, false, cond, List, [], Option, Some, None, is_some, refl, sym, subst}
 use Rattle.std.specs.Prelude.{codes, option_map}
 use Rattle.std.specs.Option.{option_map_or}

@@ -76,7 +76,7 @@ pub record AsksFor (words : List Text) (a : Asked) : Type 0 where
   pub file_is : a.file ≡ file_in options
   pub stats_are : a.stats ≡ is_set (codes "stats") options
 
--- the words are refused: they ask for help or for the version, or have another error; and memory may run out at any words
+-- the words are refused: they request help or the version, or have another error; and memory may run out at any words
 abbrev pub AreWordsRefused : List Text → Usage → Type 0
 AreWordsRefused words (Help text) = IsAmong DisplayHelp (faults words)
 AreWordsRefused words Version = IsAmong DisplayVersion (faults words)

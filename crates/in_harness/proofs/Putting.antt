@@ -68,7 +68,7 @@ taken_in_hand s d g h job a have takes =
     let old = holders-cons n s.bag (bags_of g.slots) in
     omega (arith, take, now, first, second, old))
 
--- the end: the stock and then the gather give back what they have
+-- the end: the cells of the stock and then those of the gather are freed
 module _ (s : StockParts) (g : GatherParts) (a a' : ArenaView) (have : HaveAllLeased (s.bag ∷ bags_of g.slots) a) (back : Regains (λ _. Vacant) a s.bag a') where
   pub gather_has_all : HaveAllLeased (bags_of g.slots) a'
   gather_has_all = one_less s.bag (bags_of g.slots) a a' have back

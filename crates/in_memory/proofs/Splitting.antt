@@ -1,4 +1,4 @@
--- Laws of parting: what each of the two owners has, and that together they have all.
+-- Laws of parting: the cells of each of the two owners, and that together they have all.
 use Rattle.std.proofs.Common.{◌≡◌, refl, ℕ, zero, suc, ◌<◌, List, [], ◌∷◌, length, set, get_or, replicate, ap, ◌∙◌, arith}
 use Rattle.std.specs.Prelude.{Bool, true, false, not, Option, Some, None}
 use Rattle.in_memory.specs.Places.{IsFilled, IsHere, either_of, together}

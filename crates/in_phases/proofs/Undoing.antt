@@ -25,7 +25,7 @@ can_undo m now w k h = go h.cut h.times h.reduced
         let u = cuts_are_undone n cut now c i k reducer at reduced in
         record { join = u.0; two = u.1; after = λ o joined. record { cut = n; times = before; reduced = u.2 o joined } }
 
--- where none is left, it is undone
+-- if no cut is left, all are undone
 pub all_undone : (m now : MachineParts) (k : ℕ) → IsCutAndReduced m 0 k now → ReducesTo m k now
 all_undone m now k h = go h.cut h.times h.reduced
   where

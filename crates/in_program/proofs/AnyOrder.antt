@@ -1,4 +1,4 @@
--- What `run` tells with status 0 is of the one end of its program.
+-- The output of `run` with status 0 is that of the only end of its program.
 use Rattle.std.proofs.Common.{◌≡◌, inl, inr, ℕ, nat_eq, List, [], ◌++◌, map, length, Option, Ok, refl, sym, subst, ap, ◌∙◌}
 use Rattle.std.proofs.lemmas.List.{append_cancel_left}
 use Rattle.std.proofs.lemmas.Option.{same_Some}

@@ -208,7 +208,7 @@ impl<'a> Reducer<'a> {
     }
 
     /// The interaction of the first pair, this one, up to numbers, if neither symbol of the pair is marked. The pair's cells are freed before the agents of
-    /// the right member are placed, which then reuse them where they can.
+    /// the right member are placed, which then reuse them if they can.
     #[inline(always)]
     fn step_anew(&mut self, template: &Template, first: (CellNo, CellNo))
         requires first { slice_get self.old.queue 0 ≡ Some (first.0.0, first.1.0) }

@@ -227,7 +227,7 @@ fn begin_in(member: &Member, pair: Pair, arena: &mut Arena, points: &mut [EndWor
     begin_rest(member, 2, arena, points);
 }
 
-/// Retires a pair to which no wire leads back, places the right member's agents, which reuse its cells where they can, and writes the wires, as
+/// Retires a pair to which no wire leads back, places the right member's agents, which reuse its cells if they can, and writes the wires, as
 /// `wire_up` does.
 #[inline(always)]
 pub(crate) fn wire_anew(

@@ -147,7 +147,7 @@ module _ (bs cs ds : List ArenaView) (a a' a'' : ArenaView) (out : AreLentOut bs
     others = λ n e. others_by n (fewer_or_same (holders n ds) (holders n cs) (back.fewer n)) e;
   }
 
--- .. and where no cell was on lease before, all that are now are in these bags
+-- .. and if no cell was on lease before, all leased cells are in these bags
 pub lent_have_all : (bs : List ArenaView) (a a' : ArenaView) → NoneLeased a → AreLentOut bs a a' → HaveAllLeased bs a'
 lent_have_all bs a a' whole out = record { bags = out.bags; all = λ n inside leased. go n inside leased (fewer_or_same (holders n bs) 1 (out.bags.once n)) }
   where

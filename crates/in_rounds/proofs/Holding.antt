@@ -210,7 +210,7 @@ beside_are_bags ds bs cs a a' of r left =
     (All-append (AreOfOne a) ds cs (all_left (AreOfOne a) ds bs (bags_are_of_one (ds ++ bs) a of)) (of_one_by a' a cs (sym r.memory) (sym r.cells) (bags_are_of_one cs a' left)))
     (returns_beside ds bs cs a a' r)
 
--- .. and where each leased cell was in one, each still is
+-- .. and if each leased cell was in one of them, each still is
 pub left_have_all : (bs cs : List ArenaView) (a a' : ArenaView) → HaveAllLeased bs a → All (AreOfOne a) cs → Returns bs cs a a' → HaveAllLeased cs a'
 left_have_all bs cs a a' have one r = record {
   bags = left_are_bags bs cs a a' have.bags one r;

@@ -73,7 +73,7 @@ take_all P (Kept e ∷ slots) (suc j) d at all =
     (rest.0, All-cons P e.placed.placed.bag (bags_of (set slots j Taken)) (All-head P e.placed.placed.bag (bags_of slots) all) rest.1)
 take_all P (Taken ∷ slots) (suc j) d at all = take_all P slots j d at all
 
--- where each cell that is on lease was kept or in hand, it still is once it is taken
+-- if each leased cell was kept or in hand, it still is after a result is taken
 pub taken_have_all : (d : DoneParts) (g h : GatherParts) (job : ℕ) (a : ArenaView) → HaveAllLeased (bags_of g.slots) a → TakesDone g job (Some d) h → HaveAllLeased (d.placed.placed.bag ∷ bags_of h.slots) a
 taken_have_all d g h job a have takes =
     let bag = d.placed.placed.bag in

@@ -19,7 +19,7 @@ word_same ws i j x e lt = ap (λ k. written (get_or (put ws i x) k None)) e ∙ 
 word_other : (ws : Slots) (i j x : ℕ) → (j ≡ i → ⊥) → word_at (put ws i x) j ≡ word_at ws j
 word_other ws i j x ne = ap written (get_or-set_other ws i j (Some (Some x)) None ne)
 
--- what two stores make of the words
+-- the words after two stores
 abbrev both : Slots → ℕ → ℕ → Slots
 both ws plus minus = put (put ws plus minus) minus plus
 

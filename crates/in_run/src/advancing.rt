@@ -59,8 +59,8 @@ fn by_parts<R: Threads>(
 }
 
 /// With one worker, or at the beginning of a run of several, does interactions of the oldest pairs, up to the limit; one worker does at most `turn`.
-/// Later it does that of the oldest pair, which must have room, and some more after it, up to the limit: a phase if it pays, else those of some pairs
-/// one after another. Returns their number.
+/// Later it does that of the oldest pair, which must have room, and some more after it, up to the limit: a phase if it pays, otherwise those of
+/// some pairs one after another. Returns their number.
 #[inline(always)]
 pub(crate) fn advance<R: Threads>(
     rt: &R,

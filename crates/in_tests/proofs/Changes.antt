@@ -12,7 +12,7 @@ use Rattle.in_arena.specs.declared.content.End.{End}
 use Rattle.in_arena.specs.declared.content.CellNo.{CellNo}
 use Rattle.in_arena.proofs.Public.{vacant_inside, number_inside}
 
--- a free cell that was something else meanwhile
+-- a free cell that changed and is free again
 free_again : (a : ArenaView) (n : ℕ) (x : State) → state_at a n ≡ Vacant → changed (changed a n x) n Vacant ≡ a
 free_again a n x free = λ i. record { memory = a.memory; cells = a.cells; states = (set-set a.states n x Vacant ∙ ap (set a.states n) (sym free) ∙ set-get_or a.states n Leased) i }
 

@@ -211,7 +211,7 @@ module _ {A : Type 0} (s : A → A → Bool) (test : IsTest s) where
       apart,
     )
 
-    -- each wire that was not met has its variable once at each end in what follows
+    -- each wire that was not met has its variable once at each end in the rest
     abbrev Ahead : List (Point A) → List (TextPart A) → Type 0
     Ahead met ps = (u v : Point A) → n.partner u ≡ Some v → IsAuxiliary u → IsAuxiliary v → Unmet met u v → StandsTimes 1 (Variable u v) ps
 

@@ -30,7 +30,7 @@ one_or_same a (m ∷ ns) x n = go (cases_eq n m.0) (one_or_same a ns x n)
     go (inr other) (inl at) = inl (suc at.0, at.1)
     go (inr other) (inr same) = inr (get_or-set_other (with_all a ns x).states m.0 n x Leased other ∙ same)
 
--- each of them is so
+-- each of them has this state
 pub one_of_all : (a : ArenaView) (ns : List CellNo) (x : State) (n : CellNo) (k : ℕ) → n.0 < length a.states → slice_get ns k ≡ Some n → state_at (with_all a ns x) n.0 ≡ x
 one_of_all a [] x n k inside at = cc
 one_of_all a (m ∷ ns) x n zero inside at =
@@ -80,7 +80,7 @@ module _ (count : CellClass → ℕ) (a a' b' a'' : ArenaView) (all : HasAllCell
 placed_was : (need : Need) (s s' : StockParts) (p : PlacedParts) → TakesCells need p.cells s s' → AreCellsOf p.bag p.cells → (n : ℕ) → IsInBag p.bag n → state_at s.bag n ≡ Vacant
 placed_was need s s' p takes cells n in_it = let at = cells.only n in_it in all_at (λ (m : CellNo). state_at s.bag m.0 ≡ Vacant) p.cells at.0 (record { 0 = n }) takes.were at.1
 
--- a cell that isn't placed is the stock's where it was
+-- a cell that isn't placed is the stock's if it was before
 pub as_left : (need : Need) (s s' : StockParts) (p : PlacedParts) → TakesCells need p.cells s s' → AreCellsOf p.bag p.cells → (n : ℕ) → state_at p.bag n ≡ Leased → state_at s'.bag n ≡ state_at s.bag n
 as_left need s s' p takes cells n out = go (one_or_same s.bag p.cells Leased n)
   where
@@ -154,7 +154,7 @@ other_stays f a b d a' back of apart = record {
 
 -- ---- counted
 
--- where a cell is free in one of two, or in neither
+-- a cell that is free in one of two, or in neither
 
 taken : (n : ℕ) (xs ys zs : List State) → length xs ≡ length ys → length zs ≡ length ys → ((i : ℕ) → one_if_free (get_or zs i Leased) ≡ one_if_free (get_or xs i Leased) + one_if_free (get_or ys i Leased))
     → count_by is_vacant (take n zs) ≡ count_by is_vacant (take n xs) + count_by is_vacant (take n ys)

@@ -432,7 +432,7 @@ runs_on m n o j k h (s, one, run) (z, two, then) =
 pub takes_step : (m n o : MachineParts) (k : ℕ) → IsReducer m → RunsUpToNumbers m k n → StepsUpToNumbers n 0 o → RunsUpToNumbers m (suc k) o
 takes_step m n o k h run (s, same, step) = subst (λ (i : ℕ). RunsUpToNumbers m i o) (let z : 1 + k ≡ suc k = omega arith in z) (runs_on m n o k 1 h run (s, same, then_step s s o 0 (at_start s) step))
 
--- ---- where they lead
+-- ---- the results of runs and interactions
 
 pub same_run : (m n o u : MachineParts) (k : ℕ) → IsReducer m → IsReducer n → AreSame m n → Runs m k o → Runs n k u → AreSame o u
 same_run m n o u zero h g same (at_start _) (at_start _) = same

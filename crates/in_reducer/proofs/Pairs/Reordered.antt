@@ -31,7 +31,7 @@ JoinsThere n = (x y : ℕ) → n.partner (Port x 0) ≡ Some (Port y 0) → IsSo
 pub joins_within : (n : Net ℕ) → IsWiredWithin n → JoinsThere n
 joins_within n wired x y e = (wired.there (Port x 0) (Port y 0) e, wired.back.0 (Port x 0) (Port y 0) e)
 
--- .. so too in what two nets are side by side
+-- .. and so in two nets side by side
 module _ (one two m : Net ℕ) (name : ℕ → ℕ) (ends : List (ℕ × ℕ)) (wired_one : IsWiredWithin one) (wired_two : IsWiredWithin two) (h : StandBeside one two name ends m) where
   wired : (i : ℕ) (p q : Point ℕ) → (two_parts one two i).partner p ≡ Some q → IsThere (two_parts one two i) p × ((two_parts one two i).partner q ≡ Some p)
   wired zero p q e = (wired_one.there p q e, wired_one.back.0 p q e)

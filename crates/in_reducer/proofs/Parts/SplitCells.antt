@@ -1,4 +1,4 @@
--- The cells of both parts, once agents were copied to another arena and taken out of the one where they were.
+-- The cells of both parts, once agents were copied to another arena and taken out of their own.
 use Rattle.std.proofs.Common.{◌≡◌, ◌⊎◌, inl, inr, ◌+◌, ◌*◌, ℕ, true, Some, None, List, length, count_by, replicate, slice_get, refl, sym, ap, subst, ◌∙◌, arith}
 use Rattle.std.specs.Cmp.Derive.{both_true}
 use Rattle.std.proofs.lemmas.Bool.{le-leb}

@@ -123,7 +123,7 @@ module _ (r : Body) (k : KeepsNet r) (agents : List CellNo) (own cuts : ℕ) (ca
         nets.from_where r k agents own cuts can x h at.0 (record { 0 = y }) at.1,
       )
 
-  -- by its former number each agent of the part is found again
+  -- each agent of the part is found by its old number
   named : (z : ℕ) → IsLive (state_at x.new z) → name (nets.origin r k agents own cuts can x h z) ≡ z
   named z live = go (named_or agents name z)
     where

@@ -37,7 +37,7 @@ still_live number Vacant h = h
 still_live number Leased h = h
 still_live number (Live word ends) h = h
 
--- agents stay where they are when free ends get other numbers
+-- agents stay in their cells when free ends get other numbers
 pub stay_part : (number : ℕ → ℕ) (old mid : ArenaView) (agents : List CellNo) → AreNumberedAnew number old mid → ArePart old agents → ArePart mid agents
 stay_part number old mid agents anew part = record { live = λ k c s. subst IsLive (sym (anew.each c.0)) (still_live number (state_at old c.0) (part.live k c s)); once = part.once }
 

@@ -289,7 +289,7 @@ module _ (r o : Body) (k : KeepsNet r) (l : KeepsNet o) (can : CanAppend (reduce
       pub cells_after : (c : CellClass) → count_of (vacant_in (at_rest b)) c + agents_of t c (agents_in b) ≡ count_of (vacant_in (at_rest r.arena)) c + agents_of t c (agents_in r.arena)
       cells_after c = cells_at_rest t b still_net c ∙ copied.cells ∙ anew.cells ∙ sym (cells_at_rest t r.arena k.net c)
 
-      -- where the nets are side by side in these cells, they are a reducer's
+      -- if the nets are side by side in these cells, they are a reducer's
       module _ (ends : List (ℕ × ℕ)) (new : List OwnEnd) (list : List End) (queue : List (ℕ × ℕ)) (is_queue : queue ≡ r.queue.items ++ map (both (name_in names)) o.queue.items)
           (stand : StandBeside m n (name_in names) ends (net_in (in_cells r b new list queue))) where
         abbrev after : MachineParts

@@ -8,10 +8,6 @@ use Rattle.in_cells.specs.Laws.{ends_of}
 use Rattle.in_reducer.specs.Parting.{by_turns, ends_of_two, place_of_two}
 use Rattle.in_cells.proofs.Public.{length-ends_of, ends_there, past_first}
 
--- ---- lists
-
--- what stands in the second of two lists
--- lists with the same elements at the same places are one
 -- ---- the two lists
 
 length-by_turns : (own j w : ℕ) → length (by_turns own j w) ≡ w + w

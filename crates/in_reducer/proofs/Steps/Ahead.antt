@@ -51,7 +51,7 @@ module _ (m n : MachineParts) (h : IsReducer m) (s : StepsAt m 0 n) where
         two = symbols.1;
       }
 
--- .. also where the interaction is one up to numbers
+-- .. also if the interaction is one up to numbers
 pub heads_stay_same : (m n : MachineParts) → IsReducer m → StepsUpToNumbers m 0 n → (i : ℕ) (x : SymbolNo × SymbolNo) → HasHeadsAt m (suc i) x → HasHeadsAt n i x
 heads_stay_same m n h (s, (f, same), step) i x at = heads_stay s n (reducer_same m s h f same) step i x (record {
   pair = both f at.pair;

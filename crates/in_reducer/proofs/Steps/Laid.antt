@@ -104,7 +104,7 @@ module _ (t : Tables) (n : Parts) (over : IsOver t n) (m : MemberParts) (of : Is
       let same : arity_of t c.0.symbol.0 ≡ arity_of t a.symbol.0 = ap (λ (s : SymbolNo). arity_of t s.0) (sym c.2) in
       omega (arith, ends, long, same)
 
-  -- a joint where a wire leads to another agent's port, or to a boundary end
+  -- the joint of a wire that leads to another agent's port, or to a boundary end
   joint_by : (q : coded.Point) (v : Point ℕ) → (net_of n).partner (point_of q) ≡ Some v → (p : coded.Point) × (joint_at m (joint_of q) ≡ Some (joint_of p)) × (point_of p ≡ v)
   joint_by (code.Port x i) v e = let p = point_there (partner_in n (code.Port x i)) v e in (p.0, of.joints (code.Port x i) ∙ ap (option_map joint_of) p.1, p.2)
   joint_by (code.Free k) v e = let p = point_there (partner_in n (code.Free k)) v e in (p.0, of.joints (code.Free k) ∙ ap (option_map joint_of) p.1, p.2)

@@ -20,7 +20,7 @@ module _ (p : Program) (n : Parts) (promised : IsAsPromised (system_of p) (net_o
     | inr h ↦ inr h.0
   ]
 
-  -- where the first is a constructor, it is first
+  -- if the first is a constructor, it is first
   pub stands : is_constructor p.tables c.0 ≡ true → StandsFirst p.tables c d a b
   stands e = elim matched [
     | inl m ↦ inl (e, m.1)

@@ -154,7 +154,7 @@ module _ (r : Body) (k : KeepsNet r) (i : ℕ) (p : TemplateParts) (at : IsTempl
       let e = free_at_rest none c in
       omega (arith, a, l, e)
 
-  -- the pairs of the right member are of its agents, of which there are so many
+  -- the pairs of the right member are of its agents, whose number is n
   pub pairs_there : (n : ℕ) → n ≡ length p.member.agents → (j : ℕ) (q : ℕ × ℕ) → slice_get p.member.pairs j ≡ Some q → (q.0 < n) × (q.1 < n)
   pairs_there n many j q e =
       let active = at.template.member.pairs.pairs.pairs j q e in
