@@ -1,4 +1,4 @@
--- A net whose agents were copied is beside the net that was there.
+-- A net whose agents were copied is beside the net of the other cells.
 use Rattle.std.proofs.Common.{◌≡◌, inl, inr, ◌<◌, ◌+◌, ℕ, zero, suc, true, false, Some, None, List, [], ◌∷◌, ◌++◌, length, map, slice_get, refl, sym, ap, subst, ◌∙◌, arith}
 use Rattle.std.specs.Prelude.{option_map}
 use Rattle.std.proofs.lemmas.Option.{same_Some, slice_get_within}
@@ -23,7 +23,7 @@ use Rattle.in_interaction.proofs.Public.{has_value}
 
 -- ---- side by side
 
--- the point that a part's point is
+-- the point for a part's point
 abbrev pub placed : (ℕ × ℕ → ℕ) → (ℕ → ℕ) → ℕ → Point ℕ → Point ℕ
 placed number name i (Port x k) = Port (old_and_new name i x) k
 placed number name i (Free e) = Free (number (i, e))

@@ -35,7 +35,7 @@ can_too m n o i machine same s cannot =
           )
     ]
 
--- the same choices lead to the same
+-- the same choices lead to the same machine, up to numbers
 same_choices : (m n o u : MachineParts) (choices : List ℕ) → IsMachine m → IsMachine n → AreSame m n → StepsBy m choices o → StepsBy n choices u → IsMachine o × IsMachine u × AreSame o u
 same_choices m n o u [] h g same one two = (subst IsMachine (sym one) h, subst IsMachine (sym two) g, subst (λ z. AreSame z u) (sym one) (subst (AreSame m) (sym two) same))
 same_choices m n o u (i ∷ choices) h g same (a, s, one) (b, t, two) =

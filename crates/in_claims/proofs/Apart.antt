@@ -48,7 +48,7 @@ stands hands k seat place at =
       is = subst (λ (l : List ℕ). get_or l place 0 ≡ k) same (get_or_from_slice_get (numbers_of hands seat) place k 0 at);
     }
 
--- how often the number is in this list
+-- the number of times that the number is in this list
 abbrev count : ℕ → List ℕ → ℕ
 count k numbers = count_by (λ j. eqb j k) numbers
 

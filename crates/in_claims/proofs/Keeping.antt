@@ -213,7 +213,7 @@ limit_is : (size : Size) (hands : List Hand) → 0 < length hands → All (IsHan
 limit_is size [] one of = absurd (omega arith)
 limit_is size (h ∷ hands) one of = ap (λ (z : Size). z.limit) (All-head (IsHandOf size) h hands of).size_is
 
--- who has as many hands as the board has seats has all of them
+-- a view with as many hands as the board has seats has all of them
 pub tells : (size : Size) (slots id : ℕ) (hands : List Hand) → 0 < size.seats → length hands ≡ size.seats →
     Allows (IsBoardRule size) slots id (hands, []) 0 (λ w. w) (λ found after. AreClaims (limit_of hands) found hands)
 tells size slots id hands some_seat all s kept homes at fits_word =

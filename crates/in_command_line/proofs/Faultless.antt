@@ -1,4 +1,4 @@
--- What each use of an argument that has no fault keeps, a walk over words that has no fault keeps.
+-- If each use of an argument without a fault keeps a property, a walk over words without a fault keeps it.
 use Rattle.std.proofs.Common.{◌≡◌, ℕ, zero, suc, Bool, true, false, cond, List, [], ◌∷◌, Option, Some, None, is_some, length, drop, refl}
 use Rattle.std.specs.Prelude.{codes, encode_utf8, find, fold, not, IfSome, ◌&&◌, slice_get}
 use Rattle.std.specs.Option.{option_map_or}

@@ -1,4 +1,4 @@
--- Which texts are refused: those whose passes refuse them.
+-- The refused texts: those whose passes refuse them.
 use Rattle.std.proofs.Common.{List, ℕ, Option, Some, None, Result, Ok, Err}
 use Rattle.std.specs.Prelude.{IfOk}
 use Rattle.in_syntax.specs.declared.faults.Refusal.{Refusal}

@@ -69,7 +69,7 @@ module _ (E : El) {M : Type 1} {𝓤 : Ura M} (𝓛 : Logic 𝓤) (b : ℕ) wher
   none_here o zero = id⊢ 𝓤 (emp 𝓤)
   none_here o (suc n) = qed 𝓛 [] ∵ use0 𝓛 (‵ (Row (o + s) (replicate n None))) (none_here (o + s) n) $ nothing ! $ fjoin ! $ done !
 
-  -- those that are chosen go to another owner
+  -- the chosen cells go to another owner
   pub rows_part : (p : ℕ → Bool) (o : ℕ) (cs : List (Place E)) → ent 𝓤 (sem 𝓛 (Row o cs)) (sep 𝓤 (sem 𝓛 (Row o (those_of p cs))) (sem 𝓛 (Row o (those_of (but p) cs))))
   rows_part p o [] = qed 𝓛 (‵ (Row o []) ∷ []) ∵ nothing ! $ done !
   rows_part p o (c ∷ cs) =

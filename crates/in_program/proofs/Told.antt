@@ -1,4 +1,4 @@
--- What telling lines on a text does.
+-- The effects of writing lines on a text.
 use Rattle.std.proofs.Common.{◌≡◌, ◌<◌, ◌+◌, List, ◌++◌, [], ◌∷◌, length, take, ℕ, zero, suc, sym, subst, ap, ◌∙◌, refl, inl, inr, arith, length-append, Result, Ok, Err, IfOk, OnErr, Vec, Global}
 use Rattle.std.specs.Io.KnownBytes.{append_known}
 use Rattle.in_syntax.specs.Streams.{Device, Reader}

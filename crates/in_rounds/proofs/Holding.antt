@@ -1,4 +1,4 @@
--- Bags that cells are in, and the cells of them that are given back.
+-- Bags that have cells, and the cells of them that are given back.
 use Rattle.std.proofs.Common.{◌≡◌, ◌⊎◌, inl, inr, ◌≤◌, ◌<◌, ◌+◌, ℕ, cond, List, [], ◌∷◌, ◌++◌, length, All, refl, sym, ap, subst, ◌∙◌, arith}
 use Rattle.std.proofs.lemmas.List.Elements.{All-append, All-cons, All-head, All-tail}
 use Rattle.std.proofs.lemmas.List.Sums.{sum_by-append}
@@ -8,7 +8,7 @@ use Rattle.in_arena.specs.States.{State, Vacant, Leased, Live, IsLeased}
 use Rattle.in_compile.specs.Stocks.{Regains}
 use Rattle.in_rounds.specs.Holding.{is_own, holders, AreBagsOf, HaveAllLeased, Returns}
 
--- ---- how many bags have a cell
+-- ---- the number of bags that have a cell
 
 pub holders-append : (n : ℕ) (bs cs : List ArenaView) → holders n (bs ++ cs) ≡ holders n bs + holders n cs
 holders-append n bs cs = sum_by-append (λ c. cond (is_own (state_at c n)) 1 0) bs cs

@@ -40,7 +40,7 @@ is_leased Vacant h = absurd h
 is_leased Leased h = refl
 is_leased (Live w es) h = absurd h
 
--- a cell stays as it was, or was on lease and is free, or the other way round
+-- a cell stays as it was, or one of both states is leased and the other free
 abbrev pub IsAlike : State → State → Type 0
 IsAlike x y = (y ≡ x) ⊎ (((x ≡ Leased) × (y ≡ Vacant)) ⊎ ((x ≡ Vacant) × (y ≡ Leased)))
 

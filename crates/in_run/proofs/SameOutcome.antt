@@ -1,4 +1,4 @@
--- How runs of machines stop that are the same up to the numbers of their agents.
+-- The stops of runs of machines that are the same up to the numbers of their agents.
 use Rattle.std.proofs.Common.{◌≡◌, ◌≢◌, ◌⊎◌, inl, inr, ◌<◌, ℕ, Option, Some, None, List, [], ◌∷◌, map, slice_get, refl, sym, ap, subst, ◌∙◌, arith}
 use Rattle.in_arena.specs.declared.content.CellClass.{CellClass}
 use Rattle.in_interaction.specs.Queues.{both}

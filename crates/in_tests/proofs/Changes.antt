@@ -1,4 +1,4 @@
--- What calls in a row change of an arena.
+-- The changes of an arena by calls in a row.
 use Rattle.std.proofs.Common.{◌≡◌, ◌<◌, ◌*◌, refl, ℕ, List, length, set, get_or, Option, Some, sym, ap, ◌∙◌, subst, ⊎_elim, arith, length-set, get_or-set_same, get_or-set_other}
 use Rattle.std.proofs.lemmas.Bool.{cases_eq}
 use Rattle.std.proofs.lemmas.List.{set-set, set-get_or, length-replicate}

@@ -114,7 +114,7 @@ module _ {A : Type 0} (n : Net A) where
       let places : suc i ≡ suc j = port_place y y (suc i) (suc j) ports in
       omega arith
 
-  -- the agents above are different
+  -- the agents above differ
   lower : (q : Point A) (ys : List A) (y : A) → Tops q ys → IsAmong y ys → (i : ℕ) × (zs : List A) × Tops (Port y (suc i)) (y ∷ zs) × (length zs < length ys)
   lower _ _ y (at_free k) h = absurd h
   lower _ _ y (at_pair z) h = absurd h

@@ -57,7 +57,7 @@ module _ {A : Type 0} (s : A → A → Bool) (test : IsTest s) where
   no_point : (p q : Point A) → same_point s p q ≡ false → p ≢ q
   no_point p q h e = let g : same_point s p q ≡ true = (point_test p q).1 e in cc
 
-  -- neither of the and_parts points is among those met
+  -- neither of the two points is among those met
   abbrev Unmet : List (Point A) → Point A → Point A → Type 0
   Unmet met p q = (w : Point A) → IsAmong w met → (w ≢ p) × (w ≢ q)
 
@@ -89,7 +89,7 @@ module _ {A : Type 0} (s : A → A → Bool) (test : IsTest s) where
           ]
 
   module _ (sig : Signature) (n : Net A) (net : IsNet sig n) where
-    -- of each wire one point at most was met
+    -- at most one point of each wire was met
     abbrev AreApart : List (Point A) → Type 0
     AreApart [] = Unit {0}
     AreApart (u ∷ us) = ((v w : Point A) → IsAmong v us → n.partner u ≡ Some w → (v ≢ u) × (v ≢ w)) × AreApart us
