@@ -1,4 +1,4 @@
--- Where no cell is on lease, and each live one is of the class of its agent's symbol, free cells and agents of a class make up its cells.
+-- If no cell is on lease, and each live one is of the class of its agent's symbol, free cells and agents of a class make up its cells.
 use Rattle.std.proofs.Common.{◌≡◌, ◌⊎◌, inl, inr, ◌<◌, ◌≤◌, ◌+◌, ◌*◌, ℕ, zero, suc, Bool, true, false, cond, Option, Some, List, [], ◌∷◌, length, map, take, drop, get_or, count_by, refl, sym, ap, subst, ◌∙◌, length-drop, arith}
 use Rattle.std.proofs.lemmas.Bool.{cases_lt}
 use Rattle.std.proofs.lemmas.List.{get_or-drop}
@@ -47,7 +47,7 @@ module _ (P : State → Bool) where
       let g : one x ≡ 0 = ap (λ (b : Bool). cond b 1 0) (before 0 (omega arith)) in
       omega (arith, rest, e, g)
 
-  -- one of two things holds of each
+  -- each element has one of two properties
   abbrev OneOf : State → Type 0
   OneOf x = ((is_vacant x ≡ true) × (P x ≡ false)) ⊎ ((is_vacant x ≡ false) × (P x ≡ true))
 

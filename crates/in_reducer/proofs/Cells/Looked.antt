@@ -1,4 +1,4 @@
--- What accessors read of the net that cells show.
+-- The results of accessors, by the net that cells show.
 use Rattle.std.proofs.Common.{◌≡◌, ◌<◌, ◌≤◌, ◌+◌, ◌-◌, ◌*◌, ℕ, zero, suc, Option, Some, None, IsSome, List, [], ◌∷◌, length, take, get_or, slice_get, sum_by, unwrap_or, refl, ap, ◌∙◌, arith}
 use Rattle.std.specs.Prelude.{is_some, option_map, option_and_then}
 use Rattle.std.proofs.lemmas.List.{take_all}
@@ -51,8 +51,7 @@ have_symbols t n q h = (ap is_some h.one, ap is_some h.two)
 
 -- ---- free ends
 
--- there are as many
--- .. and none leads past them
+-- each free end has an end in the list
 pub free_below : (fs : List FreeEnd) (es : List End) (k : ℕ) → k < length (leading_to fs es) → k < length es
 free_below [] es k l = absurd (omega (arith, l))
 free_below (f ∷ fs) [] k l = absurd (omega (arith, l))
@@ -73,7 +72,7 @@ free_named (f ∷ fs) [] k l = absurd (omega (arith, l))
 free_named (f ∷ fs) (e ∷ es) zero l = refl
 free_named (f ∷ fs) (e ∷ es) (suc k) l = free_named fs es k (omega (arith, l))
 
--- ---- how many agents there are
+-- ---- the number of agents
 
 module _ (t : Tables) (a : ArenaView) (h : IsNetIn t a) where
   abbrev of_class : CellClass → ℕ

@@ -46,7 +46,7 @@ use Rattle.in_base.proofs.Each.{at_index}
 
 -- ---- lists
 
--- all but the last two, and these
+-- all elements except the last two, and these
 pub last_two : {X : Type 0} (xs : List X) (n : ℕ) → length xs ≡ n + 2 → (x y : X) × (xs ≡ take n xs ++ (x ∷ y ∷ []))
 last_two [] n e = absurd (omega (arith, e))
 last_two (x ∷ []) zero e = absurd (omega (arith, e))
@@ -207,7 +207,7 @@ module _ (r : Body) (k : KeepsNet r) (two : 2 ≤ length r.free.items) (own : �
       leads_other : m.partner (Free (suc own)) ≡ Some (shown_point.point_of other)
       leads_other = stands (suc own) other (omega arith) at_other
 
-      -- which port is at an end
+      -- the port that is at an end
       at_port : (e : End) (x : ℕ) → shown_point.point_of e ≡ Port x 0 → e ≡ shown_point.end_of (Port x 0)
       at_port e x h = sym (point_end e) ∙ ap shown_point.end_of h
 

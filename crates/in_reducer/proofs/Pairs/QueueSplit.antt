@@ -17,7 +17,7 @@ use Rattle.in_reducer.proofs.Pairs.Requeued.{StandOnce}
 
 -- ---- lists
 
--- one element more is looked at
+-- one more element is tested
 pub next_of : {X : Type 0} (xs ys zs : List X) (i : ℕ) (x : X) → i < length xs → drop i xs ++ ys ≡ x ∷ zs → (slice_get xs i ≡ Some x) × (zs ≡ drop (suc i) xs ++ ys)
 next_of [] ys zs i x l e = absurd (omega (arith, l))
 next_of (y ∷ xs) ys zs zero x l e = (cc, cc)
@@ -88,7 +88,7 @@ module _ (t : Tables) (n m w : Parts) (f : ℕ → ℕ) (ends : List (ℕ × ℕ
   lives : (q : ℕ × ℕ) → IsActivePair t w (agents_at q) → IsSome ((net_of w).symbol q.0)
   lives q h = there ((net_of w).symbol q.0) h.first.0 (symbol_number (symbol_in w q.0) h.first h.one)
 
-  -- no agent is one of both
+  -- no agent is in both nets
   not_both : (x y : ℕ) → IsSome ((net_of n).symbol x) → IsSome ((net_of m).symbol y) → f y ≡ x → ⊥
   not_both x y a b e = let z : 0 ≡ 1 = (stand.apart 0 1 x y a b (sym e)).0 in omega (arith, z)
 

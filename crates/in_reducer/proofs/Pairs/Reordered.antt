@@ -135,7 +135,7 @@ module _ (t : Tables) (f : ℕ → ℕ) (n m : Parts) (named : IsRenamed f (net_
       two_moved p q r is (inl e) = inl (is ∙ ap (both f) (sym e))
       two_moved p q r is (inr e) = inr (is ∙ ap (λ (z : ℕ × ℕ). turned (both f z)) (sym e))
 
-  -- one pair comes of one
+  -- a pair comes from one pair
   one_before : (p q r : ℕ × ℕ) → IsActivePair t n (agents_at p) → IsActivePair t n (agents_at q) → AreSameTwo (both f p) r → AreSameTwo (both f q) r → p ≡ q
   one_before p q r h g is is_too = one_order t n n (λ x s e. e) p q h g (go is is_too)
     where

@@ -89,7 +89,7 @@ module _ (r : Body) (k : KeepsNet r) (agents : List CellNo) (own cuts : ℕ) (ca
     pub part_cells : (c : CellClass) → count_of (vacant_in (at_rest new)) c + agents_of t c (agents_in new) ≡ size
     part_cells c = cells_at_rest t new part_net c ∙ copied.cells ∙ same
 
-    -- of each class the part has as many agents as were copied
+    -- the part has as many agents of each class as were copied
     pub part_counted : (c : CellClass) → agents_of t c (agents_in new) ≡ count_by (is_for r.arena c) agents
     part_counted c =
         let a = part_cells c in

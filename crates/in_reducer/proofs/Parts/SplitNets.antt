@@ -219,7 +219,7 @@ module _ (r : Body) (k : KeepsNet r) (agents : List CellNo) (own cuts : ℕ) (ca
   led_from : (j : ℕ) (e : End) → slice_get (before.own_ends r k) j ≡ Some e → m.partner (Free j) ≡ Some (point_of e)
   led_from j e at = partner_seen r.arena fs es (Free j) ∙ ap (option_map point_of) at
 
-  -- a free end of the rest isn't one that the part leads to
+  -- a free end of the rest isn't one to which the part leads
   own_or_part : (j e : ℕ) → slice_get ends j ≡ Some (0, e) → IsInPart agents own cuts (Free j) → ⊥
   own_or_part j e at into =
       let f : Some (0, e) ≡ Some (1, into.0) = sym at ∙ ap (slice_get ends) into.2 ∙ first_of_two own cuts into.0 into.1 in

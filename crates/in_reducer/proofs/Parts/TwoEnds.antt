@@ -40,7 +40,7 @@ many_of_two own cuts =
 after_own : (own cuts k : ℕ) → slice_get (ends_of_two own cuts) (own + k) ≡ slice_get (by_turns own 0 cuts) k
 after_own own cuts k = ap (λ (z : ℕ). slice_get (ends_of_two own cuts) (z + k)) (sym (length-ends_of 0 0 own)) ∙ past_first (ends_of 0 0 own) (by_turns own 0 cuts) k
 
--- those that were there before the cuts
+-- the free ends from before the cuts
 pub own_of_two : (own cuts k : ℕ) → k < own → slice_get (ends_of_two own cuts) k ≡ Some (0, k)
 own_of_two own cuts k l =
     kept_at (ends_of 0 0 own) (by_turns own 0 cuts) k (0, k)
@@ -53,7 +53,7 @@ first_of_two own cuts j l = after_own own cuts (j + j) ∙ first_by_turns own 0 
 pub second_of_two : (own cuts j : ℕ) → j < cuts → slice_get (ends_of_two own cuts) (own + suc (j + j)) ≡ Some (0, own + j)
 second_of_two own cuts j l = after_own own cuts (suc (j + j)) ∙ second_by_turns own 0 cuts j l ∙ ap (λ (z : ℕ). let p : ℕ × ℕ = (0, own + z) in Some p) (let z : 0 + j ≡ j = omega arith in z)
 
--- which free end of the whole that one is, by its part and its number there
+-- the free end of the whole, by its part and its number there
 pub data OneOfTwo (own cuts k i e : ℕ) : Type 0 where
   of_own : k < own → i ≡ 0 → e ≡ k → OneOfTwo own cuts k i e
   of_first : (j : ℕ) → j < cuts → k ≡ own + (j + j) → i ≡ 1 → e ≡ j → OneOfTwo own cuts k i e

@@ -1,4 +1,4 @@
--- Where a pair to which no wire leads back is retired, and new agents are begun then, also in its cells, the wires can be written: as in the
+-- If a pair to which no wire leads back is retired, and then new agents are begun, also in its cells, the wires can be written: as in the
 -- net in which the pair has numbers of no cell.
 use Rattle.std.proofs.Common.{◌≡◌, ◌≢◌, ◌⊎◌, inl, inr, ◌<◌, ◌≤◌, ℕ, Option, Some, None, List, length, map, slice_get, refl, sym, ap, subst, ◌∙◌, arith}
 use native.Mathlib.Decide.{ℕ_discrete}
@@ -114,7 +114,7 @@ module _ (t : Tables) (s : PairSetting) (p : TemplateParts) (pair : Pair) (own :
   abbrev IsAgent : ℕ → ℕ → Type 0
   IsAgent y z = ((y ≢ f s.one.0) × (y ≢ f s.two.0) × ((net_of n).symbol y ≡ Some z)) ⊎ ((k : ℕ) × (x.name k ≡ y) × (m.symbol k ≡ Some z))
 
-  -- the cells of the pair hold nothing that isn't new
+  -- a cell that is live once the pair is retired has an agent of the net that isn't the pair
   stood_before : (y z : ℕ) → word_of (state_at (retired pair old) y) ≡ Some z → (y ≢ s.one.0) × (y ≢ s.two.0) × ((net_of s.net).symbol y ≡ Some z)
   stood_before y z w =
       let not_one : y ≢ s.one.0 = (λ e. (let v : None ≡ Some z = sym (ap word_of (ap (state_at (retired pair old)) e ∙ one_gone)) ∙ w in cc)) in

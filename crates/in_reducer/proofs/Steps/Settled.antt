@@ -52,7 +52,7 @@ rested_none (Leased ∷ xs) zero l e = refl
 rested_none (Live w es ∷ xs) zero l e = absurd (let f : Some w ≡ None = e in cc)
 rested_none (x ∷ xs) (suc n) l e = rested_none xs n (omega (arith, l)) e
 
--- how many more of a class one cell more makes
+-- the number that one more cell adds to a class
 one_more : (c d : CellClass) (before after : ℕ) → (c ≡ d → before + 1 ≡ after) → ((c ≡ d → ⊥) → before ≡ after) → cond (nat_eq (class_no d) (class_no c)) 1 0 + before ≡ after
 one_more Small Small before after same other = let e = same refl in omega (arith, e)
 one_more Small Large before after same other = let f = other (λ e. (let g : class_no Small ≡ class_no Large = ap class_no e in omega (arith, g))) in omega (arith, f)

@@ -76,7 +76,7 @@ module _ (t : Tables) (x : Interaction) (wires : List (Point ℕ × Point ℕ)) 
   once : (p u v : Point ℕ) → IsSideOf t x p u → IsSideOf t x p v → u ≡ v
   once = side_once sig (before x) (redex_of x) x.name can
 
-  -- a listed one is a wire
+  -- a listed wire is a wire
   is_wire : (j : ℕ) (p q : Point ℕ) → slice_get wires j ≡ Some (p, q) → m.partner p ≡ Some q
   is_wire j p q at = are.wire p q (among_at wires j (p, q) at)
 
@@ -266,7 +266,7 @@ module _ (t : Tables) (x : Interaction) (wires : List (Point ℕ × Point ℕ)) 
       (λ same. (let g : None ≡ Some (redex_of x).second = sym (can.naming.fresh k s f) ∙ ap (before x).symbol same ∙ can.redex.two in cc)),
     )
 
-    -- so nothing has the pair's numbers
+    -- so no agent has the pair's numbers
     none_of_pair : (y s : ℕ) → (y ≡ x.one.0) ⊎ (y ≡ x.two.0) → word_of (state_at a y) ≡ Some s → ⊥
     none_of_pair y s of w = go of ((h.symbols y s).0 w)
       where
