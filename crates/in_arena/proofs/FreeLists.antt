@@ -17,7 +17,7 @@ set_twice [] i x y = refl
 set_twice (z ∷ xs) zero x y = refl
 set_twice (z ∷ xs) (suc i) x y = ap (λ l. z ∷ l) (set_twice xs i x y)
 
--- ---- how many cells are free
+-- ---- the number of free cells
 
 one_if : (n w : ℕ) (es : List End) → one_if_zero n ≡ cond (is_vacant (with_ends n w es)) 1 0
 one_if zero w es = refl
@@ -280,7 +280,7 @@ new_counted (x ∷ xs) (suc k) new =
     let rest = new_counted xs k (λ i le lt. new (suc i) (omega (arith, le)) (omega (arith, lt))) in
     omega (arith, rest, sum_by-cons vacancy x xs)
 
--- as many are free as are listed and were never used, or more
+-- at least as many cells are free as are listed or were never used
 free_counted : (xs : List CellWords) (fresh next : ℕ) (fs : List ℕ) → IsFreeList xs next fs → AreDifferentNumbers fs → AreNew xs fresh → length fs + length xs ≤ vacancies xs + fresh
 free_counted xs fresh next [] h once new = omega (arith, new_counted xs fresh new)
 free_counted xs fresh next (f ∷ fs) h once new =

@@ -278,7 +278,7 @@ held_some Small n held = let least_ = held.0 in omega (arith, least_)
 held_some Large n held = let least_ = held.0 in omega (arith, least_)
 held_some Wide n held = let least_ = held.0 in omega (arith, least_)
 
--- ---- how many cells are free, and which were never used
+-- ---- the number of free cells, and those that were never used
 
 module _ (a : Inside) (h : IsArena a) where
   pub free_is_count : (c : CellClass) → (list_in a.lists c).free ≡ free_of (arena_view a) c

@@ -41,7 +41,7 @@ pub fn is_ready(
     list_new(words, base, cells, class, lists)
 }
 
-/// Puts the first cell of the class that was never used on the list, which is empty. Returns no if all were used.
+/// Puts the first cell of the class that was never used on the list, which is empty. Returns `false` if all were used.
 #[inline(always)]
 fn list_new(
     words: &mut Cells<EndWord>,
