@@ -47,7 +47,7 @@ module _ (a : ArenaView) (n : ℕ) (x : State) where
       let start = class_no c * a.cells in let first = length-take a.cells (drop start a.states) in let rest = length-drop start a.states in
       omega (arith, first, rest, all, next_class c a.cells, up_to (class_no c + 1) (length classes) a.cells (omega (arith, known c)))
 
-  -- a class of which it is not
+  -- another class than the cell's
   part_other : (c d : CellClass) → IsNumberOf a.cells c n → (d ≡ c → ⊥) → part_of (changed a n x) d ≡ part_of a d
   part_other c d is apart =
       let start = class_no d * a.cells in let i = n - start in
@@ -93,7 +93,7 @@ begun_takes_one a b c word places n all begun =
 pub others_stay : (a b : ArenaView) (n : ℕ) (x : State) → b ≡ changed a n x → AllButOneStay n a b
 others_stay a b n x change m other = ap (λ v. state_at v m) change ∙ get_or-set_other a.states n m x Leased other
 
--- a cell that is changed to what it is
+-- a change of a cell to its own state changes nothing
 pub changed_to_itself : (a : ArenaView) (n : ℕ) → changed a n (state_at a n) ≡ a
 changed_to_itself a n = λ i. record { memory = a.memory; cells = a.cells; states = set-get_or a.states n Leased i }
 

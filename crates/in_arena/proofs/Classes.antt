@@ -1,4 +1,4 @@
--- What follows of the numbers and widths of classes.
+-- Consequences of the numbers and widths of classes.
 use Rattle.std.proofs.Common.{◌≡◌, ◌<◌, ◌+◌, ◌*◌, ℕ, zero, suc, length, map, get_or, slice_get, Some, None, refl, sym, ap, ⊎_elim, arith}
 use Rattle.std.proofs.lemmas.Option.{same_Some}
 use Rattle.std.proofs.lemmas.Bool.{cases_lt}
@@ -17,7 +17,7 @@ at_class f d Small = refl
 at_class f d Large = refl
 at_class f d Wide = refl
 
--- .. whose place is the number
+-- .. and its place is the number
 pub number_at : (i : ℕ) (c : CellClass) → slice_get classes i ≡ Some c → class_no c ≡ i
 number_at zero c e = ap class_no (sym (same_Some Small c e))
 number_at (suc zero) c e = ap class_no (sym (same_Some Large c e))

@@ -17,7 +17,7 @@ set_twice [] i x y = refl
 set_twice (z ∷ xs) zero x y = refl
 set_twice (z ∷ xs) (suc i) x y = ap (λ l. z ∷ l) (set_twice xs i x y)
 
--- ---- how many cells are free
+-- ---- the number of free cells
 
 one_if : (n w : ℕ) (es : List End) → one_if_zero n ≡ cond (is_vacant (with_ends n w es)) 1 0
 one_if zero w es = refl
@@ -151,7 +151,7 @@ first_of xs next (f ∷ fs) h apart =
       listed = subst (λ k. IsFreeList xs k fs) (sym v.3) h.2.2;
     }
 
--- no free cell was used
+-- if the list ends at once, no used cell is free
 none_listed : (most : ℕ) (xs : List CellWords) (l : FreeList) (h : ListsFree most xs l) → l.next ≡ length xs → length h.free ≡ 0
 none_listed most xs l h e = none h.free h.listed
   where
@@ -280,7 +280,7 @@ new_counted (x ∷ xs) (suc k) new =
     let rest = new_counted xs k (λ i le lt. new (suc i) (omega (arith, le)) (omega (arith, lt))) in
     omega (arith, rest, sum_by-cons vacancy x xs)
 
--- as many are free as are listed and were never used, or more
+-- at least as many cells are free as are listed or were never used
 free_counted : (xs : List CellWords) (fresh next : ℕ) (fs : List ℕ) → IsFreeList xs next fs → AreDifferentNumbers fs → AreNew xs fresh → length fs + length xs ≤ vacancies xs + fresh
 free_counted xs fresh next [] h once new = omega (arith, new_counted xs fresh new)
 free_counted xs fresh next (f ∷ fs) h once new =
@@ -300,7 +300,7 @@ used most xs l h i lt new =
     let one : vacancy (get_or xs i None) ≡ 1 = ap vacancy new in
     omega (arith, counted, length-set xs i None, sum_by-set vacancy xs i None None inside, one, h.all)
 
--- .. and has a content where it isn't on lease
+-- .. and has a content if it isn't on lease
 pub used_cell : (s : CellWords) → (IsLeased (state_of s) → ⊥) → (s ≡ Some None → ⊥) → (c : Content) × (s ≡ Some (Some c))
 used_cell None out new = absurd (out tt)
 used_cell (Some None) out new = absurd (new refl)

@@ -95,7 +95,7 @@ content_long cells ws n all l =
     let f = all_filled cells ws l.class l.index l.content (all.each l.class l.index l.place.0) l.is in let h = f.0 head (head_inside l.class) in
     ap length (sym (head_is cells ws l.class l.index l.content h.0 l.is h.1).2) ∙ ends_long cells ws l.class l.index
 
--- what stands at a place
+-- the end at a place
 pub end_there : (x : Content) (p : ℕ) (d : End) → x.count ≤ length x.ends → p < places (state_in x) → end_at (state_in x) p ≡ Some (get_or x.ends p d)
 end_there x p d few lt = by x.count few lt
   where
@@ -278,7 +278,7 @@ held_some Small n held = let least_ = held.0 in omega (arith, least_)
 held_some Large n held = let least_ = held.0 in omega (arith, least_)
 held_some Wide n held = let least_ = held.0 in omega (arith, least_)
 
--- ---- how many cells are free, and which were never used
+-- ---- the number of free cells, and those that were never used
 
 module _ (a : Inside) (h : IsArena a) where
   pub free_is_count : (c : CellClass) → (list_in a.lists c).free ≡ free_of (arena_view a) c
@@ -413,7 +413,7 @@ settled_in a h v e at one o words n x many num live same is named =
     let z = one_put at.cells at.class a.words a.lists whole free at.index o.index (ap vacancy o.out) words (Some (Some o.content)) p.changes p.cell (filled_count o.content.count (live_some o.content.count o.content.word o.content.ends live)) o.room in
     back_in a h v e n at words a.lists x many num o.index same p.whole z.0 (subst (RowsBecome at.cells a.words.slots words.slots at.class at.index) named z.1)
 
--- ---- what a lease has written
+-- ---- a content that is written through a lease
 
 pub lease_rewrites : (l : LeaseInside) (k : IsLease l) (words : Cells End) (x : Content) → Rewrites l.words l.spot x words → x.count ≤ width l.spot.class → IsLease (record { spot = l.spot; base = l.base; words = words })
 lease_rewrites l k words x r few = record {

@@ -34,7 +34,7 @@ use Rattle.in_arena.proofs.Words.{ends_long, head_inside, kept_cell, kept_whole,
 use Rattle.std.proofs.lemmas.Bool.{cases_eq}
 use Rattle.std.proofs.lemmas.List.{ext_get_or, get_or-replicate, length-replicate}
 
--- a cell that is kept, where it is here
+-- a kept cell that isn't another owner's has a content
 kept_here : (most : ℕ) (s : CellWords) → IsKeptCell most s → (IsLeased (state_of s) → ⊥) → (x : Content) × (s ≡ Some (Some x)) × (x.count ≤ most)
 kept_here most None kept out = absurd (out tt)
 kept_here most (Some None) kept out = absurd kept

@@ -60,7 +60,7 @@ all_set-append xs (n ∷ ns) ms x = all_set-append (set xs n x) ns ms x
 pub set_twice : (xs : List State) (n m : ℕ) (x : State) → set (set xs n x) m x ≡ set (set xs m x) n x
 set_twice xs n m x = ⊎_elim (λ (e : n ≡ m). ap (λ k. set (set xs n x) k x) (sym e) ∙ ap (λ k. set (set xs k x) n x) e) (λ (ne : n ≢ m). set_comm xs n m x x ne) (cases_eq n m)
 
--- the last of the places may as well be the first
+-- the last of the places may be the first
 pub all_set-first : (xs : List State) (ns : List ℕ) (n : ℕ) (x : State) → all_set (set xs n x) ns x ≡ all_set xs (ns ++ n ∷ []) x
 all_set-first xs [] n x = refl
 all_set-first xs (m ∷ ns) n x = ap (λ l. all_set l ns x) (set_twice xs n m x) ∙ all_set-first (set xs m x) ns n x
@@ -69,7 +69,7 @@ pub length-all_set : (xs : List State) (ns : List ℕ) (x : State) → length (a
 length-all_set xs [] x = refl
 length-all_set xs (n ∷ ns) x = length-all_set (set xs n x) ns x ∙ length-set xs n x
 
--- what stands at a place that isn't one of them
+-- the state at a place that isn't listed stays
 pub all_set-other : (xs : List State) (ns : List ℕ) (n : ℕ) (x d : State) → times n ns ≡ 0 → get_or (all_set xs ns x) n d ≡ get_or xs n d
 all_set-other xs [] n x d none = refl
 all_set-other xs (m ∷ ns) n x d none =
@@ -95,7 +95,7 @@ pub all_leases : (P : ℕ → Type 0) (ls : List LeaseView) → All P (numbers l
 all_leases P [] all = All-nil (λ (l : LeaseView). P l.number)
 all_leases P (l ∷ ls) all = All-cons (λ (m : LeaseView). P m.number) l ls (All-head P l.number (numbers ls) all) (all_leases P ls (All-tail P l.number (numbers ls) all))
 
--- what holds at each place holds of a number that is in one
+-- a property of each place is one of a number that is in the list
 pub among : (P : ℕ → Type 0) (ns : List ℕ) (n : ℕ) → All P ns → 0 < times n ns → P n
 among P [] n all some = absurd (omega arith)
 among P (m ∷ ns) n all some =
@@ -103,7 +103,7 @@ among P (m ∷ ns) n all some =
     (λ (ne : m ≢ n). among P ns n (All-tail P m ns all) (omega (arith, times-cons n m ns, none_is m n ne)))
     (cases_eq m n)
 
--- a number that stands nowhere differs from each
+-- a number that is not in the list differs from each in it
 pub apart : (ns : List ℕ) (n : ℕ) → times n ns ≡ 0 → All (λ m. m ≢ n) ns
 apart [] n none = All-nil (λ m. m ≢ n)
 apart (m ∷ ns) n none =
@@ -117,11 +117,11 @@ vacant_or_leased e = cc
 
 -- ---- a lease stays one of its arena
 
--- where other cells change
+-- if other cells change
 pub still_of : (a : ArenaView) (l : LeaseView) (ns : List ℕ) (x : State) → IsOf l a → times l.number ns ≡ 0 → IsOf l (with_all a ns x)
 still_of a l ns x is other = record { memory = is.memory; cells = is.cells; number = is.number; leased = all_set-other a.states ns l.number x Leased other ∙ is.leased }
 
--- a cell that is on lease is so after any others are, too
+-- a cell that is on lease stays so after any others are leased
 leased_still : (xs : List State) (ns : List ℕ) (n : ℕ) → get_or xs n Leased ≡ Leased → get_or (all_set xs ns Leased) n Leased ≡ Leased
 leased_still xs [] n is = is
 leased_still xs (m ∷ ns) n is = leased_still (set xs m Leased) ns n (⊎_elim (λ (e : n ≡ m). ap (λ k. get_or (set xs m Leased) k Leased) e ∙ stays xs m) (λ (ne : n ≢ m). get_or-set_other xs m n Leased Leased ne ∙ is) (cases_eq n m))
@@ -131,7 +131,7 @@ leased_still xs (m ∷ ns) n is = leased_still (set xs m Leased) ns n (⊎_elim 
     stays (y ∷ ys) zero = refl
     stays (y ∷ ys) (suc k) = stays ys k
 
--- and where any cells are leased
+-- .. and if any cells are leased
 pub still_leased : (a : ArenaView) (l : LeaseView) (ns : List ℕ) → IsOf l a → IsOf l (with_all a ns Leased)
 still_leased a l ns is = record { memory = is.memory; cells = is.cells; number = is.number; leased = leased_still a.states ns l.number is.leased }
 
@@ -207,7 +207,7 @@ one_more old a c k xs ys b d r l all m leases is pushed =
       others = λ e ne. less.1 e ne ∙ m.others e ne;
     }
 
--- where none is free, none is asked for any more
+-- a lease is made as long as fewer are made than cells were free
 pub some_left : (old : List LeaseView) (a : ArenaView) (c : CellClass) (k count : ℕ) (xs : List LeaseView) (b d : ArenaView) (r : Option LeaseView) →
     LendsMore old a c k xs b → count ≤ free_of a c → k < count → Leases b c r d → r ≡ None → ⊥
 some_left old a c k count xs b d r m free lt leases is =

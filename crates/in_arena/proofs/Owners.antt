@@ -121,7 +121,7 @@ module _ (cells : ℕ) (c : CellClass) (i : ℕ) where
       others = λ x none. get_or-together ws ones x long ∙ ap (either_of (get_or ws x None)) (alone.others x none ∙ none_at [] (words_each * cells) x) ∙ either_none (get_or ws x None);
     }
 
-    -- where the row has none of its words
+    -- if the row has none of its words
     pub put_kept : ((q : ℕ) → q < slots c → word_at cells ws c i q ≡ None) → IsKept cells ones both c i
     put_kept gone q lt = get_or-together ws ones (spot c cells i q) long ∙ ap (λ w. either_of w (word_at cells ones c i q)) (gone q lt)
 

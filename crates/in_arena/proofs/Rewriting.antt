@@ -183,7 +183,7 @@ pub number_of_head : (h : End) (n : ℕ) → IsHead h → ((c : CellNo) (p : ℕ
 number_of_head (Cell c p) n is at = at c p refl
 number_of_head (FreeEnd k) n is at = absurd is
 
--- .. and how many ends
+-- .. and the number of ends
 pub count_of_head : (h : End) (n : ℕ) → IsHead h → ((c : CellNo) (p : ℕ) → h ≡ Cell c p → n ≡ p) → n ≡ count_in h
 count_of_head (Cell c p) n is at = at c p refl
 count_of_head (FreeEnd k) n is at = absurd is

@@ -17,7 +17,7 @@ use Rattle.in_arena.specs.declared.content.End.{End}
 use Rattle.in_arena.proofs.Seen.{all_long, at_place, changed_at, free_is}
 use Rattle.in_arena.proofs.Words.{apart, end_at_is, ends_long, head_inside, kept_cell, kept_whole, other_kept, row_at, row_long, slot_inside, slot_no_head, slot_one, spot_inside}
 
--- what a place holds by default it holds once that was written there
+-- after x is written at n, x is at n by default x
 pub stays : {X : Type 0} (xs : List X) (n : ℕ) (x : X) → get_or (set xs n x) n x ≡ x
 stays [] n x = refl
 stays (y ∷ xs) zero x = refl

@@ -164,7 +164,7 @@ all_some cells x lt = let s = some in (s.class, s.index, s.slot, s.inside, s.in_
         (cases_lt x (8 * cells)))
         (cases_lt x (4 * cells))
 
--- ---- what the words of a cell say
+-- ---- the meaning of the words of a cell
 
 map_range_same : {X : Type 0} (d : X) (f g : ℕ → X) (n : ℕ) → ((p : ℕ) → p < n → f p ≡ g p) → map f (range_with_len 0 n) ≡ map g (range_with_len 0 n)
 map_range_same d f g n same =
@@ -185,7 +185,7 @@ row_long cells ws c = length-map-range_with_len (cell_in cells ws c) 0 cells
 pub row_at : (cells : ℕ) (ws : List Word) (c : CellClass) (i : ℕ) → i < cells → get_or (row_in cells ws c) i None ≡ cell_in cells ws c i
 row_at cells ws c i lt = get_or-map-range_with_len (cell_in cells ws c) 0 cells i i None lt (omega arith)
 
--- the words of the cell are those of before
+-- the words of the cell are as before
 abbrev pub IsKept : ℕ → List Word → List Word → CellClass → ℕ → Type 0
 IsKept cells old new c i = (q : ℕ) → q < slots c → word_at cells new c i q ≡ word_at cells old c i q
 
@@ -199,7 +199,7 @@ kept_whole cells old new c i same (Gone none) = Gone (λ q lt. same q lt ∙ non
 kept_whole cells old new c i same (New new_) = New (λ q lt. same q lt ∙ new_ q lt)
 kept_whole cells old new c i same (Filled all first) = Filled (λ q lt. let w = all q lt in (w.0, same q lt ∙ w.1)) (subst (λ w. IsHead (end_of w)) (sym (same head (head_inside c))) first)
 
--- another cell than the one that changes
+-- a cell other than the one that changes
 pub other_kept : (cells : ℕ) (old new : List Word) (c d : CellClass) (i j : ℕ) → i < cells → j < cells → ChangesCell cells old new c i → ((c ≡ d) × (i ≡ j) → ⊥) → IsKept cells old new d j
 other_kept cells old new c d i j li lj change differ r in_d =
     change.others (spot d cells j r) (λ q in_c e. let one = apart c d cells i j q r li lj in_c in_d (sym e) in differ (one.0, one.1))

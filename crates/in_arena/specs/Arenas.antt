@@ -5,7 +5,7 @@ use Rattle.in_arena.specs.Classes.{class_no, IsNumberOf}
 use Rattle.in_arena.specs.States.{State, Vacant, Leased, IsLeased, IsBegun, is_vacant}
 use Rattle.in_arena.specs.declared.content.CellClass.{CellClass}
 
--- the address of its cells of each class, by the number of the class: contracts know an arena by this; the number of cells of each class; the state
+-- the address of its cells of each class, by the number of the class, by which contracts know an arena; the number of cells of each class; the state
 -- of each cell, by its number
 pub record ArenaView : Type 0 where
   pub memory : List Ptr
@@ -35,7 +35,7 @@ changed a n x = record { memory = a.memory; cells = a.cells; states = slice_set 
 abbrev pub part_of : ArenaView → CellClass → List State
 part_of a c = take a.cells (drop (class_no c * a.cells) a.states)
 
--- the number of free ones
+-- the number of free cells of a class
 abbrev pub free_of : ArenaView → CellClass → ℕ
 free_of a c = count_by is_vacant (part_of a c)
 
@@ -46,7 +46,7 @@ pub record IsOf (l : LeaseView) (a : ArenaView) : Type 0 where
   pub number : IsNumberOf a.cells l.class l.number
   pub leased : state_at a l.number ≡ Leased
 
--- from this number on, which isn't below the class's first one, no cell of the class is live or leased
+-- from this number on, which isn't below the class's first cell and at most one past its last, all cells of the class are free
 pub record IsUsedOf (a : ArenaView) (c : CellClass) (to : ℕ) : Type 0 where
   pub some : class_no c * a.cells ≤ to
   pub within : to ≤ (class_no c + 1) * a.cells

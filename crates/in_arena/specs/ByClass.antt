@@ -8,11 +8,11 @@ use Rattle.in_arena.specs.States.{State}
 use Rattle.in_arena.specs.Words.{Word, row_in}
 use Rattle.in_arena.specs.declared.content.CellClass.{CellClass}
 
--- where the cells of each class lie and what they are
+-- the address of the cells of each class, and their states
 abbrev pub seen : (CellClass → Ptr) → ℕ → (CellClass → List State) → ArenaView
 seen block cells row = record { memory = map block classes; cells = cells; states = flat_map row classes }
 
--- the cells of each class are the same, but for this cell of this class
+-- all cells of the classes are the same but one, this cell of this class, which has this state
 abbrev pub RowsChange : (CellClass → List State) → (CellClass → List State) → CellClass → ℕ → State → Type 0
 RowsChange old new c i x = map new classes ≡ slice_set (map old classes) (class_no c) (slice_set (old c) i x)
 
@@ -20,6 +20,6 @@ RowsChange old new c i x = map new classes ≡ slice_set (map old classes) (clas
 abbrev pub IsPlace : ℕ → ℕ → CellClass → ℕ → Type 0
 IsPlace cells n c i = (i < cells) × (n ≡ class_no c * cells + i)
 
--- an owner of words of the row at this address
+-- the view of an owner of words of the row at this address
 abbrev pub view_of : Ptr → ℕ → List Word → ArenaView
 view_of at cells ws = seen (λ c. at) cells (λ c. states (row_in cells ws c))

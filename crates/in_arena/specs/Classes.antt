@@ -3,7 +3,7 @@ use Rattle.std.specs.Prelude.{◌≡◌, ◌≤◌, ◌<◌, ◌+◌, ◌*◌, �
 use Rattle.in_arena.specs.declared.content.CellClass.{CellClass}
 use Rattle.in_arena.specs.declared.content.CellClass.TheVariants.{Small, Large, Wide}
 
--- in the order of their numbers, in which they are tested
+-- all classes in the order of their numbers, in which they are tested
 abbrev pub classes : List CellClass
 classes = Small ∷ Large ∷ Wide ∷ []
 
@@ -12,7 +12,7 @@ class_no Small = 0
 class_no Large = 1
 class_no Wide = 2
 
--- the number of ends for which a cell has room, with the principal port's
+-- the number of ends for which a cell has room, the principal port's among them
 abbrev pub width : CellClass → ℕ
 width Small = 3
 width Large = 9

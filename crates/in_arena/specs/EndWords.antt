@@ -9,11 +9,11 @@ use Rattle.in_arena.specs.declared.content.End.TheVariants.{Cell, Free}
 abbrev pub above : ℕ
 above = 1099511627776
 
--- how many numbers there are
+-- the count of all numbers
 abbrev pub numbers : ℕ
 numbers = 4294967296
 
--- what a free end has in the place of a place
+-- the number that a free end has for a place
 abbrev pub free_place : ℕ
 free_place = 256
 
@@ -28,7 +28,7 @@ abbrev pub bits_of : End → ℕ
 bits_of (Cell c place) = if nat_lt place 3 then c.0 * 4 + place else place * above + (c.0 * 4 + 3)
 bits_of (Free number) = free_place * above + (number * 4 + 3)
 
--- it is the word of an end, whose number has 32 bits and whose place is less than 256
+-- these are the bits of an end whose number has 32 bits and whose place is less than 256
 pub record FitsEnd (bits : ℕ) : Type 0 where
   pub number : number_in bits < numbers
   pub near : bits / above ≡ 0 → bits % 4 < 3

@@ -39,7 +39,7 @@ vacancy (Some (Some c)) = one_if_zero c.count
 abbrev pub vacancies : List CellWords → ℕ
 vacancies = sum_by vacancy
 
--- the cell is free, and names this next one
+-- the cell is free, and names this one as the next
 abbrev pub IsVacantTo : CellWords → ℕ → Type 0
 IsVacantTo None k = ⊥
 IsVacantTo (Some None) k = ⊥
@@ -57,7 +57,7 @@ abbrev pub AreDifferentNumbers : List ℕ → Type 0
 AreDifferentNumbers [] = Unit {0}
 AreDifferentNumbers (x ∷ xs) = AllByRecursion (λ y. x ≢ y) xs × AreDifferentNumbers xs
 
--- the cells from this one on were never used: they are here, and nothing was ever written in them
+-- the cells from this one on were never used: they are this owner's, and nothing was ever written in them
 abbrev pub AreNew : List CellWords → ℕ → Type 0
 AreNew cells fresh = (i : ℕ) → fresh ≤ i → i < length cells → get_or cells i None ≡ Some None
 

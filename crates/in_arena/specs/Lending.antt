@@ -67,7 +67,7 @@ pub record LendsMore (old : List LeaseView) (a : ArenaView) (class : CellClass) 
 abbrev pub LeaseLends : Type 0
 LeaseLends = (a b : ArenaView) (c : CellClass) (l : LeaseView) → Leases a c (Some l) b → Lends a b (l ∷ [])
 
--- one lending after another is one of both lists
+-- two lendings, one after the other, are one lending of both lists
 abbrev pub LendingsJoin : Type 0
 LendingsJoin = (a b c : ArenaView) (ls ms : List LeaseView) → Lends a b ls → Lends b c ms → Lends a c (ls ++ ms)
 

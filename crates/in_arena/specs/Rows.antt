@@ -14,7 +14,7 @@ use Rattle.in_arena.specs.declared.spot.Spot.{Spot}
 abbrev pub EachListsFree : ℕ → List Word → FreeLists → Type 0
 EachListsFree cells ws lists = (c : CellClass) → ListsFree (width c) (row_in cells ws c) (list_in lists c)
 
--- one cell is that, and all others are as they were
+-- this cell has this state, and all others are as they were
 pub record RowsBecome (cells : ℕ) (old new : List Word) (c : CellClass) (i : ℕ) (x : State) : Type 0 where
   pub row : states (row_in cells new c) ≡ slice_set (states (row_in cells old c)) i x
   pub others : (d : CellClass) → d ≢ c → states (row_in cells new d) ≡ states (row_in cells old d)
@@ -23,19 +23,19 @@ pub record RowsBecome (cells : ℕ) (old new : List Word) (c : CellClass) (i : �
 abbrev pub RowsStay : ℕ → List Word → List Word → Type 0
 RowsStay cells old new = (c : CellClass) → states (row_in cells new c) ≡ states (row_in cells old c)
 
--- the list of the class has a cell; or none of the class is free
+-- the list of the class has a cell, or no cell of the class is free
 abbrev pub MakesReady : ℕ → CellClass → Cells End → FreeLists → Bool → Cells End → FreeLists → Type 0
 MakesReady cells c words lists true words' lists' = (words'.at ≡ words.at) × AreWhole cells words'.slots × EachListsFree cells words'.slots lists' × RowsStay cells words.slots words'.slots × ((list_in lists' c).next ≢ cells)
 MakesReady cells c words lists false words' lists' = (words' ≡ words) × (lists' ≡ lists) × (count_by is_vacant (states (row_in cells words.slots c)) ≡ 0)
 
--- the cell is written with this content from now on
+-- the cell is written with this content
 pub record Rewrites (words : Cells End) (at : Spot) (x : Content) (words' : Cells End) : Type 0 where
   pub same : words'.at ≡ words.at
   pub whole : AreWhole at.cells words'.slots
   pub changes : ChangesCell at.cells words.slots words'.slots at.class at.index
   pub cell : cell_in at.cells words'.slots at.class at.index ≡ Some (Some x)
 
--- the words of this cell, which is written, and no others; in the row it is another owner's
+-- `one` has the words of this cell, which is written, and no others; in the row they are another owner's
 pub record OwnsOne (words : Cells End) (at : Spot) (one : Cells End) : Type 0 where
   pub same : one.at ≡ words.at
   pub index : at.index < at.cells

@@ -22,7 +22,7 @@ IsLeased Vacant = ⊥
 IsLeased Leased = Unit {0}
 IsLeased (Live word ends) = ⊥
 
--- the number of its places, with the principal one
+-- the number of its places, the principal one among them
 abbrev pub places : State → ℕ
 places Vacant = 0
 places Leased = 0

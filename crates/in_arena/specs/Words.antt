@@ -1,4 +1,4 @@
--- The row of words of an arena: which words a cell has in it, and what they say.
+-- The row of words of an arena: the words of each cell in it, and their meaning.
 use Rattle.std.specs.Prelude.{◌≡◌, ◌≢◌, ◌<◌, ◌+◌, ◌*◌, ℕ, zero, suc, Bool, false, ◌||◌, eqb, List, length, map, get_or, Option, Some, None}
 use Rattle.std.specs.List.{range_with_len}
 use Rattle.in_arena.specs.Classes.{class_no, width}
@@ -7,11 +7,11 @@ use Rattle.in_arena.specs.declared.content.CellClass.TheVariants.{Small, Large, 
 use Rattle.in_arena.specs.declared.content.End.{End}
 use Rattle.in_arena.specs.declared.content.End.TheVariants.{Cell, Free}
 
--- a word of the row, as one of its owners has it: another owner's, here and never written, or here with what is written
+-- a word of the row, as one of its owners has it: another owner's, its own and never written, or its own with an end
 abbrev pub Word : Type 0
 Word = Option (Option End)
 
--- what is written in a cell: its symbol word, how many ends it has, and what stands at each of its places
+-- the content of a cell: its symbol word, its number of ends, and the end at each of its places
 pub record Content : Type 0 where
   pub word : ℕ
   pub count : ℕ
@@ -21,9 +21,9 @@ pub record Content : Type 0 where
 abbrev pub CellWords : Type 0
 CellWords = Option (Option Content)
 
--- ---- where the words are
+-- ---- the places of the words
 
--- how many words the row has for each number of cells of a class
+-- the number of words that the row has for each number of cells of a class
 abbrev pub words_each : ℕ
 words_each = 32
 
@@ -31,7 +31,7 @@ words_each = 32
 abbrev pub near_of : CellClass → ℕ → ℕ → ℕ
 near_of c cells i = 4 * (class_no c * cells + i)
 
--- .. and the first of its words for further places, which come class by class after these
+-- .. and the first of its words for further places; these come class by class after the first four of all cells
 abbrev pub far_of : CellClass → ℕ → ℕ → ℕ
 far_of Small cells i = 0
 far_of Large cells i = 12 * cells + 6 * i
@@ -45,11 +45,11 @@ spot c cells i (suc (suc zero)) = near_of c cells i + 2
 spot c cells i (suc (suc (suc zero))) = near_of c cells i + 3
 spot c cells i (suc (suc (suc (suc q)))) = far_of c cells i + q
 
--- how many words it has
+-- the number of its words
 abbrev pub slots : CellClass → ℕ
 slots c = width c + 1
 
--- which of them is the head, and which a place
+-- the word that is the head
 abbrev pub head : ℕ
 head = 3
 
@@ -59,7 +59,7 @@ slot_of (suc zero) = 1
 slot_of (suc (suc zero)) = 2
 slot_of (suc (suc (suc p))) = suc (suc (suc (suc p)))
 
--- the number is what the function gives for some number below n
+-- the function maps some number below n to this number
 abbrev pub is_one_below : (ℕ → ℕ) → ℕ → ℕ → Bool
 is_one_below f zero x = false
 is_one_below f (suc n) x = eqb x (f n) || is_one_below f n x
@@ -68,9 +68,9 @@ is_one_below f (suc n) x = eqb x (f n) || is_one_below f n x
 abbrev pub is_spot : CellClass → ℕ → ℕ → ℕ → Bool
 is_spot c cells i = is_one_below (spot c cells i) (slots c)
 
--- ---- what they say
+-- ---- the meaning of the words
 
--- a head names the symbol word and how many ends there are, as an end names a cell and a place; of a free cell it names the next free one
+-- a head names the symbol word and the number of ends, as an end names a cell and a place; the head of a free cell names the next free one
 abbrev pub word_in : End → ℕ
 word_in (Cell s n) = s.0
 word_in (Free k) = 0
@@ -83,7 +83,7 @@ abbrev pub IsHead : End → Type 0
 IsHead (Cell s n) = Unit {0}
 IsHead (Free k) = ⊥
 
--- the end in a word, where one is written
+-- the end in a word that is written
 abbrev pub end_of : Word → End
 end_of None = Free 0
 end_of (Some None) = Free 0
@@ -108,18 +108,18 @@ module _ (cells : ℕ) (ws : List Word) (c : CellClass) where
   abbrev pub row_in : List CellWords
   row_in = map cell_in (range_with_len 0 cells)
 
-  -- all words of the cell are another owner's, or all are here and never written, or all are written, a head among them
+  -- all words of the cell are another owner's, or all are this owner's and never written, or all are written, with a head at the head's word
   pub data IsInOneState (i : ℕ) : Type 0 where
     Gone : ((q : ℕ) → q < slots c → word_at i q ≡ None) → IsInOneState i
     New : ((q : ℕ) → q < slots c → word_at i q ≡ Some None) → IsInOneState i
     Filled : ((q : ℕ) → q < slots c → (e : End) × (word_at i q ≡ Some (Some e))) → IsHead (end_of (word_at i head)) → IsInOneState i
 
--- each cell is whole
+-- the row has all its words, and the words of each cell are in one state
 pub record AreWhole (cells : ℕ) (ws : List Word) : Type 0 where
   pub long : length ws ≡ words_each * cells
   pub each : (c : CellClass) (i : ℕ) → i < cells → IsInOneState cells ws c i
 
--- the rows differ in words of this cell at most
+-- the rows have one length and differ in words of this cell at most
 pub record ChangesCell (cells : ℕ) (old new : List Word) (c : CellClass) (i : ℕ) : Type 0 where
   pub long : length new ≡ length old
   pub others : (x : ℕ) → ((q : ℕ) → q < slots c → x ≢ spot c cells i q) → get_or new x None ≡ get_or old x None

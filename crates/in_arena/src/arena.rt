@@ -22,7 +22,7 @@ use std::alloc::{AllocError, Global};
 use std::marker::Model;
 use std_alloc::room::may_hold;
 
-// How many words the row has for each number of cells of a class: four for each cell, and six and fourteen more for a large and a wide one.
+// The number of words that the row has for each number of cells of a class: four for each cell, and six and fourteen more for a large and a wide one.
 const WORDS: usize = 32;
 
 /// Cells in raw memory, the same number of each class, numbered class by class from 0. Contracts see the state of each cell, by its number: free,
@@ -66,7 +66,7 @@ impl Drop for Arena {
 }
 
 impl Arena {
-    /// An arena with `cells` cells of each class, all free. Refused only when out of memory; no other call takes memory.
+    /// An arena with `cells` cells of each class, all free. It is refused only when out of memory; no other call takes memory.
     pub fn new(alloc: Global, cells: u32) -> Result<Arena, AllocError>
         requires { cells ≤ most_cells }
         ensures { IfOk result (λ a. (a.cells ≡ cells) × (a.states ≡ replicate (length classes * cells) Vacant)) }
@@ -102,7 +102,7 @@ impl Arena {
         self.cells
     }
 
-    /// The number of cells of all classes: each number below is that of a cell.
+    /// The number of cells of all classes. Each number below it is that of a cell.
     pub fn all_cells(&self) -> u32
         ensures { result ≡ length self.now.states }
     {
@@ -116,14 +116,14 @@ impl Arena {
         self.lists.of(class).free
     }
 
-    /// A number from which on all cells of a class are free: they were never used. It isn't below that of the first cell of the class.
+    /// A number from which on all cells of a class are free. It isn't below the class's first cell, and at most one past its last.
     pub fn used(&self, class: CellClass) -> u32
         ensures { IsUsedOf self.now class result }
     {
         class.number() * self.cells + self.lists.of(class).fresh
     }
 
-    /// A number from which on all cells of all classes are free: they were never used.
+    /// A number from which on all cells of all classes are free.
     pub fn bound(&self) -> u32
         ensures few { result ≤ length self.now.states }
         ensures rest { (n : ℕ) → result ≤ n → n < length self.now.states → state_at self.now n ≡ Vacant }
@@ -138,7 +138,7 @@ impl Arena {
         bound
     }
 
-    /// Leases a free cell of this class, any one; none if none is free.
+    /// Leases a free cell of this class, any one. Returns none if none is free.
     #[inline(always)]
     pub fn lease(&mut self, class: CellClass) -> Option<Lease>
         ensures { Leases self.old class result self.new }
@@ -174,7 +174,7 @@ impl Arena {
         })
     }
 
-    /// The cell of the lease is live with its content.
+    /// Makes the cell of the lease live with its content.
     #[inline(always)]
     pub fn settle(&mut self, lease: Lease)
         requires of_this_arena { IsOf lease self.old }
@@ -189,7 +189,7 @@ impl Arena {
         self.words.join(words);
     }
 
-    /// The cell of the lease is free.
+    /// Frees the cell of the lease.
     #[inline(always)]
     pub fn give_back(&mut self, lease: Lease)
         requires { IsOf lease self.old }
@@ -275,7 +275,7 @@ impl Arena {
         self.words.write(self.base, spot.far_word(place), end);
     }
 
-    /// Writes it at the place to which `at` leads, if that is one of a live cell, and returns true. For a free end it writes nothing and returns false.
+    /// Writes the end at the place to which `at` leads, if that is one of a live cell, and returns true. If `at` is a free end, returns false.
     #[inline(always)]
     pub fn set_at(&mut self, at: EndWord, end: EndWord) -> bool
         requires { (c : Number) (p : ℕ) → at ≡ Cell c p → p < places (state_at self.old c.0) }
@@ -295,8 +295,8 @@ impl Arena {
         }
     }
 
-    /// Makes a free cell of this class, any one, live with this symbol word and this many places, with the principal port's: as many as the class is
-    /// for. Their ends are open until they are written. Nothing changes if none of the class is free.
+    /// Makes a free cell of this class, any one, live with this symbol word and this many places. They include the principal port's; the class is for
+    /// that many. Their ends are open until they are written. If no cell of the class is free, nothing changes.
     #[inline(always)]
     pub fn begin(&mut self, class: CellClass, symbol: SymbolWord, places: u8) -> Option<CellNo>
         requires { Holds class places }
@@ -333,7 +333,7 @@ impl Arena {
         Some(cell)
     }
 
-    /// If this live cell is of this class, begins it anew, as `begin` does, and returns true. Else nothing changes.
+    /// If this live cell is of this class, begins it anew, as `begin` does, and returns true. Otherwise nothing changes.
     #[inline(always)]
     pub fn begin_again(
         &mut self,
@@ -404,7 +404,7 @@ impl Arena {
         }
     }
 
-    /// Leases a free cell of this class, any one, into a bag of this arena; none if none is free.
+    /// Leases a free cell of this class, any one, into a bag of this arena. Returns none if none is free.
     #[inline(always)]
     pub fn lease_to(&mut self, class: CellClass, bag: &mut Bag) -> Option<CellNo>
         requires { IsBagOf bag.old self.old }
@@ -419,7 +419,7 @@ impl Arena {
         Some(spot.cell())
     }
 
-    /// The cell of the bag is live with its content.
+    /// Makes the cell of the bag live with its content.
     #[inline(always)]
     pub fn settle_from(&mut self, bag: &mut Bag, cell: CellNo)
         requires of_this_arena { IsBagOf bag.old self.old }
@@ -430,7 +430,7 @@ impl Arena {
         self.words.join(bag.words.part_by(&spot));
     }
 
-    /// The cell of the bag is free.
+    /// Frees the cell of the bag.
     #[inline(always)]
     pub fn give_back_from(&mut self, bag: &mut Bag, cell: CellNo)
         requires of_this_arena { IsBagOf bag.old self.old }

@@ -12,7 +12,7 @@ use in_memory::{Base, Cells};
 use std::marker::Model;
 
 /// Owns some cells of an arena, by their numbers: no other part of the program reads or writes them meanwhile. It takes no bytes for a cell, and may
-/// be moved to another thread. Contracts see it as they see an arena: one of its cells is vacant if nothing is written in it, else live; any other
+/// be moved to another thread. Contracts see it as an arena: one of its cells is vacant if nothing is written in it, otherwise live; any other
 /// cell is leased. Spend its cells by `Arena::settle_from` or `Arena::give_back_from`: an arena with a cell in a bag can't be dropped.
 #[derive(Drop)]
 pub struct Bag {

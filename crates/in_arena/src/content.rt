@@ -26,10 +26,10 @@ pub enum CellClass {
 }
 
 impl CellClass {
-    /// In their order, in which cells are numbered and free ones tested.
+    /// All classes in their order. Cells are numbered and free ones are tested in this order.
     pub const ALL: [CellClass; 3] = [CellClass::Small, CellClass::Large, CellClass::Wide];
 
-    /// Its number.
+    /// The number of the class.
     pub fn number(self) -> u32
         ensures { result ≡ class_no self }
     {
@@ -55,7 +55,7 @@ impl CellClass {
         }
     }
 
-    /// How many ends a cell of this class has room for, the principal port's among them.
+    /// The number of ends for which a cell of this class has room, the principal port's among them.
     pub fn width(self) -> u8
         ensures { result ≡ width self }
     {
@@ -66,7 +66,7 @@ impl CellClass {
         }
     }
 
-    /// How many ends it is for at least: one, or more than a cell of the class before has room for.
+    /// The least number of ends for a cell of this class: one, or one more than a cell of the class before has room for.
     pub fn least(self) -> u8
         ensures { result ≡ least self }
     {

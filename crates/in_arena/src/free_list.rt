@@ -5,8 +5,8 @@ ghost use Rattle.in_arena.specs.declared.content.CellClass.{CellClass as Class};
 
 use crate::content::CellClass;
 
-/// The free cells of a class: those of a list through the used ones, the last that was given back first, and all from `fresh` on, which were never
-/// used: nothing was written in them yet. The cells are numbered within their class; the list ends at the number that none has.
+/// The free cells of a class: those of a list through the used ones, the last that was given back first, and all from `fresh` on. In the cells from
+/// `fresh` on nothing was written yet. The cells are numbered within their class. The list ends at the number that no cell has.
 #[derive(Clone, Copy)]
 pub struct FreeList {
     pub next: u32,
@@ -23,7 +23,7 @@ pub struct FreeLists {
 }
 
 impl FreeLists {
-    /// Those of a class.
+    /// The free cells of a class.
     #[inline(always)]
     pub fn of(&self, class: CellClass) -> FreeList
         ensures { result ≡ list_in self.now class }
@@ -35,7 +35,7 @@ impl FreeLists {
         }
     }
 
-    /// Those of a class become these.
+    /// Makes these the free cells of a class.
     #[inline(always)]
     pub fn set(&mut self, class: CellClass, list: FreeList)
         ensures class { list_in self.new class ≡ list }

@@ -13,7 +13,7 @@ pub fn classes_are_all()
     ensures { ClassesAreAll }
 {}
 
-/// A cell's number is one of one class alone.
+/// No number is that of cells of two classes.
 pub fn numbers_are_apart()
     ensures { NumbersAreApart }
 {}
@@ -54,7 +54,7 @@ pub fn empty_bag_is_of()
     ensures { EmptyBagIsOf }
 {}
 
-/// A bag stays one of its arena after a cell has changed that it doesn't have.
+/// A bag stays one of its arena if a cell changes that the bag doesn't have.
 pub fn bags_stay()
     ensures { BagsStay }
 {}
@@ -89,7 +89,7 @@ pub fn lease_lends()
     ensures { LeaseLends }
 {}
 
-/// One lending after another is one of both lists of leases.
+/// Two lendings, one after the other, are one lending of both lists of leases.
 pub fn lendings_join()
     ensures { LendingsJoin }
 {}

@@ -22,7 +22,7 @@ pub fn head_of(words: &Cells<EndWord>, base: Base<EndWord>, cell: CellNo) -> End
     *words.get(base, near_word(cell, HEAD))
 }
 
-/// Whether a cell of the class is free. If so, one is the first of the list from then on.
+/// Whether a cell of the class is free. If so, one is the first of the list afterwards.
 #[inline(always)]
 pub fn is_ready(
     words: &mut Cells<EndWord>,
@@ -41,7 +41,7 @@ pub fn is_ready(
     list_new(words, base, cells, class, lists)
 }
 
-/// Puts the first cell of the class that was never used on the list, which is empty; no where all were used.
+/// Puts the first cell of the class that was never used on the list, which is empty. Returns `false` if all were used.
 #[inline(always)]
 fn list_new(
     words: &mut Cells<EndWord>,
@@ -79,7 +79,7 @@ fn list_new(
     true
 }
 
-/// Another owner's cell is here from now on, and free.
+/// Takes another owner's cell back as a free one.
 #[inline(always)]
 pub fn take_back(
     words: &mut Cells<EndWord>,
@@ -106,7 +106,7 @@ pub fn take_back(
     );
 }
 
-/// Writes the symbol word of a cell that is written, and how many ends it has. What stands at its places stays.
+/// Writes the symbol word of a cell that is written, and its number of ends. The ends at its places stay.
 #[inline(always)]
 pub fn begin_cell(
     words: &mut Cells<EndWord>,

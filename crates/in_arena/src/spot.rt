@@ -42,7 +42,7 @@ pub fn spot_of(cells: u32, cell: CellNo) -> Spot
     }
 }
 
-/// The word of one of the first three places of a cell, or of its head, which is the one after these.
+/// The word of one of the first three places of a cell, or of its head, which comes after these.
 #[inline(always)]
 pub fn near_word(cell: CellNo, slot: u8) -> usize
     ensures { result ≡ 4 * cell.0 + slot }
@@ -54,7 +54,7 @@ pub fn near_word(cell: CellNo, slot: u8) -> usize
 pub const HEAD: u8 = 3;
 
 impl Spot {
-    /// The number of the cell among all.
+    /// The number of the cell among all cells.
     #[inline(always)]
     pub fn cell(self) -> CellNo
         requires { (self.cells ≤ most_cells) × (self.index < self.cells) }

@@ -9,10 +9,10 @@ use std::marker::Model;
 // The place begins at this bit.
 const ABOVE: u64 = 1099511627776;
 
-// What a free end has in the place of a place.
+// The number that a free end has for a place.
 const FREE_PLACE: u64 = 256;
 
-// How many numbers there are.
+// The count of all numbers.
 const NUMBERS: u64 = 4294967296;
 
 // The lowest bits of an end that is at no near place.
@@ -88,7 +88,7 @@ impl EndWord {
         (self.bits / 4 % NUMBERS) as u32
     }
 
-    // The place, where it is one of a cell.
+    // The place, if the end is at a place of a cell.
     #[inline(always)]
     pub(crate) fn place(self) -> u8
         ensures { (c : Number) (p : ℕ) → self ≡ Cell c p → result ≡ p }
@@ -101,7 +101,7 @@ impl EndWord {
         }
     }
 
-    /// The end that it is the word of.
+    /// The end of this word.
     #[inline(always)]
     pub fn end(self) -> End
         ensures { result ≡ self }
@@ -117,7 +117,7 @@ impl EndWord {
         }
     }
 
-    /// The cell whose principal port it leads to, where it leads to one.
+    /// The cell whose principal port the end leads to, if it leads to one.
     #[inline(always)]
     pub fn principal(self) -> Option<CellNo>
         ensures { MatchOption result ((c : Number) → self ≢ Cell c 0) (λ c. self ≡ Cell c 0) }
@@ -129,7 +129,7 @@ impl EndWord {
         }
     }
 
-    /// The word of this place of the cell whose principal port it leads to. Place 0 of any end is the end itself.
+    /// The word of this place of the cell whose principal port the end leads to. Place 0 of any end is the end itself.
     #[inline(always)]
     pub fn at(self, place: u8) -> EndWord
         requires { (place ≡ 0) ⊎ ((c : Number) × (self ≡ Cell c 0)) }
@@ -148,7 +148,7 @@ impl EndWord {
         }
     }
 
-    // The number in the row of the place that it is, where that is one of the first three places of a cell.
+    // The place's own number in the row, if the end is one of the first three places of a cell.
     #[inline(always)]
     pub(crate) fn near(self) -> Option<usize>
         ensures { MatchOption result ((c : Number) (p : ℕ) → self ≡ Cell c p → p < 3 → ⊥) (λ x. (c : Number) × (p : ℕ) × (self ≡ Cell c p) × (p < 3) × (x ≡ 4 * c.0 + p)) }

@@ -17,7 +17,7 @@ pub anyway : {A E : Type 0} (P : Type 0) (r : Result A E) → P → OnErr r P
 anyway P (Ok a) p = tt
 anyway P (Err e) p = p
 
--- if one property of an answer implies another, an answer with the one has the other
+-- if one property of an answer implies another, an answer with the first has the second
 pub so_that : {E : Type 0} (P Q : List ℕ → Status → Type 0) (r : Result Answer E) → ((lines : List ℕ) (s : Status) → P lines s → Q lines s) → IfOk r (λ a. P a.bytes.items a.status) → IfOk r (λ a. Q a.bytes.items a.status)
 so_that P Q (Ok a) f p = f a.bytes.items a.status p
 so_that P Q (Err e) f p = tt

@@ -27,7 +27,7 @@ use Rattle.in_c.specs.Numbers.{no_numbers, numbers_of}
 abbrev pub IsSaid : Action → List ℕ → List ℕ → Status → Type 0
 IsSaid a text lines s = IsReply a text lines s ⊎ WantsMemory lines s
 
--- the same of a run with one worker within these numbers; if one of them is out of range, no byte and the status of wrong words
+-- .. to a run with one worker within these numbers; if one of them is out of range, no byte and the status of wrong words
 abbrev pub IsRunSaid : ℕ → ℕ → List ℕ → List ℕ → Status → Type 0
 IsRunSaid limit cells text lines s =
     ((l : Limits) × AreLimits 1 limit cells (Some l) × IsSaid (Run l) text lines s) ⊎ (AreLimits 1 limit cells None × (lines ≡ []) × (s ≡ status 2))
@@ -38,11 +38,11 @@ pub data IsDiagnosis (text words : List ℕ) (s : Status) : Type 0 where
   accepted : IsToldOfText text false → words ≡ [] → s ≡ status 0 → IsDiagnosis text words s
   wanting : words ≡ [] → s ≡ memory_status → IsDiagnosis text words s
 
--- the text is accepted, and this holds of its program
+-- the text is accepted, and its program has this property
 abbrev pub OfProgram : List ℕ → (Program → Type 0) → Type 0
 OfProgram text So = (p : Program) × IsAccepted text p × So p
 
--- the text is refused, and this holds of its refusal
+-- the text is refused, and its refusal has this property
 abbrev pub OfRefusal : List ℕ → (Refusal → Type 0) → Type 0
 OfRefusal text So = (r : Refusal) × IsRefused text r × So r
 
@@ -51,7 +51,7 @@ abbrev pub IsDiagnosisData : List ℕ → List ℕ → Status → Type 0
 IsDiagnosisData text line s =
     OfRefusal text (λ r. IsDataOf r line × (s ≡ status 1)) ⊎ (OfProgram text (λ p. (line ≡ []) × (s ≡ status 0)) ⊎ ((line ≡ []) × (s ≡ memory_status)))
 
--- the line of the text's program; that of its refusal; or that memory ran out
+-- the line of the text's program, or that of its refusal, or that memory ran out
 abbrev pub IsExported : List ℕ → List ℕ → Status → Type 0
 IsExported text line s =
     OfProgram text (λ p. (line ≡ program_line p) × (s ≡ status 0)) ⊎ (OfRefusal text (λ r. (line ≡ refused_line text r) × (s ≡ status 1)) ⊎ WantsMemory line s)
@@ -61,7 +61,7 @@ abbrev pub IsRefusedAs : List ℕ → Numbers → Status → Type 0
 IsRefusedAs text n s =
     OfRefusal text (λ r. (n ≡ numbers_of r) × (s ≡ status 1)) ⊎ (OfProgram text (λ p. (n ≡ no_numbers) × (s ≡ status 0)) ⊎ ((n ≡ no_numbers) × (s ≡ memory_status)))
 
--- status 0 if this holds, that of wrong words if it doesn't
+-- status 0 if this holds, and that of wrong words if it doesn't
 abbrev pub SaysWhether : Type 0 → Status → Type 0
 SaysWhether So s = (So × (s ≡ status 0)) ⊎ ((So → ⊥) × (s ≡ status 2))
 
@@ -70,7 +70,7 @@ abbrev pub IsVerified : List ℕ → ℕ → List GivenStep → List ℕ → Sta
 IsVerified text k given parts s =
     OfProgram text (λ p. SaysWhether (AreStepsOf (shape_of p (item_of p k)) (steps_of parts given)) s) ⊎ (OfRefusal text (λ r. s ≡ status 1) ⊎ (s ≡ memory_status))
 
--- `count` bytes and this status are given, for which this holds
+-- bytes with this relation to this status are given, and their count is `count`
 abbrev pub GivesAnswer : (List ℕ → Status → Type 0) → List ℕ → List ℕ → ℕ → ℕ → Type 0
 GivesAnswer So old new count s = (bytes : List ℕ) × So bytes (status s) × IsGiven bytes old new count
 

@@ -19,7 +19,7 @@ use Rattle.in_c.specs.declared.choosing.Shown.{Shown}
 abbrev pub no_run : RunNumbers
 no_run = record { chosen = 0; further = 0; pairs = 0; agents = 0 }
 
--- the number of choices done, of interactions after them, and of pairs and agents
+-- the numbers of choices done, of interactions after them, of pairs and of agents
 abbrev pub run_numbers : Chosen → RunNumbers
 run_numbers o = record { chosen = o.chosen; further = o.further; pairs = length o.machine.queue; agents = count_by is_some o.machine.agents }
 

@@ -38,7 +38,7 @@ pub struct Shown {
     pub status: Status,
 }
 
-/// Nothing to show, with this status.
+/// No bytes and no numbers, with this status.
 fn nothing(alloc: Global, status: Status) -> Shown
     ensures { AreGivenOut result [] no_run status }
 {

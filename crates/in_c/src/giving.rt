@@ -8,7 +8,7 @@ use std::alloc::AllocError;
 
 const MEMORY_LINE: &[u8] = b"memory\n";
 
-/// Copies as many first bytes as fit, and returns the number of all bytes.
+/// Copies the first bytes that fit, and returns the number of all bytes.
 fn copy(bytes: &[u8], room: &mut [u8]) -> usize
     ensures { IsGiven bytes.now room.old room.new result }
 {

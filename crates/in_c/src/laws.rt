@@ -21,7 +21,7 @@ pub fn calls_answer_once()
     texts_are_exported_once();
 }
 
-/// So are the room, the length, the numbers and the status after `inet_run_by`: of these and of the choices.
+/// So are the room, the length, the numbers and the status after `inet_run_by`, of these and of the choices.
 pub fn chosen_runs_answer_once()
     ensures { RunByAnswersAreOne }
 {

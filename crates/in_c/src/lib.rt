@@ -1,11 +1,11 @@
 //! The checker and the runner for programs in other languages, as a static library: each call returns the bytes that the program `inet` writes on a
 //! text, and its status. `include/inet.h` has the conditions for callers in C.
 //!
-//! Nothing is kept from call to call, so several threads may call at once, each on a text and a room of its own.
+//! Nothing is kept from call to call, so several threads may call at once, each on its own text and room.
 //!
 //! There is an export for each call. It makes its answer in memory (`saying`, `exporting`, `diagnosing`) by a writer that keeps all bytes
 //! (`collecting`), and copies it to the caller's room (`giving`); or it answers by numbers (`refusing`, `verifying`). The answers are those of
-//! `in_program`'s `report_text` and `run_text`: the latter runs with one worker, since an export has no runtime to give to `act`. No crate can use a
+//! `in_program`'s `report_text` and `run_text`. `run_text` runs with one worker, since an export has no runtime to give to `act`. No crate can use a
 //! static library, so its tests are `tests/run --only library`. `docs/use/LIBRARY.md` has the page for users.
 #![tactic(auto)]
 
@@ -48,7 +48,7 @@ pub extern "C" fn inet_version() -> u32
     VERSION
 }
 
-/// The output of `inet check` on a text: as many first bytes of it as fit the room, and the number of all bytes. Returns the program's
+/// The output of `inet check` on a text: the first bytes of it that fit the room, and the number of all bytes. Returns the program's
 /// status.
 #[unsafe(no_mangle)]
 pub extern "C" fn inet_check(alloc: Global, text: &[u8], room: &mut [u8], length: &mut usize) -> u8
@@ -95,7 +95,7 @@ pub extern "C" fn inet_diagnose(
     give(Ok(told(alloc, text)), room, length)
 }
 
-/// The same diagnosis as data: one JSON object and a line feed, as `in_diagnosis::diagnosis_data` says; nothing if the text is accepted, and none
+/// The same diagnosis as data: one JSON object and a line feed, as by `in_diagnosis::diagnosis_data`; nothing if the text is accepted, and none
 /// when out of memory. Returns the status of the text.
 #[unsafe(no_mangle)]
 pub extern "C" fn inet_diagnose_data(
@@ -118,7 +118,7 @@ pub extern "C" fn inet_export(alloc: Global, text: &[u8], room: &mut [u8], lengt
     give(exported(alloc, text), room, length)
 }
 
-/// Why a text is refused, as numbers; all are 0 if it is accepted, and when out of memory. Returns the status of the text.
+/// The refusal of a text as numbers; all are 0 if it is accepted, and when out of memory. Returns the status of the text.
 #[unsafe(no_mangle)]
 pub extern "C" fn inet_refusal(alloc: Global, text: &[u8], refusal: &mut Numbers) -> u8
     ensures { IsRefusedAs text.now refusal.new (status result) }
@@ -128,7 +128,7 @@ pub extern "C" fn inet_refusal(alloc: Global, text: &[u8], refusal: &mut Numbers
     status.0
 }
 
-/// Whether these steps build the rule of that number of the text's program, or its net, which has the number after the last rule's: the status is 0
+/// Whether these steps build the rule of that number of the text's program, or its net, which has the number after the last rule's. The status is 0
 /// if they do, that of wrong words if they don't, or that of the text. `in_certificates` has the meaning of the numbers.
 #[unsafe(no_mangle)]
 pub extern "C" fn inet_verify(

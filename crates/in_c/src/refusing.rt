@@ -10,8 +10,8 @@ use in_program::Status;
 use in_syntax::{Fault, Refusal};
 use std::alloc::Global;
 
-/// Why a text is refused: the number of the code, 1 to 15; the line and the column, from 1; the number, from 0, of the place's first byte, and of the
-/// byte after its last one; and the same of the other place, which a pair without a rule has. All are 0 if there is none.
+/// A refusal of a text: the number of the code, 1 to 15; the line and the column, from 1; the number, from 0, of the place's first byte, and of the
+/// byte after its last one; and the same of the other place, which only a pair without a rule has. All are 0 if there is none.
 #[repr(C)]
 #[derive(Clone, Copy, Debug, PartialEq, Eq)]
 pub struct Numbers {
@@ -61,7 +61,7 @@ fn no_numbers() -> Numbers
     NONE
 }
 
-/// Why a text is refused, and the status of the text.
+/// The refusal of a text, and the status of the text.
 pub fn refused(alloc: Global, text: &[u8]) -> (Numbers, Status)
     ensures { IsRefusedAs text.now result.0 result.1 }
 {

@@ -7,7 +7,7 @@ use in_program::Status;
 use in_syntax::Fault;
 use std::alloc::Global;
 
-/// The status of these steps: that they build the rule of that number, or the net; that they don't; or that of the text.
+/// The status for these steps: that they build the rule of that number, or the net; that they don't; or that of the text.
 pub fn verified(
     alloc: Global,
     text: &[u8],

@@ -1,4 +1,4 @@
--- Where all boundary ends are joined, the cells and the net's own free ends show the net after the interaction.
+-- If all boundary ends are joined, the cells and the net's own free ends show the net after the interaction.
 use Rattle.std.proofs.Common.{◌≡◌, ◌↔◌, ◌<◌, ℕ, zero, suc, List, [], ◌∷◌, take, slice_get, Option, Some, None, option_map, refl, sym, ap, ◌∙◌, inl, inr, arith}
 use Rattle.std.proofs.lemmas.Option.{slice_get_within}
 use Rattle.std.proofs.lemmas.List.{length-take-le}

@@ -1,4 +1,4 @@
--- A net whose agents were copied is beside the net that was there.
+-- A net whose agents were copied is beside the net of the other cells.
 use Rattle.std.proofs.Common.{◌≡◌, inl, inr, ◌<◌, ◌+◌, ℕ, zero, suc, true, false, Some, None, List, [], ◌∷◌, ◌++◌, length, map, slice_get, refl, sym, ap, subst, ◌∙◌, arith}
 use Rattle.std.specs.Prelude.{option_map}
 use Rattle.std.proofs.lemmas.Option.{same_Some, slice_get_within}
@@ -23,7 +23,7 @@ use Rattle.in_interaction.proofs.Public.{has_value}
 
 -- ---- side by side
 
--- the point that a part's point is
+-- the point for a part's point
 abbrev pub placed : (ℕ × ℕ → ℕ) → (ℕ → ℕ) → ℕ → Point ℕ → Point ℕ
 placed number name i (Port x k) = Port (old_and_new name i x) k
 placed number name i (Free e) = Free (number (i, e))
@@ -44,14 +44,14 @@ module _ (from before old new : ArenaView) (agents names : List CellNo) (numbers
   abbrev number : ℕ × ℕ → ℕ
   number p = number_of own (number_in numbers) p.0 p.1
 
-  -- a point of the net that was there, and one of the copied net, under the new numbers
+  -- a point of the other net, and one of the copied net, under the new numbers
   abbrev kept : Point ℕ → Point ℕ
   kept = moved_point (λ z. z) own
 
   abbrev to : Point ℕ → Point ℕ
   to = moved_point name (number_in numbers)
 
-  -- ---- which points are there
+  -- ---- the points
 
   agent_of : (x s : ℕ) → n.symbol x ≡ Some s → (k : ℕ) × (slice_get agents k ≡ Some (record { 0 = x }))
   agent_of x s e = all x (word_live (state_at from x) s (sym (shows_n.shown.agents x) ∙ e))
@@ -59,7 +59,7 @@ module _ (from before old new : ArenaView) (agents names : List CellNo) (numbers
   wired_agent : (x i : ℕ) (q : Point ℕ) → n.partner (Port x i) ≡ Some q → (k : ℕ) × (slice_get agents k ≡ Some (record { 0 = x }))
   wired_agent x i q e = let t = mapped point_of (end_at (state_at from x) i) q (sym (shows_n.shown.wires (Port x i)) ∙ e) in all x (end_live (state_at from x) i t.0 t.1)
 
-  -- an agent that was there has no copy's name
+  -- an agent of the other net has no copy's name
   no_name : (y : ℕ) → IsLive (state_at before y) → (k : ℕ) (c : CellNo) → slice_get agents k ≡ Some c → name c.0 ≡ y → ⊥
   no_name y live k c s e = subst IsLive (sym (numbered y) ∙ ap (state_at old) (sym e) ∙ (copied.each k c s).0) (moved_live (λ z. z) own (state_at before y) live)
 
@@ -69,7 +69,7 @@ module _ (from before old new : ArenaView) (agents names : List CellNo) (numbers
   old_wired : (y i : ℕ) (q : Point ℕ) → m.partner (Port y i) ≡ Some q → IsLive (state_at before y)
   old_wired y i q e = let t = mapped point_of (end_at (state_at before y) i) q (sym (shows_m.shown.wires (Port y i)) ∙ e) in end_live (state_at before y) i t.0 t.1
 
-  -- ---- what the cells show at an agent
+  -- ---- the cell of an agent
 
   abbrev IsNoName : ℕ → Type 0
   IsNoName y = (k : ℕ) (c : CellNo) → slice_get agents k ≡ Some c → name c.0 ≡ y → ⊥

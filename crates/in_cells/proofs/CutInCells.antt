@@ -1,4 +1,4 @@
--- A wire that is cut in cells: what the cells and the list of ends show before and after.
+-- A wire that is cut in cells: the net that the cells and the list of ends show before and after.
 use Rattle.std.proofs.Common.{◌≡◌, ◌≢◌, ◌⊎◌, inl, inr, ◌<◌, ◌≤◌, ◌+◌, ℕ, suc, Option, Some, None, List, length, take, slice_get, refl, sym, ap, subst, ◌∙◌, arith}
 use Rattle.std.specs.Prelude.{option_map}
 use Rattle.std.proofs.lemmas.List.{length-take-le}
@@ -17,7 +17,7 @@ use Rattle.in_cells.proofs.Writes.{stands_still}
 use Rattle.in_cells.specs.Cutting.{Shows, IsCutAt}
 use Rattle.in_interaction.proofs.Public.{same_free, same_point}
 
--- where a point leads, something stands
+-- a point that leads somewhere has an end
 pub stands_some : (o : Option End) (v : Point ℕ) → option_map point_of o ≡ Some v → (e : End) × (o ≡ Some e) × (point_of e ≡ v)
 stands_some None v h = cc
 stands_some (Some e) v h = (e, refl, same_Some (point_of e) v h)
@@ -39,7 +39,7 @@ module _ (sig : Signature) (f : ℕ) (a : ArenaView) (es : List End) (w : Net �
   back : w.partner there ≡ Some here
   back = before.net.back here there wire
 
-  -- what is led to is before the new free ends
+  -- a free end with a partner is before the new free ends
   below : (u v : Point ℕ) (k : ℕ) → w.partner u ≡ Some v → u ≡ Free k → k < f
   below u v k h is =
       let p = subst (IsPoint sig w) is (before.net.points u v h) in
@@ -53,7 +53,7 @@ module _ (sig : Signature) (f : ℕ) (a : ArenaView) (es : List End) (w : Net �
   apart : here ≢ there
   apart same = before.net.apart here (wire ∙ ap (λ (z : Point ℕ). Some z) (sym same))
 
-  -- ---- what can be written
+  -- ---- points that can be written
 
   at_one : IsPlaceAt a es one
   at_one = place_within (state_at a c) i other at
@@ -86,7 +86,7 @@ module _ (sig : Signature) (f : ℕ) (a : ArenaView) (es : List End) (w : Net �
     pub as_long : length es2 ≡ length es
     as_long = kept2.1 ∙ kept1.1
 
-    -- ---- what stands afterwards
+    -- ---- the ends afterwards
 
     abbrev after : Point ℕ → Option End
     after = stands_at a2 es2

@@ -1,4 +1,4 @@
--- Two free ends that are joined in cells: what the cells and the list of ends show before and after.
+-- Two free ends that are joined in cells: the net that the cells and the list of ends show before and after.
 use Rattle.std.proofs.Common.{◌≡◌, ◌⊎◌, inl, inr, ◌<◌, ◌≤◌, ◌+◌, ℕ, zero, suc, Option, Some, None, List, [], ◌∷◌, length, take, slice_get, refl, sym, ap, subst, ◌∙◌, arith}
 use Rattle.std.specs.Prelude.{option_map, IsSome}
 use Rattle.std.proofs.lemmas.List.{length-take-le}
@@ -18,7 +18,7 @@ use Rattle.in_cells.proofs.Writes.{exchange_keeps, point_end}
 use Rattle.in_cells.specs.Cutting.{Shows}
 use Rattle.in_cells.proofs.CutInCells.{stands_some}
 
--- at a place of a cell something stands
+-- a place of a cell holds an end
 pub end_there : (s : State) (i : ℕ) → i < places s → IsSome (end_at s i)
 end_there Vacant i l = absurd (omega (arith, l))
 end_there Leased i l = absurd (omega (arith, l))

@@ -1,4 +1,4 @@
--- What stays where only what places lead to is written.
+-- Properties of cells that stay if only the ends at places are written.
 use Rattle.std.proofs.Common.{◌≡◌, ◌*◌, ◌+◌, ℕ, Bool, cond, List, [], ◌∷◌, map, get_or, take, drop, refl, sym, ap, ◌∙◌}
 use Rattle.std.proofs.Math.Seq.{map-set_same}
 use Rattle.std.proofs.Math.ListN.{get_or-map}
@@ -13,7 +13,7 @@ use Rattle.in_arena.specs.declared.content.End.{End}
 use Rattle.in_arena.specs.declared.content.End.TheVariants as end
 use Rattle.in_cells.specs.Cells.{outline, KeepsCells}
 
--- ---- what an outline tells
+-- ---- the outline of a cell
 
 outline_vacant : (s : State) → is_vacant (outline s) ≡ is_vacant s
 outline_vacant Vacant = refl

@@ -22,7 +22,7 @@ use Rattle.in_cells.specs.TakingOutSteps.{number_below}
 use Rattle.in_cells.proofs.Shown.{NamedOr, named_or, end_live, word_moved}
 use Rattle.in_cells.proofs.Written.{live_keeps_free, moved_live}
 
--- ---- what the list has where a net is shown
+-- ---- the list of ends of a net that is shown
 
 free_of_point : (e : End) (k : ℕ) → point_of e ≡ Free k → e ≡ FreeEnd k
 free_of_point (Cell c i) k h = cc
@@ -47,7 +47,7 @@ led_to a ends n shown back = record {
       );
 }
 
--- ---- numbers that agree where free ends are led to
+-- ---- numbers that agree on all free ends to which places lead
 
 end_agrees : (f g : ℕ → ℕ) (e : End) → ((k : ℕ) → e ≡ FreeEnd k → f k ≡ g k) → moved_end (λ z. z) f e ≡ moved_end (λ z. z) g e
 end_agrees f g (Cell c i) same = refl
@@ -185,7 +185,7 @@ module _ (number : ℕ → ℕ) (old : ArenaView) (ends : List End) (led : AreLe
           many = ap (λ (v : ArenaView). length v.states) e ∙ length-set now.states c.0 new ∙ h.many;
         }
 
--- ---- what stays where free ends have other numbers
+-- ---- properties that stay under other numbers of free ends
 
 live_before : (name number : ℕ → ℕ) (x : State) → IsLive (moved name number x) → IsLive x
 live_before name number Vacant live = live

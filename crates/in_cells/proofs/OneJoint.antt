@@ -33,7 +33,7 @@ module _ (own many e : ℕ) where
   inner_below : IsSideBelow own many (suc e) inner
   inner_below = (e, omega arith, inr refl)
 
-  -- a side below is one below the next end too, and another one but for the two of this end
+  -- a side below this end is one below the next end too, and none of the two sides of this end
   side_more : (u : Point ℕ) → IsSideBelow own many e u → IsSideBelow own many (suc e) u
   side_more (Port y i) h = h
   side_more (Free k) h = let l = h.1 in (h.0, omega (arith, l), h.2)

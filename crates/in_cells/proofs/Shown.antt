@@ -1,4 +1,4 @@
--- What cells show once agents were copied to them.
+-- The net that cells show once agents were copied to them.
 use Rattle.std.proofs.Common.{◌≡◌, ◌≢◌, ◌⊎◌, inl, inr, ℕ, zero, suc, Option, Some, None, List, [], ◌∷◌, length, slice_get, refl, sym, ap, subst, ◌∙◌, arith}
 use Rattle.std.specs.Prelude.{option_map}
 use Rattle.std.proofs.lemmas.Option.{same_Some, slice_get-map, slice_get_within}
@@ -57,7 +57,7 @@ copies_are_shown from old new agents names ends of_from of_old of_new n m w show
 -- ---- all agents
 
 module _ (a : ArenaView) (of_a : List End) (n : Net ℕ) (shown : IsShown a of_a n) (back : WiresLeadBack n) where
-  -- at each point that a wire leads to something stands
+  -- each point to which a wire leads has an end
   leads_back : (u v : Point ℕ) → n.partner u ≡ Some v → (e : End) × (stands_at a of_a v ≡ Some e)
   leads_back u v h = let t = mapped point_of (stands_at a of_a v) u (sym (shown.wires v) ∙ back.0 u v h) in (t.0, t.1)
 

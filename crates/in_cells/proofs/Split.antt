@@ -24,7 +24,7 @@ use Rattle.in_cells.proofs.Shown.{word_moved, end_moved, point_moved, end_live, 
 use Rattle.in_cells.proofs.Beside.{placed, is_placed, at_placed}
 use Rattle.in_interaction.proofs.Public.{has_value}
 
--- what was live has a word
+-- a live cell has a symbol word
 live_word_there : (x : State) → IsLive x → word_of x ≡ None → ⊥
 live_word_there Vacant live e = live
 live_word_there Leased live e = live
@@ -35,7 +35,7 @@ live_has_word Vacant live = absurd live
 live_has_word Leased live = absurd live
 live_has_word (Live w es) live = refl
 
--- what has a wire is there
+-- a point with a wire is there
 shown_there : (a : ArenaView) (of_a : List End) (n : Net ℕ) → ShowsAll a of_a n → (u v : Point ℕ) → n.partner u ≡ Some v → IsThere n u
 shown_there a of_a n shows (Port y i) v e =
     let t = mapped point_of (end_at (state_at a y) i) v (sym (shows.shown.wires (Port y i)) ∙ e) in
@@ -73,7 +73,7 @@ module _ (from left old new : ArenaView) (agents names : List CellNo) (numbers :
       go (inl at) = inl (at.0, at.2 ∙ ap (λ (z : ℕ). Some (record { 0 = z })) at.3)
       go (inr none) = inr (λ k s. none k (record { 0 = y }) s refl)
 
-  -- ---- what the three arenas show
+  -- ---- the nets that the three arenas show
 
   symbol_copied : (y : ℕ) → IsOne y → p.symbol (name y) ≡ n.symbol y
   symbol_copied y at = shows_p.shown.agents (name y) ∙ ap word_of (copied.each at.0 (record { 0 = y }) at.1).1 ∙ word_moved name (number_in numbers) (state_at from y) ∙ sym (shows_n.shown.agents y)
@@ -157,7 +157,7 @@ module _ (from left old new : ArenaView) (agents names : List CellNo) (numbers :
       go (inl h) = absurd (not_both u (stays_in v u h (back.0 u v e)) at)
       go (inr h) = h
 
-  -- under its number in its part, a point is where it was
+  -- under its number in its part, a point has the same end as before
   in_place : (u : Point ℕ) → IsIn u → u ≡ placed number origin 1 (to u)
   in_place (Port y i) at = ap (λ (z : ℕ). Port z i) (sym (from_where at.0 (record { 0 = y }) at.1))
   in_place (Free f) at = ap Free (sym (split.places f 1 at.0 at.1) ∙ ap (place 1) (sym (split.part f at.0 at.1).0))
@@ -351,7 +351,7 @@ pub part_stands_beside : PartStandsBeside
 part_stands_beside from left old new agents names numbers own origin place of_from of_left of_new ends n m p shows_n back shows_m shows_p copied empty out from_where closed split free =
     stand from left old new agents names numbers own origin place of_from of_left of_new ends n m p shows_n back shows_m shows_p copied empty out from_where closed split free
 
--- .. and both are nets, where it is one
+-- .. and both are nets, if it is one
 pub split_are_nets : (sig : Signature) (from left old new : ArenaView) (agents names : List CellNo) (numbers : List ℕ) (own origin : ℕ → ℕ) (place : ℕ → ℕ → ℕ) (of_from of_left of_new : List End) (ends : List (ℕ × ℕ)) (n m p : Net ℕ) →
     IsNet sig n → ShowsAll from of_from n → ShowsAll left of_left m → ShowsAll new of_new p →
     IsCopied from agents numbers names old new → HasNoAgent old → AreTakenOut agents own from left →

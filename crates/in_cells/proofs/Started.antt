@@ -30,7 +30,7 @@ place_has Vacant i h = absurd (omega (arith, h))
 place_has Leased i h = absurd (omega (arith, h))
 place_has (Live word ends) i h = let d = end.Free 0 in (_, slice_get-get_or ends i d h)
 
--- ---- where the partner of a point is
+-- ---- the place of a point's partner
 
 module _ (sig : Signature) (n : Net ℕ) (x : Redex ℕ ℕ) (name : ℕ → ℕ) (can : CanStep sig n x name) where
   abbrev rest : (rest : Net ℕ) × IsRestOf sig n x rest
@@ -112,14 +112,14 @@ module _ (t : Tables) (x : Interaction) (own many : ℕ) (old a : ArenaView) (en
       go (no c) (yes e) = absurd (vacant_none y (ap (state_at a) e ∙ set.two) s h)
       go (no c) (no d) = other c d (set.others y c d)
 
-  -- ---- what stood at a point of the net before
+  -- ---- the end at a point of the net before
 
   stood : (p q : Point ℕ) → n.partner p ≡ Some q → stands_at old (take own ends) p ≡ Some (end_of q)
   stood p q h =
       let w = mapped point_of (stands_at old (take own ends) p) q (sym (set.shown.wires p) ∙ h) in
       w.1 ∙ ap (λ (w : End). Some w) (sym (point_end w.0) ∙ ap end_of w.2)
 
-  -- .. and is there yet
+  -- .. is still there
   stands_yet : (y i : ℕ) (q : Point ℕ) → y ≢ x.one.0 → y ≢ x.two.0 → n.partner (Port y i) ≡ Some q → end_at (state_at a y) i ≡ Some (end_of q)
   stands_yet y i q one two h =
       let s = symbol_of sig (n.symbol y) i (can.net.points (Port y i) q h) in
@@ -142,7 +142,7 @@ module _ (t : Tables) (x : Interaction) (own many : ℕ) (old a : ArenaView) (en
   inner_side : (e : ℕ) (u : Point ℕ) → e < length r.member.free → u ≡ Free (inner_end n r e) → Side u
   inner_side e u low h = subst Side (sym h) (e, subst (λ (k : ℕ). e < k) (sym many_is) low, inr (ap (λ (o : ℕ). o + length r.member.free + e) (sym own_is) ∙ ap (λ (k : ℕ). own + k + e) (sym many_is)))
 
-  -- a point of the net before that is no side is where it was
+  -- a point of the net before that is no side still has its end
   outer_same : (q v : Point ℕ) → IsOuterAt sig n r q v → (Side v → ⊥) → v ≡ q
   outer_same (Port y i) v (inl h) none = h.2
   outer_same (Port y i) v (inr h) none = absurd (none (outer_side h.0 v h.1 h.3))

@@ -66,7 +66,7 @@ pub place_stays : (at : End) (a : ArenaView) (es : List End) (b : ArenaView) (fs
 place_stays (end.Cell c i) a es b fs k long h = subst (λ (n : ℕ). i < n) (sym (places_kept a b k c.0)) h
 place_stays (end.Free j) a es b fs k long h = subst (λ (n : ℕ). j < n) (sym long) h
 
--- ---- two ends written each at the other
+-- ---- each of two ends is written at the other
 
 module _ (x y : End) (a : ArenaView) (es : List End) (b : ArenaView) (fs : List End) (at_x : IsPlaceAt a es x) (at_y : IsPlaceAt a es y) (w : AreExchanged x y a es b fs) where
   still_y : IsPlaceAt w.middle w.list y

@@ -29,7 +29,7 @@ parts Vacant live = absurd live
 parts Leased live = absurd live
 parts (Live w es) live = (w, es, refl)
 
--- what is alike to that has as many ends
+-- a cell that looks like a live one is live with as many ends
 like_parts : (w : ℕ) (es : List End) (y : State) → LooksLike (Live w es) y → (ds : List End) × (y ≡ Live w ds) × (length ds ≡ length es)
 like_parts w es Vacant e = absurd (let f : None ≡ Some w = e.0 in cc)
 like_parts w es Leased e = absurd (let f : None ≡ Some w = e.0 in cc)

@@ -12,7 +12,7 @@ use Rattle.in_arena.specs.declared.content.End.TheVariants.{Cell, Free}
 
 -- ---- numbers
 
--- the number in a list for the number of a cell, or of a free end
+-- the number that a list has for the number of a cell, or of a free end
 abbrev pub name_in : List CellNo → ℕ → ℕ
 name_in names n = (slice_index_or names n (record { 0 = 0 })).0
 
@@ -35,7 +35,7 @@ LooksLike x y = (word_of y ≡ word_of x) × (places y ≡ places x)
 
 -- ---- the copied agents
 
--- live cells, each once
+-- these are live cells, each named once
 pub record ArePart (a : ArenaView) (agents : List CellNo) : Type 0 where
   pub live : (k : ℕ) (c : CellNo) → slice_get agents k ≡ Some c → IsLive (state_at a c.0)
   pub once : AreListedOnce agents
@@ -63,7 +63,7 @@ LeadsInto agents many (Free k) = k < many
 abbrev pub AreClosed : ArenaView → List CellNo → ℕ → Type 0
 AreClosed a agents many = (k i : ℕ) (c : CellNo) (e : End) → slice_get agents k ≡ Some c → end_at (state_at a c.0) i ≡ Some e → LeadsInto agents many e
 
--- an end's numbers are below these
+-- the number of an end's cell, or of the free end, is below these numbers
 abbrev pub IsEndWithin : ℕ → ℕ → End → Type 0
 IsEndWithin cells many (Cell c i) = c.0 < cells
 IsEndWithin cells many (Free k) = k < many
@@ -82,7 +82,7 @@ HasCellsFor a agents b = (d : CellClass) → count_by (is_for a d) agents ≤ fr
 abbrev pub HaveOwnNames : List CellNo → List CellNo → Type 0
 HaveOwnNames agents names = (j k : ℕ) (c d : CellNo) → slice_get agents j ≡ Some c → slice_get agents k ≡ Some d → name_in names c.0 ≡ name_in names d.0 → j ≡ k
 
--- each agent is in a cell of its own, which was free and is of the class for its places, with its ends under the new numbers; all other cells are as
+-- each agent is in its own cell, which was free and is of the class for its places, with its ends under the new numbers; all other cells are as
 -- they were
 pub record IsCopied (from : ArenaView) (agents : List CellNo) (ends : List ℕ) (names : List CellNo) (old new : ArenaView) : Type 0 where
   pub each : (k : ℕ) (c : CellNo) → slice_get agents k ≡ Some c

@@ -42,12 +42,12 @@ pub record HaveCellsBelow (from : ArenaView) (agents : List CellNo) (old : Arena
   pub cells : now.cells ≡ old.cells
   pub many : length now.states ≡ length old.states
 
--- each agent has a cell of its own, where it will be written
+-- each agent has its own cell, where it will be written
 pub record HaveOwnCells (from : ArenaView) (agents names : List CellNo) (now : ArenaView) : Type 0 where
   pub each : (k : ℕ) (c : CellNo) → slice_get agents k ≡ Some c → LooksLike (state_at from c.0) (state_at now (name_in names c.0))
   pub once : HaveOwnNames agents names
 
--- the content of a cell with its first i ends written
+-- the cell has the content with its first i ends written
 pub record IsBeingMoved (name number : ℕ → ℕ) (x : State) (n i : ℕ) (first now : ArenaView) : Type 0 where
   pub word : ℕ
   pub all : List End

@@ -39,11 +39,11 @@ NoneIsLeased = (from old new : ArenaView) (agents names : List CellNo) (ends : L
 
 -- ---- all agents of a net
 
--- if all agents of a net are copied, with its free ends, none leads elsewhere
+-- if all agents of a net are copied, with its free ends, they lead only to each other and to these
 abbrev pub AllAreClosed : Type 0
 AllAreClosed = (a : ArenaView) (agents : List CellNo) (of_a : List End) (n : Net ℕ) → IsShown a of_a n → WiresLeadBack n → AreAllLive a agents → AreClosed a agents (length of_a)
 
--- the cells show the net, and the list is of its free ends
+-- the cells show the net, and the list has the partners of its free ends
 pub record ShowsAll (a : ArenaView) (ends : List End) (n : Net ℕ) : Type 0 where
   pub shown : IsShown a ends n
   pub many : length ends ≡ length n.free
@@ -57,7 +57,7 @@ abbrev pub number_of : (ℕ → ℕ) → (ℕ → ℕ) → ℕ → ℕ → ℕ
 number_of own number zero e = own e
 number_of own number (suc i) e = number e
 
--- its partner there, if part 0 has this list of ends and part 1 that
+-- the partner there of a free end of a part, if part 0 has the first of these lists of ends and part 1 the second
 abbrev pub leads_to : (ℕ → ℕ) → (ℕ → ℕ) → (ℕ → ℕ) → List End → List End → ℕ → ℕ → Option End
 leads_to name own number of_one of_two zero e = option_map (moved_end (λ z. z) own) (slice_get of_one e)
 leads_to name own number of_one of_two (suc zero) e = option_map (moved_end name number) (slice_get of_two e)
@@ -88,7 +88,7 @@ ends_of i first (suc k) = (i, first) ∷ ends_of i (suc first) k
 abbrev pub HasNoAgent : ArenaView → Type 0
 HasNoAgent a = (y : ℕ) → word_of (state_at a y) ≡ None
 
--- these agents are gone, and the others are the same, with these numbers of free ends
+-- these agents are gone, and the other cells are the same, with these numbers of free ends
 pub record AreTakenOut (agents : List CellNo) (own : ℕ → ℕ) (a b : ArenaView) : Type 0 where
   pub gone : (k : ℕ) (c : CellNo) → slice_get agents k ≡ Some c → state_at b c.0 ≡ Vacant
   pub others : (y : ℕ) → ((k : ℕ) → slice_get agents k ≡ Some (record { 0 = y }) → ⊥) → state_at b y ≡ moved (λ z. z) own (state_at a y)
@@ -109,7 +109,7 @@ pub record AreEndsSplit (one two : Net ℕ) (agents : List CellNo) (name own num
   pub apart : (k e : ℕ) (x : End) → slice_get ends k ≡ Some (0, e) → slice_get of_both k ≡ Some x → LeadsIntoPart agents ends x → ⊥
   pub closed : (k e : ℕ) (x : End) → slice_get ends k ≡ Some (1, e) → slice_get of_both k ≡ Some x → LeadsIntoPart agents ends x
 
--- if agents that lead to each other and to free ends of their own are copied to cells that show no agent, and are taken out, the net before is the
+-- if agents that lead only to each other and to free ends are copied to cells that show no agent, and are taken out, the net before is the
 -- rest and the part side by side: the agents of the part had these names there
 abbrev pub PartStandsBeside : Type 0
 PartStandsBeside = (from left old new : ArenaView) (agents names : List CellNo) (numbers : List ℕ) (own origin : ℕ → ℕ) (place : ℕ → ℕ → ℕ) (of_from of_left of_new : List End) (ends : List (ℕ × ℕ)) (n m p : Net ℕ) →

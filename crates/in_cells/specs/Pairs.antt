@@ -10,12 +10,12 @@ use Rattle.in_net.specs.ActivePairs.{IsOrdered}
 use Rattle.in_symbols.specs.Tables.{Tables}
 use Rattle.in_symbols.specs.declared.symbols.SymbolNo.{SymbolNo}
 
--- an end at a cell is at a live one
+-- if the end is at a cell, the cell is live
 abbrev pub IsAtLive : ArenaView → End → Type 0
 IsAtLive a (Cell c i) = IsLive (state_at a c.0)
 IsAtLive a (Free k) = Unit {0}
 
--- it is the principal port of the cell of this number
+-- the end is the principal port of the cell of this number
 abbrev pub IsPrincipal : ℕ → End → Type 0
 IsPrincipal y x = x ≡ Cell (record { 0 = y }) 0
 
@@ -29,7 +29,7 @@ pub record IsPairOf (t : Tables) (a : ArenaView) (x y : End) (q : AgentNo × Age
   pub symbol_two : word_of (state_at a two.0.0) ≡ Some two.1.0
   pub order : IsOrdered t one two q
 
--- one of them is no principal port
+-- one of the two ends is no principal port
 abbrev pub IsNoPair : End → End → Type 0
 IsNoPair x y = (c d : ℕ) → IsPrincipal c x → IsPrincipal d y → ⊥
 

@@ -1,4 +1,4 @@
--- A net in cells. Each place of a cell has the end that it leads to; for a free end a list has it, at the free end's number.
+-- A net in cells. Each place of a cell has the end to which it leads; the end for a free end is in a list, at the free end's number.
 use Rattle.std.specs.Prelude.{◌≡◌, ◌⊎◌, ◌↔◌, ◌+◌, ◌<◌, ◌≤◌, ℕ, List, length, slice_get, slice_set, Option, Some, IsSome, option_map}
 use Rattle.in_arena.specs.Arenas.{ArenaView, state_at, changed}
 use Rattle.in_arena.specs.States.{word_of, places, end_at, with_end}
@@ -6,7 +6,7 @@ use Rattle.in_arena.specs.declared.content.End.{End}
 use Rattle.in_arena.specs.declared.content.End.TheVariants as end
 use Rattle.in_net.specs.Nets.{Point, Port, Free, Net}
 
--- the point that an end leads to, and back
+-- the point to which an end leads, and back
 abbrev pub point_of : End → Point ℕ
 point_of (end.Cell c i) = Port c.0 i
 point_of (end.Free k) = Free k
@@ -27,17 +27,17 @@ pub record IsShown (a : ArenaView) (ends : List End) (m : Net ℕ) : Type 0 wher
 
 -- ---- writing
 
--- something is at this point, so it can be written
+-- the cells have this place, or the list has this free end, so it can be written
 abbrev pub IsPlaceAt : ArenaView → List End → End → Type 0
 IsPlaceAt a ends (end.Cell c i) = i < places (state_at a c.0)
 IsPlaceAt a ends (end.Free k) = k < length ends
 
--- the one end is written at the other
+-- the second end is written at the first
 abbrev pub IsWritten : End → End → ArenaView → List End → ArenaView → List End → Type 0
 IsWritten (end.Cell c i) x a ends b after = (b ≡ changed a c.0 (with_end (state_at a c.0) i x)) × (after ≡ ends)
 IsWritten (end.Free k) x a ends b after = (b ≡ a) × (after ≡ slice_set ends k x)
 
--- of two ends each is written at the other
+-- each of two ends is written at the other
 pub record AreExchanged (x y : End) (a : ArenaView) (ends : List End) (b : ArenaView) (after : List End) : Type 0 where
   pub middle : ArenaView
   pub list : List End
@@ -46,13 +46,13 @@ pub record AreExchanged (x y : End) (a : ArenaView) (ends : List End) (b : Arena
 
 -- ---- while boundary ends are joined
 
--- a side of a boundary end below this one, if the net has `own` free ends of its own, and `many` boundary ends: the outer
+-- a side of a boundary end below this one, if the net has `own` free ends and `many` boundary ends are added: the outer
 -- sides are numbered after the net's own free ends, and the inner sides after these
 abbrev pub IsSideBelow : ℕ → ℕ → ℕ → Point ℕ → Type 0
 IsSideBelow own many e (Port y i) = ⊥
 IsSideBelow own many e (Free k) = (d : ℕ) × (d < e) × ((k ≡ own + d) ⊎ (k ≡ own + many + d))
 
--- a place of a live cell, a free end of the net's own, or such a side
+-- a place of a live cell, one of the net's own free ends, or such a side
 abbrev pub IsPointUpTo : ArenaView → ℕ → ℕ → ℕ → Point ℕ → Type 0
 IsPointUpTo a own many e (Port y i) = i < places (state_at a y)
 IsPointUpTo a own many e (Free k) = (k < own) ⊎ IsSideBelow own many e (Free k)

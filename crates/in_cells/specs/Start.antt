@@ -1,4 +1,4 @@
--- The beginning of joining: the cells showed a net, the right member is in cells of its own, and the pair is retired.
+-- The beginning of joining: the cells showed a net, the right member is in other cells, and the pair is retired.
 use Rattle.std.specs.Prelude.{◌≡◌, ◌≢◌, ◌⊎◌, ◌+◌, ◌<◌, ◌≤◌, ℕ, suc, List, length, slice_get, take, Some}
 use Rattle.in_arena.specs.Arenas.{ArenaView, state_at}
 use Rattle.in_arena.specs.States.{Vacant, word_of, places, end_at}
@@ -28,7 +28,7 @@ AreOuterSides t x own old ends = (e : ℕ) (w : End) (v : Point ℕ) → e < len
     end_at (state_at old (end_agent (signature_of t) (redex_of x) e)) (end_place (signature_of t) (redex_of x) e) ≡ Some w →
     IsOuterAt (signature_of t) (before x) (redex_of x) (point_of w) v → slice_get ends (own + e) ≡ Some (end_of v)
 
--- its inner side has its partner in the right member; a boundary end there is its inner side
+-- the inner side of each boundary end has the end's partner in the right member; a boundary end there is its inner side
 abbrev pub AreInnerSides : Interaction → ℕ → ℕ → List End → Type 0
 AreInnerSides x own many ends = (e : ℕ) (u v : Point ℕ) → (redex_of x).member.partner (Free e) ≡ Some u →
     IsInnerAt (before x) (redex_of x) x.name u v → slice_get ends (own + many + e) ≡ Some (end_of v)

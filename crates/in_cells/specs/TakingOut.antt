@@ -1,4 +1,4 @@
--- Agents that leave an arena, and free ends that get other numbers in it: how a part of a net is taken out, and how the rest is numbered anew. This
+-- Agents that leave an arena, and free ends that get other numbers in it: so a part of a net is taken out, and the rest is numbered anew. This
 -- project's own choice.
 use Rattle.std.specs.Prelude.{◌≡◌, ◌+◌, ℕ, List, length, count_by, Some, slice_get}
 use Rattle.in_arena.specs.Arenas.{ArenaView, free_of, state_at}
@@ -16,7 +16,7 @@ module _ (a : ArenaView) (agents : List CellNo) where
   abbrev pub AreClassed : Type 0
   AreClassed = (k : ℕ) (c : CellNo) (d : CellClass) → slice_get agents k ≡ Some c → IsNumberOf a.cells d c.0 → Holds d (places (state_at a c.0))
 
-  -- in the other arena each class has as many free cells more as these agents took
+  -- the other arena has more free cells of each class, by as many as these agents took
   abbrev pub FreesCellsOf : ArenaView → Type 0
   FreesCellsOf b = (d : CellClass) → free_of b d ≡ free_of a d + count_by (is_for a d) agents
 
@@ -34,7 +34,7 @@ pub record AreLedTo (a : ArenaView) (ends : List End) : Type 0 where
   pub back : (k i : ℕ) (c : CellNo) → slice_get ends k ≡ Some (Cell c i) → end_at (state_at a c.0) i ≡ Some (Free k)
   pub all : (y i k : ℕ) → end_at (state_at a y) i ≡ Some (Free k) → slice_get ends k ≡ Some (Cell (record { 0 = y }) i)
 
--- each place that leads to a free end leads to it under its new number, and all else is as it was
+-- each place that leads to a free end has its new number, and all else is as it was
 pub record AreNumberedAnew (number : ℕ → ℕ) (old new : ArenaView) : Type 0 where
   pub each : (y : ℕ) → state_at new y ≡ moved (λ z. z) number (state_at old y)
   pub free : AsManyAreFree old new

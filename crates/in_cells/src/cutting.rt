@@ -10,7 +10,7 @@ ghost use Rattle.in_cells.specs.Cutting.{IsCutAt, Shows};
 use crate::exchanging::exchange;
 use in_arena::{Arena, CellNo, EndWord};
 
-/// Cuts the wire at a place of a live cell. The list of ends has first the partner of each of the net's `own` free ends, and then room for two more.
+/// Cuts the wire at a place of a live cell. The list of ends has the partner of each of the net's `own` free ends, and then room for two more.
 /// Afterwards the place leads to the free end after these, and its old partner to the one after that; all else is as it was. It takes no memory.
 pub fn cut(arena: &mut Arena, ends: &mut [EndWord], own: u32, cell: CellNo, place: u8)
     requires shown { (sig : Signature) × (w : Net ℕ) × Shows sig own arena.old ends.old w }

@@ -1,4 +1,4 @@
-// Ends under the numbers that cells and free ends get.
+// Ends under new numbers of cells and free ends.
 ghost use Rattle.std.specs.Prelude.{◌≡◌, length};
 ghost use Rattle.in_cells.specs.Copying.{IsEndWithin, moved_end, name_in, number_in};
 

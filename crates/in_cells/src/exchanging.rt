@@ -3,7 +3,7 @@ ghost use Rattle.in_cells.specs.Shown.{IsPlaceAt, IsWritten, AreExchanged};
 
 use in_arena::{Arena, End, EndWord};
 
-/// Writes an end at a place of a live cell, or in the list at a free end's number.
+/// Writes an end at a place of a live cell, or at a free end's number in the list.
 #[inline(always)]
 fn write(arena: &mut Arena, ends: &mut [EndWord], at: EndWord, end: EndWord)
     requires { IsPlaceAt arena.old ends.old at }

@@ -8,7 +8,7 @@ use crate::pairing::add_pair;
 use in_arena::{Arena, EndWord};
 use in_symbols::Symbols;
 
-/// Joins one boundary end: its outer side and its inner side lead to each other from now on. If both sides are principal ports, their agents are a
+/// Joins one boundary end: its outer side and its inner side then lead to each other. If both sides are principal ports, their agents are a
 /// new pair.
 #[inline(always)]
 fn join(
@@ -37,12 +37,12 @@ fn join(
 }
 
 /// Joins all boundary ends of an interaction, from the highest to the lowest, over the cells of a net that is taken apart: the pair is
-/// retired, and the right member is in cells of its own. No memory is taken.
+/// retired, and the right member is in other cells. No memory is taken.
 ///
-/// The list of ends has first the partner of each of the net's `own` free ends, then the partner at the outer side of each of the `many`
-/// boundary ends, and then those at their inner sides. Afterwards the cells and the list's first `own` ends show the net after the
-/// interaction; in cells only the ends at their places have changed. Pairs that it makes over boundary ends are added to `made`, the one with the
-/// highest lowest end first; it must have room for `many`. Each live cell has the number of one of the `Symbols`. The order is this project's own
+/// The list of ends has the partner of each of the net's `own` free ends, then the partner at the outer side of each of the `many`
+/// boundary ends, and then the partners at their inner sides. Afterwards the cells and the list's first `own` ends show the net after the
+/// interaction; in cells only the ends at their places have changed. Pairs that it makes over boundary ends are added to `made`, the pair with the
+/// highest lowest end first; `made` must have room for `many`. Each live cell has the number of one of the `Symbols`. The order is this project's own
 /// choice.
 pub fn join_all(
     arena: &mut Arena,

@@ -4,13 +4,13 @@ ghost use Rattle.in_cells.specs.Between.{PairsAreAddedOnce};
 ghost use Rattle.in_cells.specs.Start.{SetHasSymbols, SetIsReady, ShownIsStep};
 ghost use Rattle.in_cells.specs.Laws.{CopiesAreShown, NoneIsLeased, AllAreClosed, CopiesStandBeside, PartStandsBeside};
 
-/// If the cells showed a net, and the right member is in cells of its own, the pair is retired and the sides of the boundary ends are set,
+/// If the cells showed a net, and the right member is in other cells, the pair is retired and the sides of the boundary ends are set,
 /// then joining can begin.
 pub fn set_is_ready()
     ensures { SetIsReady }
 {}
 
-/// There each live cell has the number of a symbol, if the net and the right member are over the symbols.
+/// In this state each live cell has the number of a symbol, if the net and the right member are over the symbols.
 pub fn set_has_symbols()
     ensures { SetHasSymbols }
 {}
@@ -20,7 +20,7 @@ pub fn shown_is_step()
     ensures { ShownIsStep }
 {}
 
-/// Which pairs an interaction adds over boundary ends, and in which order, is determined.
+/// The pairs that an interaction adds over boundary ends are determined, and so is their order.
 pub fn pairs_are_added_once()
     ensures { PairsAreAddedOnce }
 {}
@@ -45,7 +45,7 @@ pub fn copies_stand_beside()
     ensures { CopiesStandBeside }
 {}
 
-/// If agents that lead to each other and to free ends of their own are copied to cells that show no agent, and taken out, the net before is the rest
+/// If agents that lead only to each other and to free ends are copied to cells that show no agent, and taken out, the net before is the rest
 /// and the part side by side.
 pub fn part_stands_beside()
     ensures { PartStandsBeside }

@@ -4,7 +4,7 @@
 //! - An interaction in place: the pair is retired, and the right member is beside the rest of the net. From the highest end to the lowest,
 //!   the end's two sides then lead to each other (`joining`), each end in constant time and without following a path.
 //!   `exchanging` has the two writes for one end, `pairing` adds the active pair that they make.
-//! - A wire is cut (`cutting`), and two free ends are joined (`rejoining`): how a net falls into parts, and how it is glued again.
+//! - A wire is cut (`cutting`), and two free ends are joined (`rejoining`): so a net is split into parts and glued again.
 //! - Agents are copied to another arena, under the numbers of the cells that they get there (`copying`): `taking` takes a cell for each, and
 //!   `writing` writes their places, with cells and free ends under their new numbers (`ends`). `numbering`
 //!   gives the free ends that cells lead to other numbers; `retiring` frees the cells of agents that are gone.

@@ -6,7 +6,7 @@ ghost use Rattle.in_cells.specs.TakingOut.{AreLedTo, AreNumberedAnew};
 use in_arena::{Arena, End, EndWord};
 use in_base::use_promise;
 
-/// Writes the new number of each free end at the place that leads to it: that of free end k is `numbers[k]`. The list has the other end of each free
+/// Writes the new number of each free end at the place that leads to it: free end k gets `numbers[k]`. The list has the other end of each free
 /// end's wire, and isn't changed. It takes no memory.
 pub fn number_anew(arena: &mut Arena, ends: &[EndWord], numbers: &[u32])
     requires led { AreLedTo arena.old ends.now }

@@ -9,7 +9,7 @@ use in_arena::{Arena, CellNo, EndWord};
 use in_net::{AgentNo, in_order};
 use in_symbols::{SymbolNo, Symbols};
 
-/// An agent with its symbol.
+/// An agent of the net with its symbol.
 #[inline(always)]
 fn agent(arena: &Arena, cell: CellNo) -> (AgentNo, SymbolNo)
     requires { IsLive (state_at arena.now cell.0) }

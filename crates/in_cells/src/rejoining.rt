@@ -13,7 +13,7 @@ use crate::pairing::add_pair;
 use in_arena::{Arena, EndWord};
 use in_symbols::Symbols;
 
-/// Joins the last two free ends of a net, which has `own` more: their partners lead to each other from now on, and the two are gone. If both
+/// Joins the last two free ends of a net, which has `own` more: their partners then lead to each other, and the two are gone. If both
 /// partners are principal ports, their agents are a new pair, which is added to `made`. A cycle of the two alone is dropped. It takes no memory.
 pub fn join_last(
     arena: &mut Arena,

@@ -5,7 +5,7 @@ ghost use Rattle.in_cells.specs.TakingOut.{AreClassed, AreRetired};
 use in_arena::{Arena, CellNo};
 use in_base::use_promise;
 
-/// The cells of these agents, which are live, of the classes for their places and each named once, are free from then on. It takes no memory.
+/// Frees the cells of these agents, which are live, of the classes for their places and each named once. It takes no memory.
 pub fn retire_all(arena: &mut Arena, agents: &[CellNo])
     requires part { ArePart arena.old agents.now }
     requires classed { AreClassed arena.old agents.now }

@@ -26,7 +26,7 @@ fn take_cell(from: &Arena, cell: CellNo, to: &mut Arena) -> CellNo
     new
 }
 
-/// Takes a cell for each agent, and notes its number at that of the agent.
+/// Takes a cell for each agent, and writes the cell's number in `names` at the agent's number.
 pub fn take_cells(from: &Arena, agents: &[CellNo], to: &mut Arena, names: &mut [CellNo])
     requires part { ArePart from.now agents.now }
     requires all { HasAllCells to.old }

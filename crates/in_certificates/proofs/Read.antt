@@ -6,7 +6,7 @@ use Rattle.in_open_nets.specs.declared.derivations.Step.{Step}
 use Rattle.in_certificates.specs.declared.given.GivenStep.{GivenStep}
 use Rattle.in_certificates.specs.Given.{before, step_of, steps_of}
 
--- steps that were read, before the others, where these are there
+-- steps that were read, before the others, if these are there
 abbrev pub after : List Step → Option (List Step) → Option (List Step)
 after done None = None
 after done (Some rest) = Some (done ++ rest)

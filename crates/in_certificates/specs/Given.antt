@@ -1,14 +1,14 @@
--- Which steps numbers are. That steps come so is this project's own choice.
+-- The steps that numbers encode. This form of steps is this project's own choice.
 use Rattle.std.specs.Prelude.{ℕ, ◌+◌, ◌==◌, nat_le, if◌then◌else◌, List, [], ◌∷◌, length, slice_range, Option, Some, None, option_map}
 use Rattle.in_open_nets.specs.declared.derivations.Step.{Step}
 use Rattle.in_open_nets.specs.declared.derivations.Step.TheVariants.{Empty, Link, Given, Graft, Cut, Mix}
 use Rattle.in_certificates.specs.declared.given.GivenStep.{GivenStep}
 
--- so many numbers of a list from one on, where it has them
+-- `count` numbers of a list from number `from` on, if it has them
 abbrev pub some_of : List ℕ → ℕ → ℕ → Option (List ℕ)
 some_of parts from count = if nat_le (from + count) (length parts) then Some (slice_range parts from (from + count)) else None
 
--- what given numbers make of a step that lists parts
+-- a reading of given numbers as a step, with a list of parts
 abbrev pub StepReading : Type 0
 StepReading = List ℕ → GivenStep → Option Step
 
@@ -27,12 +27,12 @@ step_of parts g =
     else (if g.kind == 5 then Some (Mix g.first g.second)
     else None)))))
 
--- a step before others, where all are there
+-- a step before others, if all are there
 abbrev pub before : Option Step → Option (List Step) → Option (List Step)
 before (Some s) (Some steps) = Some (s ∷ steps)
 before _ _ = None
 
--- one after another, where each is one
+-- the steps one after another, if each of them is one
 abbrev pub steps_of : List ℕ → List GivenStep → Option (List Step)
 steps_of parts [] = Some []
 steps_of parts (g ∷ given) = before (step_of parts g) (steps_of parts given)

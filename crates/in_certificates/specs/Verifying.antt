@@ -26,7 +26,7 @@ abbrev pub AreStepsOf : Option OpenNet → Option (List Step) → Type 0
 AreStepsOf (Some shape) (Some steps) = IsDerivation shape steps
 AreStepsOf _ _ = ⊥
 
--- whether the numbers are steps that build the rule of that number, or the net, of the program that is accepted; or the text is refused so
+-- whether the numbers are steps that build the rule of that number, or the net, of the accepted program; or the text has this refusal
 abbrev pub Verifies : List ℕ → ℕ → List GivenStep → List ℕ → Result Bool Fault → Type 0
 Verifies text k given parts (Ok builds) = (p : Program) × IsAccepted text p × (IsTrue builds ↔ AreStepsOf (shape_of p (item_of p k)) (steps_of parts given))
 Verifies text k given parts (Err (Refused r)) = IsRefused text r

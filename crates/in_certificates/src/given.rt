@@ -6,7 +6,7 @@ use in_simple::Step;
 use sqlite_items::Items;
 use std::alloc::{AllocError, Global};
 
-/// A step of a derivation as numbers. The kind says what the others are:
+/// A step of a derivation as numbers. The kind gives the meaning of the others:
 ///
 /// - 0: the empty net;
 /// - 1: the wire `first` by itself;
@@ -15,7 +15,7 @@ use std::alloc::{AllocError, Global};
 /// - 4: the steps `second` and `third`, joined along the wire `first`;
 /// - 5: the steps `first` and `second`, side by side.
 ///
-/// Numbers that a kind doesn't name are left out of account. The kinds are in the order of the constructions as the export names them; the
+/// Numbers that a kind doesn't name are ignored. The kinds are in the order of the constructions as the export names them; the
 /// numbers are this project's own choice.
 #[repr(C)]
 #[derive(Clone, Copy, Debug, PartialEq, Eq)]
@@ -26,7 +26,7 @@ pub struct GivenStep {
     pub third: u32,
 }
 
-/// The numbers of a list from one on, as many as these; nothing where it has fewer.
+/// `count` numbers of a list from number `from` on; `None` if it has fewer.
 fn some_of(parts: &[u32], from: u32, count: u32) -> Option<&[u32]>
     ensures { option_copied result ≡ some_of parts.now from count }
 {
@@ -38,7 +38,7 @@ fn some_of(parts: &[u32], from: u32, count: u32) -> Option<&[u32]>
     }
 }
 
-/// The graft of an agent, where the list has as many numbers.
+/// The graft of an agent; `None` if the list has fewer numbers.
 fn graft(alloc: Global, given: GivenStep, parts: &[u32]) -> Result<Option<Step>, AllocError>
     ensures { IfOk result (λ found. found ≡ graft_of parts.now given) }
 {

@@ -55,13 +55,13 @@ fn builds_item(
     }
 }
 
-/// Whether these steps build the open net of a rule of a text's program, or of its net, where the text is accepted: each names earlier steps
-/// that fit it, each but the last is named once, each node is in one step, and the open ends of the last one lead to the free ends. `number`
-/// is the rule's, from 0 in the order of the text, or the number of rules for the net; no steps build what has another number. The nodes and
-/// wires are numbered as `in_export` writes them, and `parts` has the steps that agents are grafted to. The answer is that of
-/// `in_simple::verify`, wherever the steps are from.
+/// Whether these steps build the open net of a rule of a text's program, or of its net, if the text is accepted: each names earlier steps
+/// that fit it, each except the last is named once, each node is in one step, and the open ends of the last one lead to the free ends. `number`
+/// is the rule's, from 0 in the order of the text, or the number of rules for the net; for any other number the answer is no. The nodes and
+/// wires are numbered as `in_export` writes them, and `parts` has the steps to which agents are grafted. The answer is that of
+/// `in_simple::verify`, for steps from anywhere.
 ///
-/// Else the text is refused as `check` refuses it, or memory runs out.
+/// Otherwise the text is refused as `check` refuses it, or memory runs out.
 pub fn verify_given(
     alloc: Global,
     text: &[u8],

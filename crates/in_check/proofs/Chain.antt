@@ -22,7 +22,7 @@ then_rest P Q a (Ok b) p h = (a, p, h)
 then_rest P Q a (Err (Refused r)) p h = inr (a, p, h)
 then_rest P Q a (Err (Memory e)) p h = tt
 
--- what all passes say of an accepted program
+-- the results of all passes for an accepted program
 pub program_of : (text : List ℕ) (p : Program) → IsAccepted text p → IsProgramOf text p
 unfolding IsChecked
 program_of text p (s, parses, (t, tabulates, (rules, builds_rules, (n, builds, (u, fits, (numbers, covers, (cs, simple_rules, (c, simple_net, e)))))))) =
@@ -54,7 +54,7 @@ few_rules_of text p h = let a = program_of text p h in few_rules a.source p.tabl
 pub certified_each : (text : List ℕ) (p : Program) → IsAccepted text p → length p.rule_certificates ≡ length p.rules
 certified_each text p h = (program_of text p h).simple_rules.count
 
--- what isn't refused is there
+-- a result that isn't refused is there
 pub some_accepted : {A : Type 0} (P : Result A Fault → Type 0) (x : Result A Fault) → P x → result_err x ≡ None → (a : A) × P (Ok a)
 some_accepted P (Ok a) p e = (a, p)
 some_accepted P (Err f) p e = (let wrong : Some f ≡ None = e in cc)

@@ -1,4 +1,4 @@
--- What a text declares, and the passes over it: together they are all passes.
+-- The declared parts of a text, and the passes over them: together they are all passes.
 use Rattle.std.proofs.Common.{inl, inr, List, ℕ, Result, Ok, Err, sym, subst}
 use Rattle.in_syntax.specs.declared.faults.Fault.{Fault}
 use Rattle.in_syntax.specs.declared.faults.Fault.TheVariants.{Refused, Memory}
@@ -11,7 +11,7 @@ use Rattle.in_check.specs.Checking.{AreOfText, BuildsRules, ChecksNames, ChecksN
 use Rattle.in_check.specs.Programs.{Program}
 use Rattle.in_check.proofs.Chain.{chain_of, then_rest}
 
--- all that is declared is of one tree
+-- all declared parts are of one tree
 pub declared_of : (s : Source) (d : DeclaredText) → IsOfText s → DeclaresNames s (Ok d) → AreOfText d.symbols d.rules d.net
 declared_of s d tree (t, tabulates, (rules, builds_rules, (n, builds, e))) =
     subst (λ (z : DeclaredText). AreOfText z.symbols z.rules z.net) (sym e) (record {
@@ -22,7 +22,7 @@ declared_of s d tree (t, tabulates, (rules, builds_rules, (n, builds, e))) =
       builds = builds;
     })
 
--- a tree that declares, and the passes over that
+-- a tree that declares parts, and the passes over these
 pub names_checked : (s : Source) (d : DeclaredText) (x : Result Program Fault) → DeclaresNames s (Ok d) → ChecksTypes d.symbols d.rules d.net x → ChecksNames s x
 names_checked s d x (t, tabulates, (rules, builds_rules, (n, builds, e))) h =
     let typed : ChecksTypes t rules n x = subst (λ (z : DeclaredText). ChecksTypes z.symbols z.rules z.net x) e h in
@@ -30,7 +30,7 @@ names_checked s d x (t, tabulates, (rules, builds_rules, (n, builds, e))) h =
     (then_rest (BuildsRules s t) (ChecksNet s t) rules x builds_rules
     (then_rest (Builds s t) (ChecksTypes t rules) n x builds typed))
 
--- a tree that doesn't declare
+-- a tree that declares none
 pub names_refused : (s : Source) (e : Fault) → DeclaresNames s (Err e) → ChecksNames s (Err e)
 names_refused s (Refused r) (inl h) = inl h
 names_refused s (Refused r) (inr (t, tabulates, inl h)) = inr (t, tabulates, inl h)
@@ -38,7 +38,7 @@ names_refused s (Refused r) (inr (t, tabulates, inr (rules, builds_rules, inl h)
 names_refused s (Refused r) (inr (t, tabulates, inr (rules, builds_rules, inr (n, builds, wrong)))) = absurd wrong
 names_refused s (Memory e) h = tt
 
--- the same of a text
+-- .. and so for a text
 pub text_declared : (text : List ℕ) (d : DeclaredText) → DeclaresText text (Ok d) → AreOfText d.symbols d.rules d.net
 text_declared text d (s, parses, h) = declared_of s d (record { text = text; tree = parses }) h
 

@@ -25,7 +25,7 @@ use Rattle.in_check.specs.Checking.{BuildsRules, TypesRules, TypePasses}
 use Rattle.in_check.proofs.Certified.{same_rule}
 use Rattle.in_base.proofs.Each.{at_index, all_at}
 
--- of two numbers neither of which comes before the other, what holds where they are one
+-- two numbers neither of which comes before the other are one
 of_neither : {P : Type 0} (i j : ℕ) → (i ≡ j → P) → (i < j → ⊥) → (j < i → ⊥) → P
 of_neither i j same before after = elim (cases_order i j) [ inl e ↦ same e | inr z ↦ elim z [ inl lt ↦ absurd (before lt) | inr lt ↦ absurd (after lt) ] ]
 
@@ -93,7 +93,7 @@ one_certificate c d net e h k =
     ap (λ z. let x : Certificate = record { shape = z; derivation = c.derivation } in x) e
     ∙ ap (λ z. let x : Certificate = record { shape = d.shape; derivation = record { steps = z } } in x) steps
 
--- where at most one open net is meant, and it is one
+-- if at most one open net has the property, there is one result
 pub one_certified : (P : OpenNet → Type 0) (code : Code) → ((o : OpenNet) → P o → IsOpenNet o) → ((o u : OpenNet) → P o → P u → o ≡ u) → IsOne (CertifiesSome P code)
 one_certified P code net one (Ok c) (Ok d) h k = one_certificate c d (net d.shape k.0) (one c.shape d.shape h.0 k.0) h.1 k.1
 one_certified P code net one (Ok c) (Err (Refused r)) h k = not_refused k.0 code c r (net c.shape h.0) (one k.0 c.shape k.1 h.0) h.1 k.2

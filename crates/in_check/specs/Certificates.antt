@@ -1,4 +1,4 @@
--- Which rules and nets are semi-simple: their open nets with the steps that build them, or the first stuck sub-net. Lafont 1990 asks
+-- The semi-simple rules and nets: their open nets with the steps that build them, or the first stuck sub-net. Lafont 1990 asks
 -- for semi-simple right members and nets; the codes and the places are this project's own choice.
 use Rattle.std.specs.Prelude.{◌≡◌, ℕ, ◌<◌, List, length, slice_get, Some, None, Result, Ok, Err}
 use Rattle.in_syntax.specs.declared.faults.Code.{Code}
@@ -23,7 +23,7 @@ use Rattle.in_check.specs.declared.checked.Certificate.{Certificate}
 abbrev pub IsCertificate : Certificate → Type 0
 IsCertificate c = IsDerivation c.shape c.derivation.steps × AreTaken c.shape c.derivation.steps
 
--- there are no steps that build it, and so it is refused there with this code
+-- no steps build it, and so it is refused there with this code
 pub record IsRefusedAt (o : OpenNet) (code : Code) (r : Refusal) : Type 0 where
   pub underivable : IsDerivable o → ⊥
   pub at : IsStuckAt o r.place
@@ -37,17 +37,17 @@ Certifies o code (Err (Memory e)) = Unit {0}
 
 -- ---- a rule, and the net
 
--- an open net of which this holds is built by the steps; or one is refused
+-- an open net with this property is built by the steps, or one is refused
 abbrev pub CertifiesSome : (OpenNet → Type 0) → Code → Result Certificate Fault → Type 0
 CertifiesSome P code (Ok c) = P c.shape × IsCertificate c
 CertifiesSome P code (Err (Refused r)) = (o : OpenNet) × P o × IsRefusedAt o code r
 CertifiesSome P code (Err (Memory e)) = Unit {0}
 
--- the rule's open net
+-- the result for the rule's open net
 abbrev pub CertifiesRule : Tables → RuleParts → Result Certificate Fault → Type 0
 CertifiesRule t p = CertifiesSome (OpensRule t p) E12
 
--- the net's
+-- the result for the net's open net
 abbrev pub CertifiesNet : Tables → Parts → Result Certificate Fault → Type 0
 CertifiesNet t n = CertifiesSome (Opens t n) E13
 
@@ -58,7 +58,7 @@ pub record AreCertified (t : Tables) (rules : List RuleParts) (certificates : Li
   pub count : length certificates ≡ length rules
   pub each : (i : ℕ) (p : RuleParts) (c : Certificate) → slice_get rules i ≡ Some p → slice_get certificates i ≡ Some c → CertifiesRule t p (Ok c)
 
--- a rule is refused, and none before it
+-- a rule is refused, and no rule before it is
 pub record IsRuleStuck (t : Tables) (rules : List RuleParts) (r : Refusal) : Type 0 where
   pub number : ℕ
   pub rule : RuleParts

@@ -27,7 +27,7 @@ pub record AreRulesOf (s : Source) (t : Tables) (rules : List RuleParts) : Type 
   pub count : length rules ≡ length s.rules
   pub each : (i : ℕ) (p : RuleParts) → slice_get rules i ≡ Some p → BuildsRule s t i (Ok p)
 
--- a rule is refused, and none before it
+-- a rule is refused, and no rule before it is
 pub record IsRuleRefused (s : Source) (t : Tables) (r : Refusal) : Type 0 where
   pub number : ℕ
   pub stands : BuildsRule s t number (Err (Refused r))
@@ -38,7 +38,7 @@ BuildsRules s t (Ok rules) = AreRulesOf s t rules
 BuildsRules s t (Err (Refused r)) = IsRuleRefused s t r
 BuildsRules s t (Err (Memory e)) = Unit {0}
 
--- the types of a rule are refused, and of none before it
+-- the types of a rule are refused, and those of no rule before it are
 pub record IsRuleUntyped (t : Tables) (rules : List RuleParts) (r : Refusal) : Type 0 where
   pub number : ℕ
   pub rule : RuleParts
@@ -55,13 +55,13 @@ abbrev pub TypesAll : Tables → List RuleParts → Parts → Result (Unit {0}) 
 TypesAll t rules n (Ok u) = TypesRules t rules (Ok tt) × Types t n (Ok tt)
 TypesAll t rules n (Err r) = TypesRules t rules (Err r) ⊎ (TypesRules t rules (Ok tt) × Types t n (Err r))
 
--- the same as the result of a pass, which takes no memory
+-- .. as the result of a pass, which takes no memory
 abbrev pub TypePasses : Tables → List RuleParts → Parts → Result (Unit {0}) Fault → Type 0
 TypePasses t rules n (Ok u) = TypesAll t rules n (Ok u)
 TypePasses t rules n (Err (Refused r)) = TypesAll t rules n (Err r)
 TypePasses t rules n (Err (Memory e)) = ⊥
 
--- ---- pass by pass: each has a result, and, if it is Ok, the others have
+-- ---- pass by pass: each has a result, and, if that is Ok, so do the later ones
 
 module _ (t : Tables) (rules : List RuleParts) (n : Parts) where
   -- the results of the passes are kept
@@ -103,7 +103,7 @@ ChecksNames s = Then (Tabulates s) (ChecksRules s)
 unfoldable pub IsChecked : List ℕ → Result Program Fault → Type 0
 IsChecked text = Then (Parses text) ChecksNames
 
--- ---- what a text declares, before the passes over it
+-- ---- the parts that a text declares, before the passes over them
 
 abbrev pub KeepsDeclared : Tables → List RuleParts → Parts → Result DeclaredText Fault → Type 0
 KeepsDeclared t rules n (Ok d) = d ≡ record { symbols = t; rules = rules; net = n }
@@ -128,11 +128,11 @@ DeclaresText text = Then (Parses text) DeclaresNames
 abbrev pub IsAccepted : List ℕ → Program → Type 0
 IsAccepted text p = IsChecked text (Ok p)
 
--- the first pass that refuses a text refuses it so
+-- the first pass that refuses the text gives this refusal
 abbrev pub IsRefused : List ℕ → Refusal → Type 0
 IsRefused text r = IsChecked text (Err (Refused r))
 
--- ---- what the passes say of an accepted program, each in a field
+-- ---- the results of the passes for an accepted program, each in a field
 
 -- the text has a tree, the tree tables, rules and a net, each wire fits, each pair has its rule, and each rule and the net are built by
 -- their steps

@@ -5,7 +5,7 @@ use Rattle.in_cover.specs.Laws.{AreOneTable}
 use Rattle.in_check.specs.Checking.{IsChecked}
 use Rattle.in_check.specs.Programs.{Program}
 
--- two programs of one text: all that an accessor reads is equal
+-- two programs of one text: their values for each accessor are equal
 pub record AreOneProgram (p q : Program) : Type 0 where
   pub tables : p.tables ≡ q.tables
   pub rules : p.rules ≡ q.rules

@@ -1,4 +1,4 @@
--- The text of a net, as a list of agents' names, variables and bytes: what printing it writes. Each agent's term names its symbol and has the
+-- The text of a net, as a list of agents' names, variables and bytes, as printing writes it. Each agent's term names its symbol and has the
 -- terms at its auxiliary places; a wire without principal ports is a variable. This project's own choice, after the notation of Lafont 1990.
 use Rattle.std.specs.Prelude.{◌≡◌, ◌↔◌, ◌⊎◌, ◌≢◌, ◌||◌, ◌&&◌, ℕ, zero, suc, Bool, false, cond, List, [], ◌∷◌, ◌++◌, length, Option, Some, None, IsSome, decimal, nat_eq}
 use Rattle.std.specs.List.{AllByRecursion}
@@ -6,12 +6,12 @@ use Rattle.in_net.specs.Nets.{Point, Port, Free, Signature, Net}
 use Rattle.in_interaction.specs.Pieces.{AreDifferent}
 use Rattle.in_base.specs.Lists.{IsAmong}
 
--- the symbols' names and the free ends'
+-- the names of the symbols and of the free ends
 pub record Words : Type 0 where
   pub symbol : ℕ → List ℕ
   pub free : ℕ → List ℕ
 
--- a part of a text: bytes, the name of an agent's symbol, or the variable of a wire, at one of its points, with the other one
+-- a part of a text: bytes, the name of an agent's symbol, or the variable of a wire, by one of its points and the other one
 pub data TextPart (A : Type 0) : Type 0 where
   Bytes : List ℕ → TextPart A
   Head : A → TextPart A
@@ -23,7 +23,7 @@ listed term y i zero = []
 listed term y i (suc zero) = term (Port y i)
 listed term y i (suc (suc k)) = term (Port y i) ++ (Bytes (44 ∷ 32 ∷ []) ∷ listed term y (suc i) (suc k))
 
--- .. in brackets, where there are any
+-- .. in brackets, if there are any
 abbrev pub bracketed : {A : Type 0} → ℕ → List (TextPart A) → List (TextPart A)
 bracketed zero ps = []
 bracketed (suc k) ps = Bytes (40 ∷ []) ∷ (ps ++ (Bytes (41 ∷ []) ∷ []))
@@ -58,7 +58,7 @@ abbrev pub pair_lines : {A : Type 0} → Signature → Net A → ℕ → List (A
 pair_lines sig n d [] = []
 pair_lines sig n d (q ∷ qs) = agent_term sig n (term sig n d) q.0 ++ (Bytes (32 ∷ 126 ∷ 32 ∷ []) ∷ (agent_term sig n (term sig n d) q.1 ++ (Bytes (10 ∷ []) ∷ pair_lines sig n d qs)))
 
--- the whole text, in pieces
+-- the whole text, in parts
 abbrev pub text_parts : {A : Type 0} → Signature → Words → Net A → ℕ → List (A × A) → List (TextPart A)
 text_parts sig words n d queue = free_lines sig words n d 0 (length n.free) ++ pair_lines sig n d queue
 
@@ -69,7 +69,7 @@ same_point same (Port x i) (Free k) = false
 same_point same (Free k) (Port x i) = false
 same_point same (Free j) (Free k) = nat_eq j k
 
--- the number of the wire of these two points among those that were met, the last one first, each by the point at which it was met
+-- the number of the wire of these two points among those met before, the last one first, each by the point at which it was met
 abbrev pub number_of : {A : Type 0} → (A → A → Bool) → List (Point A) → Point A → Point A → Option ℕ
 number_of same [] p q = None
 number_of same (u ∷ us) p q = cond (same_point same u p || same_point same u q) (Some (suc (length us))) (number_of same us p q)
@@ -81,7 +81,7 @@ symbol_name words (Some s) = words.symbol s
 abbrev pub variable_name : ℕ → List ℕ
 variable_name k = 118 ∷ decimal k
 
--- the numbers of the variables in these pieces, where these wires were met before
+-- the numbers of the variables in these parts, after these wires were met
 abbrev pub numbers : {A : Type 0} → (A → A → Bool) → List (Point A) → List (TextPart A) → List ℕ
 numbers same met [] = []
 numbers same met (Bytes bs ∷ ps) = numbers same met ps
@@ -91,7 +91,7 @@ numbers same met (Variable p q ∷ ps) = elim (number_of same met p q) [
   | Some k ↦ k ∷ numbers same met ps
 ]
 
--- the bytes of pieces, the variables under these numbers in turn
+-- the bytes of parts, whose variables have these numbers in turn
 abbrev pub bytes_of : {A : Type 0} → Words → Net A → List ℕ → List (TextPart A) → List ℕ
 bytes_of words n ks [] = []
 bytes_of words n ks (Bytes bs ∷ ps) = bs ++ bytes_of words n ks ps
@@ -108,7 +108,7 @@ pub record AreAgents {A : Type 0} (n : Net A) (xs : List A) : Type 0 where
   pub all : (x : A) → IsSome (n.symbol x) ↔ IsAmong x xs
   pub once : AreDifferent xs
 
--- it occurs exactly a given number of times in the list
+-- the element is exactly a given number of times in the list
 abbrev pub StandsTimes : {X : Type 0} → ℕ → X → List X → Type 0
 StandsTimes zero x [] = Unit {0}
 StandsTimes (suc n) x [] = ⊥
@@ -132,13 +132,13 @@ IsAuxiliary (Port y zero) = ⊥
 IsAuxiliary (Port y (suc i)) = Unit {0}
 IsAuxiliary (Free k) = Unit {0}
 
--- a name is of an agent of the net, a variable of a wire without principal ports
+-- a name is that of an agent of the net, and a variable that of a wire without principal ports
 abbrev pub IsOfNet : {A : Type 0} → Net A → TextPart A → Type 0
 IsOfNet n (Bytes bs) = Unit {0}
 IsOfNet n (Head y) = IsSome (n.symbol y)
 IsOfNet n (Variable u v) = (n.partner u ≡ Some v) × IsAuxiliary u × IsAuxiliary v
 
--- the variables of these pieces, each with its number and its point
+-- the variables of these parts, each with its number and its point
 abbrev pub numbered : {A : Type 0} → List ℕ → List (TextPart A) → List (ℕ × Point A)
 numbered ks [] = []
 numbered ks (Bytes bs ∷ ps) = numbered ks ps

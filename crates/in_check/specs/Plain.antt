@@ -1,4 +1,4 @@
--- The state of a run: what the slow reducer over plain nets keeps of its program, its net and its count, and what one step does. That its
+-- The state of a run: the slow reducer's program, net and count, and the result of one step. That its
 -- agents are numbers, and which numbers new agents get, is this project's own choice; the interaction is that of Lafont 1990.
 use Rattle.std.specs.Prelude.{◌≡◌, ◌≤◌, count_by, is_some, ◌++◌, ℕ, zero, suc, true, List, map, slice_get, Some}
 use Rattle.in_symbols.specs.declared.symbols.SymbolNo.{SymbolNo}
@@ -57,7 +57,7 @@ pub record StepsTo (p : PlainParts) (a b : AgentNo) (q : PlainParts) : Type 0 wh
   pub acts : Interacts p.net rule a b q.net
   pub program : q.program ≡ p.program
 
--- .. the new agents under these names, which may be any that are new
+-- .. with any new names for the new agents
 pub record StepsAs (p : PlainParts) (a b : AgentNo) (name : ℕ → ℕ) (q : PlainParts) : Type 0 where
   pub number : ℕ
   pub rule : RuleParts
@@ -71,7 +71,7 @@ pub record StepsAs (p : PlainParts) (a b : AgentNo) (name : ℕ → ℕ) (q : Pl
 abbrev pub PlainStarts : Type 0
 PlainStarts = (p : Program) → IsOver p.tables p.net → IsPlain (record { program = p; net = p.net }) × IsReachedBy (record { program = p; net = p.net }) zero
 
--- a step leads from a net that is reached to one, which is reached by one interaction more
+-- a step leads from a net that is reached to a net that is reached by one interaction more
 abbrev pub PlainSteps : Type 0
 PlainSteps = (p q : PlainParts) (a b : AgentNo) → IsPlain p → IsPairAt p a b → StepsTo p a b q → IsPlain q × ((k : ℕ) → IsReachedBy p k → IsReachedBy q (suc k))
 
@@ -79,21 +79,21 @@ PlainSteps = (p q : PlainParts) (a b : AgentNo) → IsPlain p → IsPairAt p a b
 abbrev pub PlainStepsUnderNames : Type 0
 PlainStepsUnderNames = (p q : PlainParts) (a b : AgentNo) (name : ℕ → ℕ) → IsPlain p → IsPairAt p a b → StepsAs p a b name q → IsPlain q × ((k : ℕ) → IsReachedBy p k → IsReachedBy q (suc k))
 
--- .. and of an accepted program a step leads to one net: its net with its numbers, its wires in their order, and its free ends
+-- .. and in an accepted program a step leads to one net: its net with its numbers, its wires in their order, and its free ends
 abbrev pub PlainStepsAreOne : Type 0
 PlainStepsAreOne = (text : List ℕ) (p q r : PlainParts) (a b : AgentNo) → IsAccepted text p.program → IsPlain p → IsPairAt p a b → count_by is_some p.net.cells ≤ most_agents →
     IsWhole q.net → IsWhole r.net → StepsTo p a b q → StepsTo p a b r → q ≡ r
 
--- an active pair matches, and each rule that is for its symbols, in whichever order, is for them in this one
+-- the symbols of an active pair match, and each rule for them, in either order, has them in this order
 abbrev pub HasItsRules : (p : PlainParts) (a b : AgentNo) → IsPairAt p a b → Type 0
 HasItsRules p a b at =
     IsPair p.program.tables at.first.0 at.second.0 × ((i : ℕ) (r : RuleParts) → slice_get p.program.rules i ≡ Some r → IsRuleOfSymbols r at.first.0 at.second.0 → IsRuleAt p a b i r)
 
--- each active pair of an accepted program is so
+-- .. and so for each active pair of an accepted program
 abbrev pub PairsHaveTheirRule : Type 0
 PairsHaveTheirRule = (text : List ℕ) (p : PlainParts) (a b : AgentNo) → IsAccepted text p.program → IsPlain p → (at : IsPairAt p a b) →
     HasItsRules p a b at
 
--- .. and what is reached is as promised
+-- .. and each net that is reached is as promised
 abbrev pub PlainAsPromised : Type 0
 PlainAsPromised = (text : List ℕ) (p : PlainParts) → IsAccepted text p.program → IsPlain p → IsAsPromised (system_of p.program) (net_of p.net)

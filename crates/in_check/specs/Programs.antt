@@ -19,7 +19,7 @@ pub record Program : Type 0 where
   pub rule_certificates : List Certificate
   pub net_certificate : Certificate
 
--- a rule's number is one of the rules
+-- the item is the net, or a rule of the program
 abbrev pub IsItemOf : Program → Item → Type 0
 IsItemOf p (RuleItem k) = k.0 < length p.rules
 IsItemOf p NetItem = Unit {0}
@@ -28,6 +28,6 @@ abbrev pub certificate_of : Program → Item → Option Certificate
 certificate_of p (RuleItem k) = slice_get p.rule_certificates k.0
 certificate_of p NetItem = Some p.net_certificate
 
--- how many types and symbols the tables have, how many rules there are, and how many agents the net has
+-- the numbers of types and symbols of the tables, of rules, and of agents of the net
 abbrev pub counts_of : Program → ProgramCounts
 counts_of p = record { types = length p.tables.types; symbols = length p.tables.names; rules = length p.rules; agents = count_by is_some p.net.cells }

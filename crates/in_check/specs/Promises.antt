@@ -1,5 +1,5 @@
--- The promises on every net that an accepted program reaches. Lafont 1990: reduction preserves types, each active pair has its rule, and a
--- net that comes from a semi-simple one has no vicious circle. The sentences on paths, on what is ahead of an agent and on the text are
+-- The promises for every net that an accepted program reaches. Lafont 1990: reduction preserves types, each active pair has its rule, and a
+-- net that comes from a semi-simple one has no vicious circle. The sentences on closed paths, on leading on from an agent and on the text are
 -- this project's own.
 use Rattle.std.specs.Prelude.{◌≡◌, ◌⊎◌, ◌↔◌, ℕ, suc, nat_eq, List, [], length, map, Some, IsSome}
 use Rattle.std.specs.List.{AllByRecursion}
@@ -39,8 +39,8 @@ EndsEachInteraction p n = (x : Redex ℕ ℕ) → IsPairWithRule p n x → (Clos
 abbrev pub LeadsOn : Net ℕ → Type 0
 LeadsOn n = (x : ℕ) → IsSome (n.symbol x) → MeetsPair n x ⊎ ((k : ℕ) × WaitsAt n k x)
 
--- these parts of a text hold each agent once, each wire without principal ports at each of its two points once, and nothing else of the
--- kind. Each variable's number is written twice, at one wire
+-- these parts of a text hold each agent once, each wire without principal ports once at each of its two points, and nothing else of
+-- these kinds. Each variable's number is written twice, at one wire
 pub record HoldsAll (n : Net ℕ) (parts : List (TextPart ℕ)) : Type 0 where
   pub agents : (x : ℕ) → IsSome (n.symbol x) → StandsTimes 1 (Head x) parts
   pub variables : (u v : Point ℕ) → n.partner u ≡ Some v → IsAuxiliary u → IsAuxiliary v → StandsTimes 1 (Variable u v) parts
@@ -48,14 +48,14 @@ pub record HoldsAll (n : Net ℕ) (parts : List (TextPart ℕ)) : Type 0 where
   pub twice : (k : ℕ) → IsAmong k (numbers nat_eq [] parts) → StandsTimes 2 k (numbers nat_eq [] parts)
   pub one_wire : (k : ℕ) (u v : Point ℕ) → IsAmong (k, u) (numbered (numbers nat_eq [] parts) parts) → IsAmong (k, v) (numbered (numbers nat_eq [] parts) parts) → (u ≡ v) ⊎ (n.partner u ≡ Some v)
 
--- its agents and its active pairs can be listed, each once; and its text holds all, whatever the names are, and in whatever order its
--- active pairs are queued
+-- its agents and its active pairs can be listed, each once; and its text holds all, for any names and any order of the queue of its
+-- active pairs
 pub record IsWrittenWhole (p : System) (n : Net ℕ) : Type 0 where
   pub agents : (xs : List ℕ) × AreAgents n xs
   pub queue : (queue : List (ℕ × ℕ)) × IsQueue n queue
   pub holds : (words : Words) (xs : List ℕ) (queue : List (ℕ × ℕ)) → AreAgents n xs → IsQueue n queue → HoldsAll n (text_parts p.symbols words n (length xs) queue)
 
--- ---- all of them
+-- ---- all promises
 
 pub record IsAsPromised (p : System) (n : Net ℕ) : Type 0 where
   pub typed : IsTypedThroughout p n
@@ -65,14 +65,14 @@ pub record IsAsPromised (p : System) (n : Net ℕ) : Type 0 where
   pub leads_on : LeadsOn n
   pub written_whole : IsWrittenWhole p n
 
--- of every net that the program reaches, by interactions in any order and under any names. (A proof that only has a program need not look
--- inside.)
+-- each net that the program reaches, by interactions in any order and under any names, is as promised. (A proof that only has a program need not
+-- look inside.)
 unfoldable pub ReachesAsPromised : System → Type 0
 ReachesAsPromised p = (k : ℕ) (n : Net ℕ) → Reached p k n → IsAsPromised p n
 
 -- ---- laws
 
--- a sound system reaches such nets alone, and the program of an accepted text is one
+-- a sound system reaches only nets that are as promised, and the program of an accepted text is a sound system
 abbrev pub SoundReachesAsPromised : Type 0
 SoundReachesAsPromised = (p : System) → IsSoundSystem p → ReachesAsPromised p
 
@@ -83,7 +83,7 @@ AcceptedIsSound = (text : List ℕ) (p : Program) → IsAccepted text p → IsSo
 abbrev pub StepsReach : Type 0
 StepsReach = (p : System) (k : ℕ) (n : Net ℕ) (x : Redex ℕ ℕ) (name : ℕ → ℕ) (after : Net ℕ) → Reached p k n → IsInteraction p n x name after → Reached p (suc k) after
 
--- under other names a net is reached by as many interactions, has as many agents, has ended where it has, and is written alike
+-- under other names a net is reached by as many interactions, has as many agents, has ended if it has, and is written alike
 pub record IsUnchanged (p : System) (k : ℕ) (f : ℕ → ℕ) (n m : Net ℕ) : Type 0 where
   pub reached : Reached p k m
   pub agents : (xs ys : List ℕ) → AreAgents n xs → AreAgents m ys → length xs ≡ length ys
@@ -93,7 +93,7 @@ pub record IsUnchanged (p : System) (k : ℕ) (f : ℕ → ℕ) (n m : Net ℕ) 
 abbrev pub RenamingChangesNothing : Type 0
 RenamingChangesNothing = (p : System) (k : ℕ) (n : Net ℕ) (f : ℕ → ℕ) (m : Net ℕ) → IsSoundSystem p → Reached p k n → IsRenamed f n m → IsUnchanged p k f n m
 
--- an interaction of a net under other names leads to the net after it, under other names, whatever the new agents are named
+-- an interaction of a net under other names leads to the net after it, under other names, for any names of the new agents
 abbrev pub RenamedStepsAreRenamed : Type 0
 RenamedStepsAreRenamed = (sig : Signature) (n m after end : Net ℕ) (f name other_name : ℕ → ℕ) (x : Redex ℕ ℕ) → IsNet sig n → IsNet sig x.member → IsRedex sig n x →
     IsRenamed f n m → IsStep sig n x name after → IsStep sig m (moved f x) other_name end → (g : ℕ → ℕ) × IsRenamed g after end

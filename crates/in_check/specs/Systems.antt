@@ -1,4 +1,4 @@
--- A program over any names of agents, and when it is sound. Lafont 1990: for two opposite symbols of one type there is one rule, whose
+-- A program over any names of agents, and its soundness. Lafont 1990: for two opposite symbols of one type there is one rule, whose
 -- right member has the auxiliary ports of both as its free ends, each of that port's type. That there is no crossing circle, in the
 -- initial net and in each right member with its class nodes, is this project's own condition, which his semi-simple nets meet.
 use Rattle.std.specs.Prelude.{◌≡◌, ◌<◌, ◌+◌, ℕ, true, false, List, length, map, slice_get, Some}
@@ -17,14 +17,14 @@ pub record SystemRule : Type 0 where
   pub second : ℕ
   pub member : Net ℕ
 
--- how many symbols there are, their places, the rules in order, and the initial net
+-- the number of symbols, their places, the rules in order, and the initial net
 pub record System : Type 0 where
   pub count : ℕ
   pub symbols : Signature
   pub rules : List SystemRule
   pub start : Net ℕ
 
--- ---- the system that a program is: the first head of a rule is the constructor's
+-- ---- the system of a program: the first head of a rule is the constructor's
 
 abbrev pub rule_in : RuleParts → SystemRule
 rule_in r = record { first = r.heads.0.0; second = r.heads.1.0; member = net_of r.member }
@@ -42,7 +42,7 @@ IsMatching sig c d = ((sig.type_of c 0).output ≡ true) × ((sig.type_of d 0).o
 abbrev pub IsNumberOfRule : System → ℕ → ℕ → ℕ → Type 0
 IsNumberOfRule p c d i = (r : SystemRule) × (slice_get p.rules i ≡ Some r) × (r.first ≡ c) × (r.second ≡ d)
 
--- exactly one rule is, and none is for the two in the other order
+-- exactly one rule is for the two symbols in this order, and none is for them in the other order
 abbrev pub HasOneRule : System → ℕ → ℕ → Type 0
 HasOneRule p c d = (i : ℕ) × (IsNumberOfRule p c d i) × ((j : ℕ) → IsNumberOfRule p c d j → j ≡ i) × ((j : ℕ) → IsNumberOfRule p d c j → ⊥)
 
@@ -58,11 +58,11 @@ pub record IsSound {A : Type 0} (p : System) (n : Net A) : Type 0 where
   pub typed : IsTypedNet p.symbols n
   pub no_circle : CrossingCircle (graph_of p.symbols n) → ⊥
 
--- the rule and some pair, which says as much of it as any pair
+-- the rule at a pair with the names 0 and 1, as good as any pair
 abbrev pub alone : SystemRule → Redex ℕ ℕ
 alone r = record { one = 0; two = 1; first = r.first; second = r.second; member = r.member }
 
--- for two matching symbols. Its free ends are their auxiliary places, declared with these places' types; it is typed, and with its
+-- the rule is for two matching symbols. Its free ends are their auxiliary places, declared with these places' types; it is typed, and with its
 -- class nodes it has no crossing circle
 pub record IsSoundRule (p : System) (r : SystemRule) : Type 0 where
   pub matching : IsMatching p.symbols r.first r.second
@@ -73,7 +73,7 @@ pub record IsSoundRule (p : System) (r : SystemRule) : Type 0 where
   pub typed : IsTypedNet p.symbols r.member
   pub no_circle : CrossingCircle (open_member p.symbols (alone r)) → ⊥
 
--- principal ports are classes by themselves, the initial net is sound, each rule is, and each matching pair of symbols has exactly one
+-- principal ports are classes by themselves, the initial net and each rule are sound, and each matching pair of symbols has exactly one rule
 pub record IsSoundSystem (p : System) : Type 0 where
   pub classes : AreClasses p.symbols
   pub start : IsSound p p.start

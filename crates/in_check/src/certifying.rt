@@ -53,7 +53,7 @@ fn certify(
     }
 }
 
-/// A rule's open net with the steps that build it; or its refusal.
+/// A rule's open net with the steps that build it, or the rule's refusal.
 fn certify_rule(
     alloc: Global,
     symbols: &Symbols,
@@ -89,7 +89,7 @@ pub(crate) fn certify_rules(
     Ok(certificates)
 }
 
-/// The net's open net with the steps that build it; or its refusal.
+/// The net's open net with the steps that build it, or the net's refusal.
 pub(crate) fn certify_net(
     alloc: Global,
     symbols: &Symbols,

@@ -11,7 +11,7 @@ use in_symbols::{SymbolNo, Symbols};
 use sqlite_items::Items;
 use std::marker::Model;
 
-/// How much an accepted program has: types, symbols, rules, and agents of its initial net.
+/// The size of an accepted program: its numbers of types, symbols, rules, and agents of its initial net.
 #[derive(Clone, Copy, Debug, PartialEq, Eq)]
 pub struct ProgramCounts {
     pub types: u32,
@@ -99,7 +99,7 @@ impl Checked {
         &self.passed.symbols
     }
 
-    /// How many rules there are.
+    /// The number of the program's rules.
     pub fn rules(&self) -> u32
         ensures { result ≡ length self.now.rules }
     {
@@ -114,7 +114,7 @@ impl Checked {
         &self.passed.rules.as_slice()[number.0 as usize]
     }
 
-    /// The number of the one rule of two symbols, whichever is named first. The two have to match: one of them is a constructor,
+    /// The number of the one rule of two symbols, in either order. The two have to match: one of them is a constructor,
     /// the other a destructor, of one type.
     pub fn rule_of(&self, one: SymbolNo, other: SymbolNo) -> RuleNo
         requires { IsPair self.now.tables one.0 other.0 }
@@ -164,7 +164,7 @@ impl Checked {
         &self.certified(item).derivation
     }
 
-    /// How much the program has.
+    /// The size of the program.
     pub fn counts(&self) -> ProgramCounts
         ensures { result ≡ counts_of self.now }
     {

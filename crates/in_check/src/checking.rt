@@ -11,8 +11,9 @@
 //! | `check_rule_steps` | `open_rule` and `derive` of each rule | the tables, the rules | the steps of each rule, `Certificate` | E12 |
 //! | `check_net_steps` | `open_net` and `derive` | the tables, the net | the steps of the net, and with all that was given `Passed` | E13 |
 //!
-//! A pass makes its call and then the next pass, to which it hands all that was given so far; `declare_net` is the last that needs the tree.
-//! Where a pass refuses, it drops what it was given by itself: the prover goes through a function way by way, and few ways then lead out. Each call but those on types may also end because memory ran out.
+//! A pass makes its call and then the next pass, with all results so far; `declare_net` is the last that needs the tree.
+//! A pass that refuses drops its own parameters: the prover goes through a function way by way, and few ways then lead out. Each call
+//! except those on types may also end because memory ran out.
 ghost use Rattle.std.specs.Prelude.{◌≡◌, Err, IfOk, IsTrue, MatchOption, Ok, OnErr};
 ghost use Rattle.std.specs.List.{AllByRecursion};
 ghost use Rattle.in_syntax.specs.Order.{IsWrittenInOrder};
@@ -63,7 +64,7 @@ fn build_rules(alloc: Global, source: &Source, symbols: &Symbols) -> Result<Item
     Ok(rules)
 }
 
-/// Whether the types of each rule fit; refused for the first rule whose types don't.
+/// Whether the types of each rule fit; refused for the first rule whose types don't fit.
 fn type_rules(symbols: &Symbols, rules: &[Rule]) -> Result<(), Refusal>
     requires { AllByRecursion (IsRuleOver symbols.now) rules.now }
     ensures { TypesRules symbols.now rules.now result }
@@ -98,7 +99,7 @@ fn type_pass(symbols: &Symbols, rules: &[Rule], net: &Net) -> Result<(), Fault>
     }
 }
 
-/// Derives the net, and puts the results of all passes together.
+/// Derives the net, and joins the results of all passes.
 fn check_net_steps(
     alloc: Global,
     declared: DeclaredText,
@@ -132,7 +133,7 @@ fn check_net_steps(
     }
 }
 
-/// The steps of the rules.
+/// Derives the steps of the rules.
 fn rule_steps(
     alloc: Global,
     declared: &DeclaredText,
@@ -149,7 +150,7 @@ fn rule_steps(
     )
 }
 
-/// The steps of the rules, and then those of the net.
+/// Derives the steps of the rules, and then those of the net.
 fn check_rule_steps(
     alloc: Global,
     declared: DeclaredText,
@@ -168,7 +169,7 @@ fn check_rule_steps(
     }
 }
 
-/// One rule for each pair, and then the steps.
+/// Finds the one rule for each pair, and then the steps.
 fn check_pairs(
     alloc: Global,
     declared: DeclaredText,
@@ -187,7 +188,7 @@ fn check_pairs(
     }
 }
 
-/// The ends of the wire that a fault is about, where it is one of types.
+/// The ends of the wire of a fault, if the fault is one of types.
 fn misfit_of(declared: &DeclaredText, fault: &Fault) -> Option<Evidence> {
     match fault {
         Fault::Refused(
@@ -205,7 +206,7 @@ fn misfit_of(declared: &DeclaredText, fault: &Fault) -> Option<Evidence> {
     }
 }
 
-/// The types, and then one rule for each pair and the steps.
+/// Checks the types, and then one rule for each pair and the steps.
 fn check_types(
     alloc: Global,
     declared: DeclaredText,
@@ -225,7 +226,7 @@ fn check_types(
     }
 }
 
-/// The net, and with it all that is declared.
+/// Builds the net, and returns all declared parts.
 fn declare_net(
     alloc: Global,
     source: &Source,
@@ -250,7 +251,7 @@ fn declare_net(
     }
 }
 
-/// The rules, and then the net.
+/// Builds the rules, and then the net.
 fn declare_rules(alloc: Global, source: &Source, symbols: Symbols) -> Result<DeclaredText, Fault>
     requires tree { IsOfText source.now }
     requires tables { Tabulates source.now (Ok symbols) }
@@ -265,7 +266,7 @@ fn declare_rules(alloc: Global, source: &Source, symbols: Symbols) -> Result<Dec
     }
 }
 
-/// The names, and then the rules and the net.
+/// Builds the tables of names, and then the rules and the net.
 fn declare(alloc: Global, source: &Source) -> Result<DeclaredText, Fault>
     requires { IsOfText source.now }
     ensures { DeclaresNames source.now result }
@@ -276,7 +277,7 @@ fn declare(alloc: Global, source: &Source) -> Result<DeclaredText, Fault>
     }
 }
 
-/// The tree, and then all that it declares, which outlasts it: later passes take their memory when the tree's is given back.
+/// Builds the tree, and then all parts that it declares, which outlast it: later passes take their memory when the tree's is given back.
 fn declare_text(alloc: Global, text: &[u8]) -> Result<DeclaredText, Fault>
     ensures { DeclaresText text.now result }
 {
@@ -286,7 +287,7 @@ fn declare_text(alloc: Global, text: &[u8]) -> Result<DeclaredText, Fault>
     }
 }
 
-/// All that the tree declares, and then the types and the rest.
+/// Builds all parts that the tree declares, and then checks the types and the rest.
 fn check_names(
     alloc: Global,
     source: &Source,
@@ -301,7 +302,7 @@ fn check_names(
     }
 }
 
-/// All that the text declares, and then the types and the rest.
+/// Builds all parts that the text declares, and then checks the types and the rest.
 fn check_text(alloc: Global, text: &[u8], evidence: &mut Option<Evidence>) -> Result<Passed, Fault>
     ensures { IsChecked text.now result }
 {

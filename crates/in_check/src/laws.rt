@@ -10,29 +10,29 @@ pub fn texts_are_checked_once()
     ensures { TextsAreCheckedOnce }
 {}
 
-/// The program of an accepted text is a sound system: its tables, its initial net and each of its rules are as the laws ask.
+/// The program of an accepted text is a sound system: its tables, its initial net and each of its rules meet the conditions of the laws.
 pub fn accepted_is_sound()
     ensures { AcceptedIsSound }
 {}
 
-/// Each net that a sound system reaches is as promised: typed, with one rule for each active pair, without crossing circle or vicious
-/// one, with an end to each interaction, leading on from each agent, and written whole.
+/// Each net that a sound system reaches is as promised. It is typed, has one rule for each active pair, and has no crossing circle and no vicious
+/// one. Each interaction ends. Each agent leads on. The net is written whole.
 pub fn sound_reaches_as_promised()
     ensures { SoundReachesAsPromised }
 {}
 
-/// A net that is reached is reached, after one more interaction, by one more.
+/// The net after one more interaction is reached by one more.
 pub fn steps_reach()
     ensures { StepsReach }
 {}
 
-/// Under other names for its agents a net is reached by as many interactions, has as many agents, has ended where it has, and is
+/// Under other names for its agents, a net is reached by as many interactions, has as many agents, has ended if it has, and is
 /// written alike.
 pub fn renaming_changes_nothing()
     ensures { RenamingChangesNothing }
 {}
 
-/// The same interaction of two nets that differ in names alone leads to nets that differ in names alone, however the new agents are named in each.
+/// The same interaction of two nets that differ in names alone leads to nets that differ in names alone, under any names of the new agents.
 pub fn renamed_steps_are_renamed()
     ensures { RenamedStepsAreRenamed }
 {}
@@ -57,12 +57,12 @@ pub fn plain_steps_are_one()
     ensures { PlainStepsAreOne }
 {}
 
-/// Of an accepted program, the symbols of an active pair match, and each rule for them has them in the order constructor, destructor.
+/// In an accepted program, the symbols of an active pair match, and each rule for them has them in the order constructor, destructor.
 pub fn pairs_have_their_rule()
     ensures { PairsHaveTheirRule }
 {}
 
-/// Of an accepted program, a net that the slow reducer keeps is as promised.
+/// A net that the slow reducer keeps, of an accepted program, is as promised.
 pub fn plain_as_promised()
     ensures { PlainAsPromised }
 {}

@@ -1,7 +1,7 @@
-//! The one door to a program: its text is checked by all passes, one after another, and an accepted program is kept, with the steps that build its
+//! The one way to a program: its text is checked by all passes, one after another. An accepted program is kept, with the steps that build its
 //! rules and its net.
 //!
-//! `checking` calls the passes in their order, rule by rule where a pass is about rules, each pass in a small function that then calls the others;
+//! `checking` calls the passes in their order, rule by rule if a pass is about rules, each pass in a small function that then calls the others;
 //! `certifying` has the last ones, on the open net of each rule and of the net. `Checked` keeps their results. `misfits` looks up the two ends
 //! of a wire whose types don't fit, for the diagnosis.
 //!

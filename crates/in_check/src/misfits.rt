@@ -43,7 +43,7 @@ fn agent_end(net: &Net, agent: AgentNo, port: u8) -> Option<WireEnd> {
     })
 }
 
-/// The end of a wire of a right member that is the boundary end of this number: the auxiliary ports of the first of the two heads come
+/// The end of a wire of a right member for the boundary end of this number: the auxiliary ports of the first of the two heads come
 /// first.
 fn boundary_end(symbols: &Symbols, rule: &Rule, number: u32) -> Option<WireEnd> {
     let (one, other) = rule.heads();
@@ -64,7 +64,7 @@ fn boundary_end(symbols: &Symbols, rule: &Rule, number: u32) -> Option<WireEnd> 
     })
 }
 
-/// The two points of the net's wire whose place is this one.
+/// The two points of the net's wire that has this place.
 fn wire_at(net: &Net, place: Place) -> Option<(Point, Point)> {
     if !net.is_built() {
         return None;

@@ -20,7 +20,7 @@ use Rattle.in_chosen_runs.specs.declared.running.Chosen.{Chosen}
 turned : (m n : MachineParts) → IsMachine m → AreSame m n → AreSame n m
 turned m n machine same = an_equivalence.back m n (as_reducer m machine) same
 
--- what the one does the other can do
+-- one run can do the choices that the other does
 can_too : (m n o : MachineParts) (i : ℕ) → IsMachine m → AreSame m n → StepsAt n i o → CannotStep m i → ⊥
 can_too m n o i machine same s cannot =
     let back = turned m n machine same in
@@ -35,7 +35,7 @@ can_too m n o i machine same s cannot =
           )
     ]
 
--- the same choices lead to the same
+-- the same choices lead to the same machine, up to numbers
 same_choices : (m n o u : MachineParts) (choices : List ℕ) → IsMachine m → IsMachine n → AreSame m n → StepsBy m choices o → StepsBy n choices u → IsMachine o × IsMachine u × AreSame o u
 same_choices m n o u [] h g same one two = (subst IsMachine (sym one) h, subst IsMachine (sym two) g, subst (λ z. AreSame z u) (sym one) (subst (AreSame m) (sym two) same))
 same_choices m n o u (i ∷ choices) h g same (a, s, one) (b, t, two) =
@@ -74,7 +74,7 @@ module _ (text : List ℕ) (p : Program) (accepted : IsAccepted text p) (choices
   middle : IsMachine h.middle × IsMachine g.middle × AreSame h.middle g.middle
   middle = same_choices h.start g.start h.middle g.middle (take o.chosen choices) one two start h.by_choice (subst (λ i. StepsBy g.start (take i choices) g.middle) (sym as_many) g.by_choice)
 
-  -- what comes after the choices of the second run comes after those of the first
+  -- the interactions after the second run's choices are possible after those of the first
   other : RunsUpToNumbers h.middle u.further u.machine
   other = let z = g.in_turn in (z.0, an_equivalence.through h.middle g.middle z.0 middle.2 z.1, z.2)
 

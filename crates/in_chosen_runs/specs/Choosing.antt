@@ -1,4 +1,4 @@
--- A run whose first pairs are chosen. Which pair comes next is open in Lafont 1990: here a caller chooses.
+-- A run whose first pairs are chosen. Lafont 1990 leaves open which pair comes next: here a caller chooses.
 use Rattle.std.specs.Prelude.{◌≡◌, ◌⊎◌, ◌<◌, ◌≤◌, ℕ, List, [], ◌∷◌, length, take, slice_get, Some, Result, Ok, Err}
 use Rattle.in_check.specs.Programs.{Program}
 use Rattle.in_reducer.specs.Machines.{MachineParts}
@@ -15,7 +15,7 @@ abbrev pub StepsBy : MachineParts → List ℕ → MachineParts → Type 0
 StepsBy m [] after = after ≡ m
 StepsBy m (i ∷ choices) after = (next : MachineParts) × StepsAt m i next × StepsBy next choices after
 
--- there is no pair of that number, or the cells that it needs aren't free
+-- there is no pair of that number, or the cells for it aren't free
 abbrev pub CannotStep : MachineParts → ℕ → Type 0
 CannotStep m i = (length m.queue ≤ i) ⊎ (HasRoomAt m i → ⊥)
 

@@ -5,7 +5,7 @@ ghost use Rattle.in_chosen_runs.specs.Choosing.{CannotStep, StepsBy};
 use in_machine::Machine;
 
 /// Does the interactions of the pairs of these numbers in the queue, one after another, each in the queue that the one before it left. It does fewer
-/// than all only if there is no pair of the next number, or the cells that it needs aren't free. Returns their number. It takes no memory.
+/// than all only if there is no pair of the next number, or its cells aren't free. Returns their number. It takes no memory.
 pub(crate) fn choose(machine: &mut Machine, choices: &[u32]) -> usize
     ensures most { result ≤ length choices.now }
     ensures steps { StepsBy machine.old (take result choices.now) machine.new }

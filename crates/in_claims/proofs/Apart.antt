@@ -14,7 +14,7 @@ use Rattle.in_claims.specs.Laws.{numbers_of, ClaimsAreApart, ClaimsAreBelowTheLi
 use Rattle.in_claims.specs.Seats.{BoardView, fresh, hand_of}
 use Rattle.in_claims.proofs.Sums.{at_most, if_below, two_of_sum, some_term, counted_at, stands_counted}
 
--- it stands where there is no seat
+-- the hand for a number without a seat
 abbrev nobody : Hand
 nobody = hand 0 (record { limit = 0; seats = 0 }) [] false
 
@@ -48,7 +48,7 @@ stands hands k seat place at =
       is = subst (λ (l : List ℕ). get_or l place 0 ≡ k) same (get_or_from_slice_get (numbers_of hands seat) place k 0 at);
     }
 
--- how often the number is in this list
+-- the number of times that the number is in this list
 abbrev count : ℕ → List ℕ → ℕ
 count k numbers = count_by (λ j. eqb j k) numbers
 
@@ -108,7 +108,7 @@ place_of hands k seat inside counted =
     stands_in : (numbers list : List ℕ) (k : ℕ) → list ≡ numbers → (i : ℕ) × (i < length numbers) × (get_or numbers i 0 ≡ k) → (place : ℕ) × (slice_get list place ≡ Some k)
     stands_in numbers list k same at = (at.0, ap (λ l. slice_get l at.0) same ∙ slice_get-get_or numbers at.0 0 at.1 ∙ ap (λ (n : ℕ). Some n) at.2)
 
--- where this number is claimed
+-- a seat and a place at which this number is claimed
 claimed_by : (hands : List Hand) (k : ℕ) → 1 ≤ times_claimed k hands → (seat : ℕ) × (place : ℕ) × (slice_get (numbers_of hands seat) place ≡ Some k)
 claimed_by hands k claimed =
     let seat = some_term (λ (u : Hand). count k u.numbers) hands nobody claimed in
@@ -140,7 +140,7 @@ shared limit word a b claims = (
       elim (cases_lt 0 (count k a.numbers)) [ inl some ↦ inl (contained k a.numbers some) | inr none ↦ inr (contained k b.numbers (omega (arith, claimed))) ]),
 )
 
--- what is nothing at each new seat is nothing at all of them
+-- if f is 0 for each new seat, the sum of f over them is 0
 none_in_new : (f : Hand → ℕ) (board : BoardView) → f (hand_of (fresh board)) ≡ 0 → (n : ℕ) → sum_by f (map hand_of (replicate n (fresh board))) ≡ 0
 none_in_new f board none zero = refl
 none_in_new f board none (suc n) =

@@ -60,7 +60,7 @@ module _ (size : Size) (limit_fits : size.limit < 2 ^ 32) (seats_fit : size.seat
   rise =
       All-head (λ (v : Hand). IsStrictlyIncreasing v.numbers) h [] (all_in_view (λ (v : Hand). IsStrictlyIncreasing v.numbers) s.views id (h ∷ []) at kept.claims.rise)
 
-  -- what a sum over the hands is once this hand changes
+  -- a sum over the hands after this hand changes
   change_to : (f : Hand → ℕ) (u : Hand) → sum_by f (all_hands (set s.views id (u ∷ []))) + f h ≡ sum_by f (all_hands s.views) + f u
   change_to f u = omega (arith, change f s.views id (h ∷ []) (u ∷ []) at, sum_by-cons f h [], sum_by-cons f u [])
 
@@ -213,7 +213,7 @@ limit_is : (size : Size) (hands : List Hand) → 0 < length hands → All (IsHan
 limit_is size [] one of = absurd (omega arith)
 limit_is size (h ∷ hands) one of = ap (λ (z : Size). z.limit) (All-head (IsHandOf size) h hands of).size_is
 
--- who has as many hands as the board has seats has all of them
+-- a view with as many hands as the board has seats has all of them
 pub tells : (size : Size) (slots id : ℕ) (hands : List Hand) → 0 < size.seats → length hands ≡ size.seats →
     Allows (IsBoardRule size) slots id (hands, []) 0 (λ w. w) (λ found after. AreClaims (limit_of hands) found hands)
 tells size slots id hands some_seat all s kept homes at fits_word =

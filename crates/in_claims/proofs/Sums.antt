@@ -14,7 +14,7 @@ at_get [] i v e = absurd (some-ne-none v (sym e))
 at_get (x ∷ xs) zero v e = (omega arith, some-injective x v e)
 at_get (x ∷ xs) (suc i) v e = let t = at_get xs i v e in (omega (arith, t.0), t.1)
 
--- what a test counts
+-- the value of a test that is counted
 pub at_most : (b : Bool) (n : ℕ) → cond b n 0 ≤ n
 at_most true n = omega arith
 at_most false n = omega arith
@@ -40,13 +40,13 @@ some_term f (x ∷ xs) d h =
       | inr none ↦ let t = some_term f xs d (omega (arith, sum_by-cons f x xs)) in (suc t.0, (let below = t.1 in omega arith), t.2)
     ]
 
--- where each term of f is within that of g, so is the sum
+-- if each term of f is within that of g, so is the sum
 pub sum_le : {V : Type 0} (f g : V → ℕ) (xs : List V) → All (λ v. f v ≤ g v) xs → sum_by f xs ≤ sum_by g xs
 sum_le f g [] each = omega arith
 sum_le f g (x ∷ xs) each =
     omega (arith, sum_by-cons f x xs, sum_by-cons g x xs, each 0 x (omega arith), sum_le f g xs (λ k d lt. each (suc k) d (omega arith)))
 
--- a number that is counted stands somewhere, and one that stands somewhere is counted
+-- a number is counted if and only if it is in the list
 pub counted_at : (xs : List ℕ) (k : ℕ) → 0 < count_by (λ j. eqb j k) xs → (i : ℕ) × (i < length xs) × (get_or xs i 0 ≡ k)
 counted_at xs k h = let t = some_term (λ j. cond (eqb j k) 1 0) xs 0 h in (t.0, t.1, one_is (get_or xs t.0 0) k t.2)
   where

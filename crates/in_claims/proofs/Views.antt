@@ -1,4 +1,4 @@
--- The hands in all views of a table, once one view is another: their sums, and what holds of each. And a view that has as many hands as all.
+-- The hands in all views of a table after one view changes: their sums, and the properties of each. And a view that has as many hands as all.
 use Rattle.std.proofs.Common.{◌≡◌, ℕ, zero, suc, ◌+◌, ◌≤◌, ◌<◌, List, [], ◌∷◌, ◌++◌, length, set, get_or, refl, sym, ap, subst, ◌∙◌, arith, All}
 use Rattle.std.specs.List.{sum_by}
 use Rattle.std.proofs.lemmas.List.{append-nil, length-append, get_or_append_left, get_or-append-add, nil_from_length}
@@ -31,7 +31,7 @@ each_of_all P [] all = All-nil (All P)
 each_of_all P (x ∷ xs) all =
     All-cons (All P) x xs (front P x (all_hands xs) all) (each_of_all P xs (back P x (all_hands xs) all))
 
--- what a sum over all hands is once this view is another
+-- a sum over all hands after this view changes
 pub change : (f : Hand → ℕ) (views : List (List Hand)) (id : ℕ) (old new : List Hand) → get_elem? views id ≡ some old →
     sum_by f (all_hands (set views id new)) + sum_by f old ≡ sum_by f (all_hands views) + sum_by f new
 change f views id old new at =

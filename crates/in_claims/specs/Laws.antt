@@ -4,7 +4,7 @@ use Rattle.in_claims.specs.declared.hands.Hand.{Hand}
 use Rattle.in_claims.specs.Rule.{AreClaims}
 use Rattle.in_claims.specs.Seats.{BoardView, fresh, hand_of}
 
--- the numbers that the seat of this number claimed; none where there is no such seat
+-- the numbers that the seat of this number claimed; none if there is no such seat
 abbrev pub numbers_of : List Hand → ℕ → List ℕ
 numbers_of hands seat = slice_index_or (map (λ h. h.numbers) hands) seat []
 
@@ -18,17 +18,17 @@ abbrev pub ClaimsAreBelowTheLimit : Type 0
 ClaimsAreBelowTheLimit = (limit word : ℕ) (hands : List Hand) (k : ℕ) (seat place : ℕ) → AreClaims limit word hands
     → slice_get (numbers_of hands seat) place ≡ Some k → (k < limit) × (k < word)
 
--- where a seat is done, the word is past the limit, and each number below the limit was claimed by some seat
+-- if a seat is done, the word is past the limit, and each number below the limit was claimed by some seat
 abbrev pub DoneMeansAllClaimed : Type 0
 DoneMeansAllClaimed = (limit word : ℕ) (hands : List Hand) (done : ℕ) (h : Hand) → AreClaims limit word hands
     → slice_get hands done ≡ Some h → h.done ≡ true → (limit < word) × ((k : ℕ) → k < limit → (seat : ℕ) × (place : ℕ) × (slice_get (numbers_of hands seat) place ≡ Some k))
 
--- two seats of one board: no number is in both lists, and where both are done each number below the limit is in one of them
+-- two seats of one board: no number is in both lists, and if both are done each number below the limit is in one of them
 abbrev pub TwoSeatsShareTheNumbers : Type 0
 TwoSeatsShareTheNumbers = (limit word : ℕ) (a b : Hand) → AreClaims limit word (a ∷ b ∷ [])
     → ((k : ℕ) → Contains a.numbers k → Contains b.numbers k → ⊥)
     × (a.done ≡ true → b.done ≡ true → (k : ℕ) → k < limit → Contains a.numbers k ⊎ Contains b.numbers k)
 
--- the seats of a new board have claimed nothing, and nobody else has
+-- the seats of a new board have claimed nothing: the word is 0
 abbrev pub NewBoardsAreUnclaimed : Type 0
 NewBoardsAreUnclaimed = (board : BoardView) (word : ℕ) → AreClaims board.limit word (map hand_of (replicate board.seats (fresh board))) → word ≡ 0

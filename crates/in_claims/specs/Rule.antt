@@ -1,4 +1,4 @@
--- What the word of a board and the hands of its seats hold together, whatever the schedule.
+-- The relation between the word of a board and the hands of its seats, which holds on any schedule.
 use Rattle.std.specs.Prelude.{◌≡◌, ℕ, ◌+◌, ◌<◌, min, Bool, true, nat_lt, ◌==◌, if◌then◌else◌, List, [], ◌∷◌, ◌++◌, length, slice_index, All, sum_by, count_by}
 use Rattle.std.specs.List.{flat_map}
 use Rattle.std.specs.List.Sorted.{IsStrictlyIncreasing}
@@ -13,14 +13,14 @@ hand shares size numbers done = record { shares = shares; size = size; numbers =
 abbrev pub drew : Hand → ℕ → Hand
 drew h found = if nat_lt found h.size.limit then hand h.shares h.size (h.numbers ++ found ∷ []) h.done else hand h.shares h.size h.numbers true
 
--- how often the number was claimed, by all seats together
+-- the number of times that the number was claimed, by all seats together
 abbrev pub times_claimed : ℕ → List Hand → ℕ
 times_claimed k hands = sum_by (λ h. count_by (λ j. j == k) h.numbers) hands
 
 abbrev pub done_count : List Hand → ℕ
 done_count hands = count_by (λ h. h.done) hands
 
--- The claims of a board of this limit whose word is `word`. Each number below both is claimed once, and no other; each seat's list rises;
+-- The claims of a board of this limit whose word is `word`. Each number below both was claimed once, and no other was; each seat's list rises;
 -- as many seats are done as the word is past the limit
 pub record AreClaims (limit word : ℕ) (hands : List Hand) : Type 0 where
   pub once : (k : ℕ) → times_claimed k hands ≡ (if nat_lt k (min word limit) then 1 else 0)
@@ -36,7 +36,7 @@ pub record IsHandOf (size : Size) (h : Hand) : Type 0 where
 abbrev pub all_hands : List (List Hand) → List Hand
 all_hands views = flat_map (λ hands. hands) views
 
--- the rule of the table of a board: it has one word, which with the hands of the seats makes the claims of the board, and a share for each seat
+-- the rule of the table of a board: it has one word, which makes the claims of the board with the hands of the seats, and a share for each seat
 pub record IsBoardRule (size : Size) (state : State (Unit {0}) (List Hand)) : Type 0 where
   pub one_word : length state.words ≡ 1
   pub claims : AreClaims size.limit (slice_index state.words 0) (all_hands state.views)

@@ -1,16 +1,16 @@
--- What contracts see of a board and of its seats, and what a claim does to its seat.
+-- The views of a board and of its seats, and the effect of a claim on its seat.
 use Rattle.std.specs.Prelude.{◌≡◌, ◌<◌, ℕ, Bool, true, false, List, [], ◌∷◌, ◌++◌, Option, Some, None}
 use Rattle.atomic_table.specs.Seated.{TableId}
 use Rattle.in_claims.specs.Rule.{hand}
 use Rattle.in_claims.specs.declared.hands.Hand.{Hand}
 
--- which board it is, the limit below which it hands out numbers, and how many seats it has
+-- the identity of its table, the limit below which it hands out numbers, and the number of its seats
 pub record BoardView : Type 0 where
   pub table : TableId
   pub limit : ℕ
   pub seats : ℕ
 
--- of which board a seat is, the numbers that it claimed, the first one first, and whether it is done
+-- the board of a seat, the numbers that it claimed, the first one first, and whether it is done
 pub record SeatView : Type 0 where
   pub board : BoardView
   pub numbers : List ℕ
@@ -25,6 +25,6 @@ abbrev pub Claims : SeatView → Option ℕ → SeatView → Type 0
 Claims old (Some k) new = (k < old.board.limit) × (new ≡ record { board = old.board; numbers = old.numbers ++ k ∷ []; done = old.done })
 Claims old None new = new ≡ record { board = old.board; numbers = old.numbers; done = true }
 
--- what the rule of its board keeps of a seat: it is one of the board's seats, has claimed these numbers, and is done or not
+-- the hand of a seat, by the rule of its board: it is one of the board's seats, has claimed these numbers, and is done or not
 abbrev pub hand_of : SeatView → Hand
 hand_of seat = hand 1 (record { limit = seat.board.limit; seats = seat.board.seats }) seat.numbers seat.done

@@ -9,9 +9,9 @@ use atomic_table::Table;
 use std::alloc::{AllocError, Global};
 use std::marker::Model;
 
-/// Hands out the numbers below a limit, each once, to whichever seat asks first. Contracts see which board it is, its limit, and how
-/// many seats it has. Boards are this project's own choice: Lafont 1990 shows that interactions at different pairs can be done in either
-/// order, and says nothing of who does which.
+/// Hands out the numbers below a limit, each once, to the seat that asks first. Contracts see the identity of its table, its limit, and the number
+/// of its seats. Boards are this project's own choice: Lafont 1990 shows that interactions at different pairs can be done in either
+/// order, and says nothing of the workers that do them.
 #[derive(Drop)]
 pub struct Board {
     table: Table<(), Hands, Size, Claims, Global>,
@@ -73,7 +73,7 @@ impl Board {
         Ok((Board { table, size }, all))
     }
 
-    /// The next number, which the seat has then claimed; or nothing where all numbers are claimed, and the seat is then done. It waits
+    /// The next number, which the seat has then claimed. If all numbers are claimed, returns `None`, and the seat is then done. It waits
     /// for nobody and takes no memory.
     pub fn claim(&self, seat: &mut Seat) -> Option<u32>
         requires of_this_board { seat.old.board ≡ self.now }
@@ -91,8 +91,8 @@ impl Board {
         }
     }
 
-    /// Takes all seats of this board back, and returns how many claims were made, those that found nothing among them. What the seats hold together
-    /// are the claims of the board: each number below that count and below the limit once, and no other; and as many seats are done as the count is
+    /// Takes all seats of this board back, and returns the number of claims, also of those that found no number. The seats' numbers together
+    /// are the claims of the board: each number below that count and below the limit once, and no other. As many seats are done as the count is
     /// past the limit. It refuses nothing, waits for nobody and takes no memory.
     pub fn take_back(&self, seats: Vec<Seat>) -> u64
         requires of_this_board { All (λ s. s.board ≡ self.now) seats.items }
@@ -102,7 +102,7 @@ impl Board {
         let shared = &self.table.shared;
         let mut rest = seats;
         let Some(last) = rest.pop() else {
-            // All seats are given back, and a board has one at least.
+            // All seats are given back, and a board has at least one.
             unreachable!()
         };
         let Seat {

@@ -1,6 +1,6 @@
 // The gate that a worker passes between a claim and the work on it.
 
-/// A place that each worker passes once it has claimed a job, before it does anything for it.
+/// A gate that each worker passes after it has claimed a job, before it works on it.
 pub trait Gate {
     /// Called with the job that was just claimed.
     fn reached(&self, job: u32);

@@ -3,15 +3,15 @@
 use atomic_table::{Join, Play, Split, TableRule};
 use std::collections::LinkedList;
 
-// How large a board is: below which number its seats claim, and how many seats it has.
+// The size of a board: the limit below which its seats claim, and the number of its seats.
 #[derive(Clone, Copy)]
 pub struct Size {
     pub limit: u32,
     pub seats: u32,
 }
 
-// The knowledge of a seat: how large its board is, the numbers that it claimed, and whether it is done. Of the shares of the board, one for
-// each of its seats, it has some, and a seat of a caller has one. No value of it is made.
+// The knowledge of a seat: the size of its board, the numbers that it claimed, and whether it is done. It has some of the board's shares, one for
+// each of its seats; a seat of a caller has one share. No value of it is made.
 pub struct Hand {
     shares: u64,
     size: Size,

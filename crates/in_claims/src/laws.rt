@@ -1,4 +1,4 @@
-//! Laws on the rule of a board, for callers that claim from several threads. `Board::take_back` ensures what they require of hands, for the seats
+//! Laws on the rule of a board, for callers that claim from several threads. `Board::take_back` ensures the premises on hands, for the seats
 //! that it takes. No function here does anything.
 
 ghost use Rattle.std.specs.Prelude.{List, slice_index};
@@ -16,7 +16,7 @@ pub fn boards_keep_claims()
     ensures { (size : Size) (s : State (Unit {0}) (List Hand)) → ⟦<hands::Claims as TableRule<(), hands::Hands, hands::Size>>⟧.holds size s → AreClaims size.limit (slice_index s.words 0) (all_hands s.views) }
 {}
 
-/// Where the seats of a board are as `Board::new` hands them out, no claim was made: the word is 0.
+/// If the seats of a board are as `Board::new` hands them out, no claim was made: the word is 0.
 pub fn new_boards_are_unclaimed()
     ensures { NewBoardsAreUnclaimed }
 {}
@@ -31,12 +31,12 @@ pub fn claims_are_below_the_limit()
     ensures { ClaimsAreBelowTheLimit }
 {}
 
-/// Where a seat is done, and so where all are, the word is past the limit and each number below the limit is claimed.
+/// If a seat is done, the word is past the limit and each number below the limit is claimed.
 pub fn done_means_all_claimed()
     ensures { DoneMeansAllClaimed }
 {}
 
-/// Of two seats of a board, no number is in both lists, and where both are done each number below the limit is in one.
+/// No number is in the lists of both of two seats of a board. If both are done, each number below the limit is in one of them.
 pub fn two_seats_share_the_numbers()
     ensures { TwoSeatsShareTheNumbers }
 {}

@@ -1,4 +1,4 @@
--- What words that are written out ask for.
+-- The requests of words that are written out.
 use Rattle.std.proofs.Common.{◌≡◌, ◌<◌, ◌≤◌, ◌^◌, ℕ, ◌++◌, Bool, true, false, cond, List, [], ◌∷◌, Some, refl, arith, rules}
 use Rattle.std.specs.Prelude.{codes}
 use Rattle.clap.specs.Kinds.{Kinds, or_else}
@@ -75,7 +75,7 @@ run_given : subcommand_of command_line run_words ≡ Some (codes "run", usual_ro
 unfolding clap_on_literals
 run_given = refl
 
--- what is found wrong in a word with a number, and in three of them
+-- the errors in a word with a number, and in three of them
 abbrev in_word : Bool → Kinds
 in_word b = or_else (or_else (cond b [] (ValueValidation ∷ [])) []) []
 

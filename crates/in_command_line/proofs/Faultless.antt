@@ -1,4 +1,4 @@
--- What each use of an argument that has no fault keeps, a walk over words that has no fault keeps.
+-- If each use of an argument without a fault keeps a property, a walk over words without a fault keeps it.
 use Rattle.std.proofs.Common.{◌≡◌, ℕ, zero, suc, Bool, true, false, cond, List, [], ◌∷◌, Option, Some, None, is_some, length, drop, refl}
 use Rattle.std.specs.Prelude.{codes, encode_utf8, find, fold, not, IfSome, ◌&&◌, slice_get}
 use Rattle.std.specs.Option.{option_map_or}
@@ -15,7 +15,7 @@ pub first_none : (a b : Kinds) → or_else a b ≡ [] → (a ≡ []) × (b ≡ [
 first_none [] b e = (refl, e)
 first_none (k ∷ ks) b e = cc
 
--- a use with no fault keeps what is known of the rows
+-- a use without a fault keeps this property of the rows
 abbrev pub Keeps : (List Row → Type 0) → Rule → Type 0
 Keeps Good a = (again : Bool) (values : List Text) (rows : List Row) → Good rows → use_fault again a values rows ≡ [] → Good (used a values rows)
 
@@ -152,7 +152,7 @@ module _ (Good : List Row → Type 0) (s : Shape) (keep : AllKeep Good s.rules) 
       let parts = first_none (turn_fault s names w word) _ none in
       walk_keeps rest (walked s.rules names w word) (turn_keeps w word good parts.0) parts.1
 
--- ---- where such a walk stops
+-- ---- the end of such a walk
 
 -- the words name another subcommand than `help`
 abbrev pub IsNoHelp : Text → Type 0

@@ -1,4 +1,4 @@
--- Words in which `clap` finds no error ask for one action.
+-- Words in which `clap` finds no error request one action.
 use Rattle.std.proofs.Common.{◌≡◌, ◌||◌, Bool, true, false, cond, List, [], Option, Some, None, is_some, refl, sym, subst}
 use Rattle.std.specs.Prelude.{codes, option_map}
 use Rattle.std.specs.Option.{option_map_or}
@@ -25,7 +25,7 @@ plain_shape name = built_leaf (inherited inet.top (on_file name).top)
 abbrev help_command : Shape
 help_command = built_leaf help_shape
 
--- what the words ask for, where the subcommand is this one
+-- the request of the words, if the subcommand is this one
 abbrev Asks : Option (Text × List Row) → Type 0
 Asks found = (a : Asked) × (name : Text) × (options : List Row) × (found ≡ Some (name, options)) × Names name options a.action × (a.file ≡ file_in options)
     × (a.stats ≡ is_set (codes "stats") options)

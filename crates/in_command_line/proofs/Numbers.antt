@@ -25,7 +25,7 @@ number_read f name n none value = go (one_text f name) refl
     go None e = let bad : ◌≡◌ {A = Option ℕ} (Some n) None = none e in absurd cc
     go (Some t) e = let h = value t e in (t, sym (one_text-rows f name) ∙ e, h)
 
--- .. and where none was read, the option has none that fits
+-- .. and if none was read, the option has none that fits
 pub number_refused : (f : Found) (name : Text)
     → ((t : Text) → one_text f name ≡ Some t → IsNumeral 10 (without_leading_plus t) × (digits_value 10 (without_leading_plus t) < 2 ^ 64) → ⊥)
     → (n : ℕ) → n < 2 ^ 64 → IsNumber name (rows_of f) n → ⊥

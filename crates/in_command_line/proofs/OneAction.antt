@@ -1,4 +1,4 @@
--- Words ask for one action at most.
+-- Words request at most one action.
 use Rattle.std.proofs.Common.{◌≡◌, ℕ, ◌≤◌, List, refl, sym, ◌∙◌, ap, subst}
 use Rattle.std.proofs.lemmas.Option.{same_Some}
 use Rattle.std.specs.Prelude.{codes, Bool, true, false}

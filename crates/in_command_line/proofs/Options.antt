@@ -86,7 +86,7 @@ help_flag = with_index 1 (filled help_rule)
 abbrev pub run_shape : Shape
 run_shape = built_leaf (inherited (built command_line).top run_command.top)
 
--- the row of an option has what that option takes
+-- the row of an option has values that the option takes
 abbrev pub IsGood : Row → Type 0
 IsGood r = (bytes_eq r.id (codes "workers") ≡ true → Fits 1 most_workers r) × (bytes_eq r.id (codes "limit") ≡ true → Fits 0 most_interactions r) × (bytes_eq r.id (codes "cells") ≡ true → Fits least_cells most_cells r)
 
@@ -100,7 +100,7 @@ first_stays (x ∷ xs) ys t e = e
 fits_more : (least most : ℕ) (values : List Text) (r : Row) (source : Option ValueSource) → Fits least most r → Fits least most (record r { values = r.values ++ values; source = source })
 fits_more least most values r source h = record { text = h.text; reading = h.reading; first = first_stays r.values values h.text h.first; passes = h.passes }
 
--- more values, after those that a row has, or else a new row
+-- more values, after those of a row, or otherwise a new row
 values_keep : (id : Text) (how : Reading) (s : ValueSource) (values : List Text) (rows : List Row)
     → IsGood (record { id = id; values = values; count = None; source = Some s; reading = how }) → Good rows → Good (with_values id how s values rows)
 values_keep id how s values rows new h =
@@ -174,7 +174,7 @@ options_keep f a is = go (f workers_rule) (f limit_rule) (f cells_rule) (f no_ne
     go false false false false false false true e = subst (Keeps Good) (same_Some _ _ e) (λ again values rows good none. good)
     go false false false false false false false e = cc
 
--- ---- the usual texts, where an option is missing
+-- ---- the default texts of missing options
 
 default_keeps : (name usual : Text) (least most : ℕ) → IsGood (new_row name usual DefaultValue) → (rows : List Row) → Good rows → Good (with_default rows (number_rule name usual least most))
 default_keeps name usual least most new rows good = go (has_row name rows)

@@ -1,4 +1,4 @@
--- What `clap` finds wrong in words that are written out.
+-- The errors that `clap` finds in words that are written out.
 use Rattle.std.proofs.Common.{◌≡◌, ◌<◌, ◌⊎◌, ℕ, ◌++◌, Bool, true, false, [], ◌∷◌, refl, inl, inr, arith}
 use Rattle.std.specs.Prelude.{codes}
 use Rattle.clap.specs.ValueTests.{accepts}

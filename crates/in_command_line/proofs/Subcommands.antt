@@ -21,7 +21,7 @@ name_of_rows m = elim (out-ArgMatches m).subcommand as (λ o. option_map (λ b. 
   | Some b ↦ refl
 ]
 
--- a match whose subcommand names no action asks for nothing
+-- a match whose subcommand names no action makes no request
 pub none_requested : (found : Option (Text × List Row)) (name : Text) (options : List Row) → Some name ≡ option_map (λ p. p.0) found → Some options ≡ option_map (λ p. p.1) found
     → IsNamed name options None → IsRequested found None
 none_requested None name options is are none n o a given named = cc
@@ -37,14 +37,14 @@ pub found_so : (found : Option (Text × List Row)) (name : Text) (options : List
 found_so None name options is are = cc
 found_so (Some p) name options is are = λ i. Some (sym (same_Some name p.0 is) i, sym (same_Some options p.1 are) i)
 
--- options without limits ask for no run
+-- options without limits request no run
 pub no_run : (options : List Row) → ((l : Limits) → HasLimits options l → ⊥) → (name : Text) → (name ≡ codes "check" → ⊥) → (name ≡ codes "derive" → ⊥) → IsNamed name options None
 no_run options none name no_check no_derive Check h = no_check h
 no_run options none name no_check no_derive Derive h = no_derive h
 no_run options none name no_check no_derive (Run l) h = none l h.1
 no_run options none name no_check no_derive (Count l) h = none l h.1
 
--- the run that options ask for is named by `run`
+-- the run that options request is named by `run`
 pub run_is_named : (options : List Row) (name : Text) → name ≡ codes "run" → (name ≡ codes "check" → ⊥) → (name ≡ codes "derive" → ⊥) → (r : Option Action) → IsRunNamed options r → IsNamed name options r
 run_is_named options name is no_check no_derive (Some a) named = subst (λ (n : Text). Names n options a) (sym is) named
 run_is_named options name is no_check no_derive None none = no_run options none name no_check no_derive

@@ -14,7 +14,7 @@ use Rattle.in_command_line.specs.declared.action.Request.{Request}
 use Rattle.in_command_line.specs.declared.action.Usage.{Usage}
 use Rattle.in_command_line.specs.declared.action.Usage.TheVariants.{Wrong, Help, Version, Memory}
 
--- the kinds of errors that `clap` finds in the words; none where it gives a match
+-- the kinds of errors that `clap` finds in the words; none if it gives a match
 abbrev pub faults : List Text → Kinds
 faults words = fault_of command_line words
 
@@ -38,7 +38,7 @@ is_set name options = option_map_or (λ text. bytes_eq text (codes "true")) (fir
 abbrev pub unless_input : Text → Option Text
 unless_input file = if bytes_eq file (codes "-") then None else Some file
 
--- the file that is named, nothing where the program comes on standard input
+-- the file that is named; none if the program comes on standard input
 abbrev pub file_in : List Row → Option Text
 file_in options = option_and_then unless_input (first_of (codes "file") options)
 
@@ -48,7 +48,7 @@ pub record Asked : Type 0 where
   pub file : Option Text
   pub stats : Bool
 
--- an action on standard input, of which no figures are wanted
+-- an action on standard input, without figures
 abbrev pub on_input : Action → Asked
 on_input a = record { action = a; file = None; stats = false }
 
@@ -59,7 +59,7 @@ on_file_of file a = record { action = a; file = Some file; stats = false }
 abbrev pub asked_of : Request → Asked
 asked_of r = record { action = r.action; file = option_map (λ s. s.now) r.file; stats = r.stats }
 
--- a subcommand with these options asks for the action
+-- a subcommand with these options requests the action
 abbrev pub Names : Text → List Row → Action → Type 0
 Names name options Check = name ≡ codes "check"
 Names name options Derive = name ≡ codes "derive"
@@ -76,7 +76,7 @@ pub record AsksFor (words : List Text) (a : Asked) : Type 0 where
   pub file_is : a.file ≡ file_in options
   pub stats_are : a.stats ≡ is_set (codes "stats") options
 
--- the words are refused: they ask for help or for the version, or have another error; and memory may run out at any words
+-- the words are refused: they request help or the version, or have another error; and memory may run out at any words
 abbrev pub AreWordsRefused : List Text → Usage → Type 0
 AreWordsRefused words (Help text) = IsAmong DisplayHelp (faults words)
 AreWordsRefused words Version = IsAmong DisplayVersion (faults words)
@@ -105,7 +105,7 @@ abbrev pub AreGiven : List Row → Option Limits → Type 0
 AreGiven options (Some l) = HasLimits options l
 AreGiven options None = HasNoLimits options
 
--- the run that the options ask for, if they have limits
+-- the run that the options request, if they have limits
 abbrev pub IsRunNamed : List Row → Option Action → Type 0
 IsRunNamed options (Some a) = Names (codes "run") options a
 IsRunNamed options None = HasNoLimits options

@@ -5,7 +5,7 @@ use Rattle.clap.specs.declared.builder.action.ArgAction.TheVariants.{Set, SetTru
 use Rattle.clap.specs.declared.builder.value_parser.ValueParser.TheVariants.{Unsigned}
 use Rattle.in_limits.specs.Limiting.{least_cells, most_cells, most_interactions, most_workers}
 
--- the option `--name N`, where N is a number from least to most; a command line without it has the usual text
+-- the option `--name N`, where N is a number from least to most, and the usual text is the default
 abbrev pub number_option : Text → Text → ℕ → ℕ → Rule
 number_option name usual least most = record (new_rule name) {
   long = Some name;
@@ -15,15 +15,15 @@ number_option name usual least most = record (new_rule name) {
   defaults = usual ∷ [];
 }
 
--- how many workers: 1 where it isn't said
+-- the number of workers, by default 1
 abbrev pub workers_option : Rule
 workers_option = number_option (codes "workers") (codes "1") 1 most_workers
 
--- how many interactions at most: 1,000,000 where it isn't said
+-- the most interactions, by default 1,000,000
 abbrev pub limit_option : Rule
 limit_option = number_option (codes "limit") (codes "1000000") 0 most_interactions
 
--- how many cells of each class: 65,536 where it isn't said
+-- the number of cells of each class, by default 65,536
 abbrev pub cells_option : Rule
 cells_option = number_option (codes "cells") (codes "65536") least_cells most_cells
 
@@ -43,7 +43,7 @@ stats_flag = flag (codes "stats")
 abbrev pub file_argument : Rule
 file_argument = record (new_rule (codes "file")) { action = Some Set; value_names = 1 }
 
--- a command with nothing but a file
+-- a command that only has a file
 abbrev pub on_file : Text → App
 on_file name = with_rule (new_app name) file_argument
 

@@ -7,7 +7,7 @@ use Rattle.in_limits.specs.declared.limits.Limits.{Limits}
 use Rattle.in_command_line.specs.Asking.{Asked, AsksFor, Spells, faults, on_file_of, on_input}
 use Rattle.in_command_line.specs.declared.action.Action.TheVariants.{Check, Derive, Run, Count}
 
--- words make one request at most
+-- words make at most one request
 abbrev pub WordsAskForOneAction : Type 0
 WordsAskForOneAction = (words : List Text) (a b : Asked) → AsksFor words a → AsksFor words b → a ≡ b
 
@@ -15,24 +15,24 @@ WordsAskForOneAction = (words : List Text) (a b : Asked) → AsksFor words a →
 abbrev pub FaultlessWordsAsk : Type 0
 FaultlessWordsAsk = (words : List Text) → faults words ≡ [] → (a : Asked) × AsksFor words a
 
--- `inet check` and `inet derive` ask for those actions on standard input
+-- `inet check` and `inet derive` request those actions on standard input
 abbrev pub SubcommandsAsk : Type 0
 SubcommandsAsk = AsksFor (codes "inet" ∷ codes "check" ∷ []) (on_input Check) × AsksFor (codes "inet" ∷ codes "derive" ∷ []) (on_input Derive)
 
--- limits that are the usual ones, of one worker
+-- the default limits, with one worker
 abbrev pub AreUsualLimits : Limits → Type 0
 AreUsualLimits l = (l.workers ≡ 1) × (l.limit ≡ 1000000) × (l.cells ≡ 65536)
 
--- `inet run` asks for a run within the usual limits
+-- `inet run` requests a run within the default limits
 abbrev pub RunAsksForTheUsual : Type 0
 RunAsksForTheUsual = (l : Limits) → AreUsualLimits l → AsksFor (codes "inet" ∷ codes "run" ∷ []) (on_input (Run l))
 
--- .. and with its options for one within the limits that their texts spell
+-- .. and with its options a run within the limits that their texts spell
 abbrev pub RunAsksForTheGiven : Type 0
 RunAsksForTheGiven = (workers limit cells : Text) (l : Limits) → Spells workers l.workers → Spells limit l.limit → Spells cells l.cells
     → AsksFor (codes "inet" ∷ codes "run" ∷ (codes "--workers=" ++ workers) ∷ (codes "--limit=" ++ limit) ∷ (codes "--cells=" ++ cells) ∷ []) (on_input (Run l))
 
--- with `--no-net` it asks for a run of which no net is printed, and with `--stats` for figures
+-- with `--no-net` it requests a run without a printed net, and with `--stats` figures
 abbrev pub FlagsAreAsked : Type 0
 FlagsAreAsked = (l : Limits) → AreUsualLimits l
     → AsksFor (codes "inet" ∷ codes "run" ∷ codes "--no-net" ∷ []) (on_input (Count l))
@@ -47,24 +47,24 @@ FilesAreAsked = AsksFor (codes "inet" ∷ codes "check" ∷ codes "sum.inet" ∷
     → AsksFor (codes "inet" ∷ codes "run" ∷ codes "sum.inet" ∷ codes "--no-net" ∷ []) (on_file_of (codes "sum.inet") (Count l))
     × AsksFor (codes "inet" ∷ codes "run" ∷ codes "--no-net" ∷ codes "sum.inet" ∷ []) (on_file_of (codes "sum.inet") (Count l)))
 
--- `-h` and `--help` ask for help, alone and with a subcommand
+-- `-h` and `--help` request help, alone and with a subcommand
 abbrev pub HelpIsAsked : Type 0
 HelpIsAsked = (faults (codes "inet" ∷ codes "-h" ∷ []) ≡ DisplayHelp ∷ [])
     × (faults (codes "inet" ∷ codes "--help" ∷ []) ≡ DisplayHelp ∷ [])
     × (faults (codes "inet" ∷ codes "run" ∷ codes "--help" ∷ []) ≡ DisplayHelp ∷ [])
 
--- `-V` and `--version` ask for the version
+-- `-V` and `--version` request the version
 abbrev pub VersionIsAsked : Type 0
 VersionIsAsked = (faults (codes "inet" ∷ codes "-V" ∷ []) ≡ DisplayVersion ∷ [])
     × (faults (codes "inet" ∷ codes "--version" ∷ []) ≡ DisplayVersion ∷ [])
 
--- wrong are `inet` alone, a word too many and an option that occurs twice
+-- `inet` alone, a word too many and an option that occurs twice are wrong
 abbrev pub OtherWordsAreWrong : Type 0
 OtherWordsAreWrong = (faults (codes "inet" ∷ []) ≡ MissingSubcommand ∷ [])
     × (faults (codes "inet" ∷ codes "check" ∷ codes "sum.inet" ∷ codes "max.inet" ∷ []) ≡ UnknownArgument ∷ [])
     × (faults (codes "inet" ∷ codes "run" ∷ codes "--limit=1" ∷ codes "--limit=1" ∷ []) ≡ ArgumentConflict ∷ [])
 
--- .. and a number that is out of range
+-- .. and so is a number that is out of range
 abbrev pub NumbersOutOfRangeAreWrong : Type 0
 NumbersOutOfRangeAreWrong = (text : Text) (n : ℕ) → Spells text n
     → ((n < 1) ⊎ (most_workers < n) → faults (codes "inet" ∷ codes "run" ∷ (codes "--workers=" ++ text) ∷ []) ≡ ValueValidation ∷ [])

@@ -20,7 +20,7 @@ pub enum Action {
     Derive,
     /// Reduces the net of an accepted program within these limits, and prints it.
     Run(Limits),
-    /// The same, and prints how many interactions there were and how it stopped, and no net.
+    /// The same, and prints the number of interactions and the stop, and no net.
     Count(Limits),
 }
 
@@ -29,13 +29,13 @@ pub enum Action {
 pub struct Request<'a> {
     /// The action.
     pub action: Action,
-    /// The file that the program's text is in; nothing where it comes on standard input: where no file is named, or `-`.
+    /// The file of the program's text; `None` if it comes on standard input: if no file is named, or `-`.
     pub file: Option<&'a str>,
     /// Whether figures of the run are wanted on standard error.
     pub stats: bool,
 }
 
-/// Why the words name no action.
+/// The reason why the words name no action.
 #[derive(Debug, Drop, Error)]
 pub enum Usage {
     /// The words are wrong; the message of `clap`.
@@ -62,7 +62,7 @@ impl From<AllocError> for Usage {
     }
 }
 
-/// The argument `FILE`: the file that the program's text is in.
+/// The argument `FILE`: the file of the program's text.
 fn file_argument<'a>(alloc: Global) -> Arg<'a>
     ensures rule { rule_of result ≡ file_argument }
     ensures local { result.global ≡ false }
@@ -73,7 +73,7 @@ fn file_argument<'a>(alloc: Global) -> Arg<'a>
         .action(ArgAction::Set)
 }
 
-/// The option `--workers`: how many workers, 1 where it isn't said.
+/// The option `--workers`: the number of workers, by default 1.
 fn workers_option<'a>(alloc: Global) -> Arg<'a>
     ensures rule { rule_of result ≡ workers_option }
     ensures local { result.global ≡ false }
@@ -87,7 +87,7 @@ fn workers_option<'a>(alloc: Global) -> Arg<'a>
         .default_value("1")
 }
 
-/// The option `--limit`: how many interactions at most, 1,000,000 where it isn't said.
+/// The option `--limit`: the most interactions, by default 1,000,000.
 fn limit_option<'a>(alloc: Global) -> Arg<'a>
     ensures rule { rule_of result ≡ limit_option }
     ensures local { result.global ≡ false }
@@ -101,7 +101,7 @@ fn limit_option<'a>(alloc: Global) -> Arg<'a>
         .default_value("1000000")
 }
 
-/// The option `--cells`: how many cells of each class, 65,536 where it isn't said.
+/// The option `--cells`: the number of cells of each class, by default 65,536.
 fn cells_option<'a>(alloc: Global) -> Arg<'a>
     ensures rule { rule_of result ≡ cells_option }
     ensures local { result.global ≡ false }
@@ -160,7 +160,7 @@ fn run_command<'a>(alloc: Global) -> Result<Command<'a>, AllocError>
         .arg(file_argument(alloc))
 }
 
-/// A command with nothing but a file.
+/// A command that only has a file.
 fn command_on_file<'a>(
     alloc: Global,
     name: &'a str,
@@ -251,7 +251,7 @@ fn usage_of(alloc: Global, error: clap::Error, words: &[&str]) -> Usage
     }
 }
 
-/// The number of an option, nothing where it has none of 32 bits.
+/// The number of an option; `None` if it has none of 32 bits.
 fn number_of(options: &ArgMatches, name: &str) -> Option<u32>
     ensures { IsOptionGiven name.now (rows_of (found_of options.now)) result }
 {
@@ -262,7 +262,7 @@ fn number_of(options: &ArgMatches, name: &str) -> Option<u32>
     }
 }
 
-/// The limits of a run, nothing where they are no numbers within their bounds.
+/// The limits of a run; `None` if they are no numbers within their bounds.
 fn limits_of(options: &ArgMatches) -> Option<Limits>
     ensures { AreGiven (rows_of (found_of options.now)) result }
 {
@@ -282,7 +282,7 @@ fn is_set(options: &ArgMatches, name: &str) -> bool
     }
 }
 
-/// The file that is named, nothing where it is standard input.
+/// The file that is named; `None` if it is standard input.
 fn file_in<'a>(options: &ArgMatches<'a>) -> Option<&'a str>
     ensures { option_map (λ s. s.now) result ≡ file_in (rows_of (found_of options.now)) }
 {
@@ -292,7 +292,7 @@ fn file_in<'a>(options: &ArgMatches<'a>) -> Option<&'a str>
     }
 }
 
-/// The run that options ask for, nothing where they have no limits.
+/// The run that the options request; `None` if they have no limits.
 fn run_named(options: &ArgMatches) -> Option<Action>
     ensures { IsRunNamed (rows_of (found_of options.now)) result }
 {
@@ -304,7 +304,7 @@ fn run_named(options: &ArgMatches) -> Option<Action>
     }
 }
 
-/// The action that a subcommand names, nothing where it names none.
+/// The action that a subcommand names; `None` if it names none.
 fn action_named(name: &str, options: &ArgMatches) -> Option<Action>
     ensures { IsNamed name.now (rows_of (found_of options.now)) result }
 {
@@ -329,11 +329,11 @@ fn request_in<'a>(matches: &ArgMatches<'a>) -> Option<Request<'a>>
     })
 }
 
-/// The request that the words make; the first is the program's name. That is the subcommand which `clap` gives for them, with the numbers of the
-/// texts of its options, or the usual ones where an option is missing; the file that is named, if it isn't `-`; and which flags are set.
+/// The request that the words make; the first word is the program's name. It has the subcommand that `clap` gives for them, with the numbers of the
+/// texts of its options, or the defaults of missing options; the file that is named, if it isn't `-`; and the flags that are set.
 ///
 /// Refused with the text of `clap` if it finds an error in the words, and one line more if a file's name is in the place of the command: as
-/// `Help` for `-h`, `--help` or `help`, as `Version` for `-V` or `--version`, else as `Wrong`, such as for no command, a word too many, or a
+/// `Help` for `-h`, `--help` or `help`, as `Version` for `-V` or `--version`, otherwise as `Wrong`, such as for no command, a word too many, or a
 /// number that is out of range. Refused as `Memory` when out of memory.
 pub fn action_of<'a>(alloc: Global, words: &'a [&'a str]) -> Result<Request<'a>, Usage>
     ensures ok { IfOk result (λ r. AsksFor (texts words.now) (asked_of r)) }
@@ -342,7 +342,7 @@ pub fn action_of<'a>(alloc: Global, words: &'a [&'a str]) -> Result<Request<'a>,
     match command(alloc)?.try_get_matches_from(words) {
         Ok(matches) => match request_in(&matches) {
             Some(request) => Ok(request),
-            // Words in which `clap` finds no error ask for an action: see `laws`.
+            // Words in which `clap` finds no error request an action: see `laws`.
             None => unreachable!(),
         },
         Err(error) => Err(usage_of(alloc, error, words)),

@@ -2,7 +2,7 @@
 
 ghost use Rattle.in_command_line.specs.Laws.{FaultlessWordsAsk, FilesAreAsked, FlagsAreAsked, HelpIsAsked, NumbersOutOfRangeAreWrong, OtherWordsAreWrong, RunAsksForTheGiven, RunAsksForTheUsual, SubcommandsAsk, VersionIsAsked, WordsAskForOneAction};
 
-/// Words make one request at most.
+/// Words make at most one request.
 pub fn words_ask_for_one_action()
     ensures { WordsAskForOneAction }
 {}
@@ -22,7 +22,7 @@ pub fn subcommands_ask()
     ensures files { FilesAreAsked }
 {}
 
-/// Which words are refused: help and the version if they are requested, and as wrong no subcommand, a word too many, an option given twice and a
+/// The words that are refused: help and the version if they are requested, and as wrong no subcommand, a word too many, an option given twice and a
 /// number that is out of range.
 pub fn words_are_refused()
     ensures help { HelpIsAsked }

@@ -1,4 +1,4 @@
--- Members placed in cells of a stock, and what goes back.
+-- Members placed in cells of a stock, and the cells that go back.
 pub mod AgentByAgent
 pub mod Back
 pub mod EndByEnd

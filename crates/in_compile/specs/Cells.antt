@@ -21,7 +21,7 @@ takes t c (Some a) = is_of t c a.symbol.0
 abbrev pub agents_of : Tables → CellClass → List (Option Cell) → ℕ
 agents_of t c agents = count_by (takes t c) agents
 
--- .. and of a rule's two symbols
+-- .. and the number of a rule's two symbols that do
 abbrev pub heads_taking : Tables → CellClass → RuleParts → ℕ
 heads_taking t c r = cond (is_of t c r.heads.0.0) 1 0 + cond (is_of t c r.heads.1.0) 1 0
 

@@ -15,7 +15,7 @@ use Rattle.in_compile.specs.Members.{MemberParts, IsMemberOf}
 use Rattle.in_compile.specs.Templates.{TemplateParts, HasHeads, IsTemplateOf, TemplatesParts, template_at, IsLargestNeed, AreTemplatesOf}
 use Rattle.in_compile.specs.Wires.{both_points, over_of, over_point, within_of}
 
--- the rule for the two symbols and its template, which is found for them; no other template has these heads
+-- the two symbols have a rule, and its template is found for them; no other template has these heads
 pub record HasOneTemplate (p : Program) (ts : TemplatesParts) (c d : ℕ) : Type 0 where
   pub number : ℕ
   pub is_rule : IsRuleFor p.rules number c d
@@ -48,7 +48,7 @@ LargestNeedsAreOne = (ts : List TemplateParts) (n m : Need) → IsLargestNeed ts
 
 -- ---- the wires that a member lists
 
--- those with boundary ends are the net's, each once, by its lowest end
+-- the wires with boundary ends are the net's, each once, by its lowest end
 abbrev pub WiresOverAreListed : Type 0
 WiresOverAreListed = (t : Tables) (n : Parts) (m : MemberParts) → IsMemberOf t n m → AreOverEnds (net_of n) (map over_point (over_of m))
 

@@ -20,13 +20,13 @@ listed l Wide = l.wide.items
 abbrev pub room_of : Lists → Need
 room_of l = record { small = vec_capacity l.small; large = vec_capacity l.large; wide = vec_capacity l.wide }
 
--- the second lists have this number besides, at the end of the list of its class
+-- the second lists are the first with this number added at the end of the list of its class
 pub record HasOneMore (fewer more : Lists) (c : CellClass) (n : CellNo) : Type 0 where
   pub here : listed more c ≡ listed fewer c ++ n ∷ []
   pub others : (d : CellClass) → (d ≡ c → ⊥) → listed more d ≡ listed fewer d
   pub room : room_of more ≡ room_of fewer
 
--- n of class c, and none of another
+-- n for class c, and 0 for any other class
 abbrev pub of_class : CellClass → ℕ → CellClass → ℕ
 of_class c n d = cond (nat_eq (class_no c) (class_no d)) n 0
 
@@ -40,13 +40,13 @@ pub record IsListing (b : ArenaView) (l : CellClass → List CellNo) : Type 0 wh
 
 -- ---- cells that go back one by one
 
--- the state of a cell once the bag's cells are back: f of its content, if it is in the bag
+-- the state of a cell once the bag's cells are back: f of its content if it is in the bag, otherwise as in the arena
 abbrev pub once_back : (State → State) → State → State → State
 once_back f Leased x = x
 once_back f Vacant x = f Vacant
 once_back f (Live word ends) x = f (Live word ends)
 
--- some of the bag's cells are back
+-- some of the bag's cells may be back in the arena, each with the state that f makes of its content
 pub record IsOnTheWay (f : State → State) (a b a' b' : ArenaView) : Type 0 where
   pub arena : (a'.memory ≡ a.memory) × (a'.cells ≡ a.cells) × (length a'.states ≡ length a.states)
   pub bag : (b'.memory ≡ b.memory) × (b'.cells ≡ b.cells)

@@ -33,7 +33,7 @@ symbol_at m k = option_map (λ a. a.symbol) (slice_get m.agents k)
 abbrev pub class_at : MemberParts → ℕ → Option CellClass
 class_at m k = option_map (λ a. a.class) (slice_get m.agents k)
 
--- the number of places of an agent, with the principal port
+-- the number of places of an agent, the principal port among them
 abbrev pub places_at : MemberParts → ℕ → Option ℕ
 places_at m k = option_map (λ a. length a.ends) (slice_get m.agents k)
 
@@ -48,7 +48,7 @@ joint_at m (ToBoundary e) = slice_get m.joints e
 
 -- ---- the member of a net
 
--- a point of a net: an agent of a member has the number of the net's, and its boundary ends are the free ends
+-- the joint for a point of a net: an agent of the member has the number of the net's agent, and its boundary ends are the free ends
 abbrev pub joint_of : Point → Joint
 joint_of (Port x i) = ToAgent x.0 i
 joint_of (Free e) = ToBoundary e

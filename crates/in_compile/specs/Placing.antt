@@ -18,7 +18,7 @@ use Rattle.in_compile.specs.Cells.{count_of}
 use Rattle.in_compile.specs.Members.{AgentParts, MemberParts}
 use Rattle.in_compile.specs.Stocks.{StockParts, held, with_all}
 
--- the cell of each agent by its number, the bag that has these cells, and the number of agents for which it has room
+-- the cell of each agent by its number, the bag of these cells, and the number of agents for which there is room
 pub record PlacedParts : Type 0 where
   pub cells : List CellNo
   pub bag : ArenaView

@@ -60,12 +60,12 @@ pub record AreWrittenBelow (m : MemberParts) (ns : List CellNo) (first : ArenaVi
   pub same : AreOfOne first b
   pub all : HasAllCells b
 
--- the cells from this number on are still in the bag, and no other
+-- the cells from this number on are still in the bag, each with the property P, and the bag has no other cell
 pub record AreLeftFrom (P : State → Type 0) (ns : List CellNo) (x : ℕ) (b : ArenaView) : Type 0 where
   pub each : (k : ℕ) (n : CellNo) → x ≤ k → slice_get ns k ≡ Some n → P (state_at b n.0)
   pub only : (n : ℕ) → IsInBag b n → (k : ℕ) × (x ≤ k) × (slice_get ns k ≡ Some (record { 0 = n }))
 
--- the arena has some of the bag's cells back, each as f makes it
+-- the arena has the first cells of the bag back, each with the state that f makes of its content
 pub record AreOnTheWay (f : State → State) (P : State → Type 0) (ns : List CellNo) (x : ℕ) (a b a' b' : ArenaView) : Type 0 where
   pub way : IsOnTheWay f a b a' b'
   pub of : IsBagOf b' a'

@@ -10,7 +10,7 @@ use Rattle.in_arena.specs.declared.content.CellNo.{CellNo}
 use Rattle.in_compile.specs.Members.{AgentParts, MemberParts, has_class}
 use Rattle.in_compile.specs.Placing.{content}
 
--- each agent is in a cell of its own, of its class, which held no agent; all other cells are as they were
+-- each agent is in its own cell, of its class, which held no agent; all other cells are as they were
 pub record IsPut (m : MemberParts) (ns : List CellNo) (old new : ArenaView) : Type 0 where
   pub count : length ns ≡ length m.agents
   pub each : (k : ℕ) (a : AgentParts) (n : CellNo) → slice_get m.agents k ≡ Some a → slice_get ns k ≡ Some n
@@ -44,7 +44,7 @@ pub record AreBegunBelow (m : MemberParts) (old : ArenaView) (x : ℕ) (now : Ar
   pub cells : now.cells ≡ old.cells
   pub many : length now.states ≡ length old.states
 
--- the first x of them are written
+-- the ends of the first x agents are written
 pub record ArePutBelow (m : MemberParts) (ns : List CellNo) (begun : ArenaView) (x : ℕ) (now : ArenaView) : Type 0 where
   pub each : (k : ℕ) (a : AgentParts) (n : CellNo) → k < x → slice_get m.agents k ≡ Some a → slice_get ns k ≡ Some n → state_at now n.0 ≡ content ns a
   pub rest : (k : ℕ) (n : CellNo) → x ≤ k → slice_get ns k ≡ Some n → state_at now n.0 ≡ state_at begun n.0

@@ -10,7 +10,7 @@ use Rattle.in_arena.specs.declared.content.CellNo.{CellNo}
 use Rattle.in_compile.specs.declared.cells.Need.{Need}
 use Rattle.in_compile.specs.Cells.{count_of}
 
--- its cells, and the number of cells of each class for which it has room
+-- its cells, and the number of cells of each class for which there is room
 pub record StockParts : Type 0 where
   pub bag : ArenaView
   pub room : Need

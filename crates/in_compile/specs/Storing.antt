@@ -16,7 +16,7 @@ use Rattle.in_compile.specs.Wires.{first_agent_slot, slots}
 
 -- ---- joints in two words
 
--- in place of a place's number: the joint leads to a boundary end
+-- this number, in the place of a place's number, means that the joint leads to a boundary end
 abbrev pub at_boundary : ℕ
 at_boundary = 4294967295
 
@@ -63,7 +63,7 @@ IsSmallMember m = (length m.joints ≤ first_agent_slot) × (length m.agents ≤
 abbrev pub joint_at_slot : ℕ → ℕ → Joint
 joint_at_slot slot place = cond (nat_lt slot first_agent_slot) (ToBoundary slot) (ToAgent (slot - first_agent_slot) place)
 
--- the slot is below their number, and a boundary end has one place
+-- the slot is below the number of slots, and a boundary end has one place
 abbrev pub FitsSlot : ℕ → ℕ → Type 0
 FitsSlot slot place = (slot < slots) × (place ≤ max_ports) × (slot < first_agent_slot → place ≡ 0)
 
@@ -73,7 +73,7 @@ IsSmallJoint (ToBoundary e) = e < first_agent_slot
 
 -- ---- the parts that compiling adds
 
--- this agent of a member is that one, and its joints lead where the ends do
+-- this stored agent has the symbol and places of that agent of a net, and its joints lead where that agent's ends do
 pub record IsAgentOf (t : Tables) (joints : List Joint) (c : Cell) (a : MemberAgent) : Type 0 where
   pub symbol : a.symbol ≡ c.symbol
   pub class : is_of t a.class c.symbol.0 ≡ true

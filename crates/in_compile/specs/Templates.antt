@@ -44,7 +44,7 @@ pub record TemplatesParts : Type 0 where
   pub numbers : table.Cells
   pub start : MemberParts
 
--- the template for two symbols, whichever comes first
+-- the template for two symbols, in either order
 abbrev pub template_at : TemplatesParts → ℕ → ℕ → Option TemplateParts
 template_at ts c d = option_and_then (λ k. slice_get ts.templates k.0) (table.rule_at ts.numbers c d)
 

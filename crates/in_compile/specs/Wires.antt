@@ -1,5 +1,5 @@
--- The wires of a right member in two lists, in which each occurs once: those with a boundary end, and those within the agents. So an
--- interaction goes over wires. The order of the lists, and numbers for the ends of wires, are this project's own choice.
+-- The wires of a right member in two lists, in which each occurs once: those with a boundary end, and those within the agents. An
+-- interaction goes through these lists. The order of the lists, and numbers for the ends of wires, are this project's own choice.
 use Rattle.std.specs.Prelude.{◌&&◌, ◌||◌, ◌+◌, ◌*◌, ℕ, Bool, true, false, nat_eq, nat_lt, nat_le, List, map}
 use Rattle.std.specs.List.{filter, enumerate_from, flat_map}
 use Rattle.in_syntax.specs.Grammar.{max_ports}
@@ -16,7 +16,7 @@ abbrev pub is_from_lowest : ℕ × Joint → Bool
 is_from_lowest (e, ToAgent k i) = true
 is_from_lowest (e, ToBoundary d) = nat_le e d
 
--- each by its lowest boundary end and its other end, in the order of these boundary ends
+-- the wires with a boundary end, each by its lowest one and its other end, in the order of these boundary ends
 abbrev pub over_of : MemberParts → List (ℕ × Joint)
 over_of m = filter is_from_lowest (enumerate_from 0 m.joints)
 
@@ -32,7 +32,7 @@ is_from_first (ToBoundary e, j) = false
 abbrev pub wires_at : ℕ × AgentParts → List (Joint × Joint)
 wires_at (k, a) = map (λ x. (ToAgent k x.0, x.1)) (enumerate_from 0 a.ends)
 
--- each from its first place, in the order of these places
+-- the wires within the agents, each from its first place, in the order of these places
 abbrev pub within_of : MemberParts → List (Joint × Joint)
 within_of m = filter is_from_first (flat_map wires_at (enumerate_from 0 m.agents))
 

@@ -1,4 +1,4 @@
-// Cells by their classes: which an agent takes, and how many are needed.
+// Cells by their classes: the class for an agent, and the numbers that are needed.
 ghost use Rattle.std.specs.Prelude.{◌≡◌, ◌≤◌, ◌<◌, ◌+◌, ◌^◌, ◌↔◌, IsTrue, length, max, MatchOption};
 ghost use Rattle.in_arena.specs.Arenas.{free_of};
 ghost use Rattle.in_symbols.specs.Tables.{IsSymbol};
@@ -17,7 +17,7 @@ fn is_above(free: u32, need: u32, floor: u32) -> bool
     u64::from(need) + u64::from(floor) <= u64::from(free)
 }
 
-/// Numbers of cells, one for each class: of those that an interaction needs, or of those that are free.
+/// Numbers of cells, one for each class: the numbers that an interaction needs, or the numbers of free cells.
 #[derive(Clone, Copy, Debug, PartialEq, Eq)]
 pub struct Need {
     pub small: u32,
@@ -28,7 +28,7 @@ pub struct Need {
 impl Need {
     ghost use Rattle.in_arena.specs.declared.content.CellClass.{CellClass};
 
-    /// As many of each class.
+    /// The same number for each class.
     pub fn each(count: u32) -> Need
         ensures { (c : CellClass) → count_of result c ≡ count }
     {
@@ -39,7 +39,7 @@ impl Need {
         }
     }
 
-    /// Of each class as many as the one that has more of it.
+    /// For each class, the greater of the two numbers.
     pub(crate) fn or_more(self, other: Need) -> Need
         ensures { (c : CellClass) → count_of result c ≡ max (count_of self c) (count_of other c) }
     {
@@ -50,7 +50,7 @@ impl Need {
         }
     }
 
-    /// How many cells of each class are free in an arena.
+    /// The number of free cells of each class in an arena.
     pub fn free_in(arena: &Arena) -> Need
         ensures { (c : CellClass) → count_of result c ≡ free_of arena.now c }
     {
@@ -69,7 +69,7 @@ impl Need {
         self.small.min(self.large).min(self.wide)
     }
 
-    /// Whether of each class these are as many as are needed, and `floor` besides.
+    /// Whether these are, for each class, at least as many as needed and `floor` more.
     pub fn has_besides(self, need: Need, floor: u32) -> bool
         ensures { IsTrue result ↔ ((c : CellClass) → floor + count_of need c ≤ count_of self c) }
     {
@@ -81,7 +81,7 @@ impl Need {
         true
     }
 
-    /// How many of this class.
+    /// The number for this class.
     pub fn of(self, class: CellClass) -> u32
         ensures { result ≡ count_of self class }
     {
@@ -113,7 +113,7 @@ pub fn is_of(symbols: &Symbols, class: CellClass, symbol: SymbolNo) -> bool
     class.holds(symbols.arity(symbol) as usize + 1)
 }
 
-/// How many agents of the net take a cell of this class. The net is as built: each of its numbers has an agent.
+/// The number of agents of the net that take a cell of this class. The net is as built: each of its numbers has an agent.
 fn agents_of(symbols: &Symbols, net: &Net, class: CellClass) -> u32
     requires over { IsOver symbols.now net.now }
     requires there { AreAllThere net.now }
@@ -130,7 +130,7 @@ fn agents_of(symbols: &Symbols, net: &Net, class: CellClass) -> u32
     count
 }
 
-/// How many cells of each class the agents of a net as built take.
+/// The number of cells of each class that the agents of a net as built take.
 pub fn need_of_net(symbols: &Symbols, net: &Net) -> Need
     requires over { IsOver symbols.now net.now }
     requires there { AreAllThere net.now }

@@ -43,7 +43,7 @@ fn start_of(alloc: Global, checked: &Checked) -> Result<Member, AllocError>
     member_of(alloc, checked.symbols(), checked.net())
 }
 
-/// Of each class, the most that a template needs.
+/// For each class, the most cells that a template needs.
 fn largest_need(templates: &[Template]) -> Need
     ensures { IsLargestNeed templates.now result }
 {

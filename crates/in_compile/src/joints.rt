@@ -1,4 +1,4 @@
-// Where the wires of a member lead.
+// The other ends of the wires of a member.
 ghost use Rattle.std.specs.Prelude.{◌≡◌};
 ghost use Rattle.in_compile.specs.Members.{joint_of};
 ghost use Rattle.in_compile.specs.Storing.{IsNarrow};
@@ -6,8 +6,8 @@ ghost use Rattle.in_compile.specs.Storing.{IsNarrow};
 use in_net::Point;
 use std::marker::Model;
 
-/// Where a wire of a member leads: to a place of one of its agents, by the agent's number and the place, the principal port being 0; or
-/// to a boundary end.
+/// The end of a wire of a member: a place of one of its agents, by the agent's number and the place, of which 0 is the principal port, or
+/// a boundary end.
 #[derive(Clone, Copy, Debug, PartialEq, Eq)]
 pub enum Joint {
     ToAgent(u32, u8),
@@ -15,7 +15,7 @@ pub enum Joint {
 }
 
 impl Joint {
-    /// Where the wire leads whose other point this is, in a net.
+    /// The joint for a point of a net.
     pub(crate) fn of(point: Point) -> Joint
         requires { IsNarrow point }
         ensures { result ≡ joint_of point }
@@ -27,7 +27,7 @@ impl Joint {
     }
 }
 
-/// In a joint's second word: it leads to a boundary end.
+/// The second word of a joint that leads to a boundary end.
 const AT_BOUNDARY: u32 = u32::MAX;
 
 /// A joint as it is stored: two words of one width, so that it is read and written as a whole. They are an agent's number and the place, or

@@ -3,27 +3,27 @@
 ghost use Rattle.in_compile.specs.Laws.{EachPairHasOneTemplate, TemplatesAreOne, TemplatesOfAreOne, LargestNeedsAreOne, WiresOverAreListed, WiresWithinAreListed, WiresAreListedOnce};
 ghost use Rattle.in_compile.specs.PlacingLaws.{MembersAreOne, MemberPutsAreOne, LeasingKeepsAll, GivingBackKeepsAll, AllGoBack, PlacingLosesNone, SettlingLosesNone, PlacingSharesOut, OtherBagsStay, SettledMembersStand};
 
-/// Of an accepted program, every two matching symbols have exactly one template, whichever is named first, and it is that of their rule.
+/// In an accepted program, every two matching symbols have exactly one template, in either order, and it is that of their rule.
 pub fn each_pair_has_one_template()
     ensures { EachPairHasOneTemplate }
 {}
 
-/// A rule has one template.
+/// A template is determined by its rule.
 pub fn templates_are_one()
     ensures { TemplatesAreOne }
 {}
 
-/// The templates of a program are one: the same ones by number and for each two symbols, and the same initial net.
+/// The templates of a program are determined: the same ones by number and for each two symbols, and the same initial net.
 pub fn templates_of_are_one()
     ensures { TemplatesOfAreOne }
 {}
 
-/// Templates have one largest need.
+/// The largest need is determined by the templates.
 pub fn largest_needs_are_one()
     ensures { LargestNeedsAreOne }
 {}
 
-/// A net has one member.
+/// A member is determined by its net.
 pub fn members_are_one()
     ensures { MembersAreOne }
 {}
@@ -43,12 +43,12 @@ pub fn wires_are_listed_once()
     ensures { WiresAreListedOnce }
 {}
 
-/// A member that is put into an arena makes one arena, where its agents get the same cells.
+/// The result of putting a member into an arena is determined by the cells that its agents get.
 pub fn puts_are_one()
     ensures { MemberPutsAreOne }
 {}
 
-/// Leasing into a stock loses no cell: of each class as many are free or held as before.
+/// Leasing into a stock loses no cell: each class has as many cells that are free or held as before.
 pub fn leasing_keeps_all()
     ensures { LeasingKeepsAll }
 {}
@@ -68,7 +68,7 @@ pub fn placing_loses_none()
     ensures { PlacingLosesNone }
 {}
 
-/// Nor does settling: once the rest of the stock is spent and the placed cells are settled, the arena has the placed agents, and is else as
+/// Nor does settling. Once the rest of the stock is spent and the placed cells are settled, the arena has the placed agents. All else in it is as
 /// before the stock was filled.
 pub fn settling_loses_none()
     ensures { SettlingLosesNone }
@@ -79,13 +79,13 @@ pub fn placing_shares_out()
     ensures { PlacingSharesOut }
 {}
 
-/// A bag of a stock or of placed cells stays one of its arena if that regains the cells of a bag that has none in common with it.
+/// A bag of a stock or of placed cells stays one of its arena if the arena regains the cells of another bag without a common cell.
 pub fn other_bags_stay()
     ensures { OtherBagsStay }
 {}
 
-/// A placed member that is settled is in the arena: its agents with their symbols and their inner wires, and at boundary ends the numbers of
-/// these.
+/// A placed member that is settled is in the arena: its agents with their symbols and their inner wires, and at boundary ends these ends'
+/// numbers.
 pub fn settled_members_stand()
     ensures { SettledMembersStand }
 {}

@@ -1,5 +1,5 @@
 //! Templates: the right members of an accepted program's rules and its initial net, in a form in which a machine over raw cells can place
-//! them without looking at nets. And the cells that agents take, which is all that has to be known before one is placed.
+//! them without looking at nets. Also the cells that agents take: a machine must know them before it places a template.
 //!
 //! A *member* is placed in cells: the right member of a rule, or the initial net, in a form that is placed without looking at nets. `cells` says
 //! which cells agents take, and how many a net needs (`Need`). `members` lays a member out: the other ends of its boundary ends, then agent after
@@ -7,8 +7,8 @@
 //! `Templates` borrows nothing of the program, so that threads can share it.
 //!
 //! `stock` holds leased cells, by class, over a bag; `placing` writes a member's agents into cells of a stock, end by end, and `placed`
-//! keeps which cells these are, so that placing takes no memory. A value `PlacedTemplate` keeps a template with its agents in leased
-//! cells, and that it is the template's right member, so that another thread can get it.
+//! has the numbers of these cells, so that placing takes no memory. A value `PlacedTemplate` has a template and its right member in leased
+//! cells, so that another thread can get both.
 #![tactic(auto)]
 
 mod cells;

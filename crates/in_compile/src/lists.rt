@@ -7,8 +7,8 @@ use crate::cells::Need;
 use in_arena::{CellClass, CellNo};
 use std::alloc::{AllocError, Global};
 
-/// Numbers of cells, in a list for each class, with room for a given number of them. That a class has its list is said in this file and
-/// nowhere else.
+/// Numbers of cells, in a list for each class, with room for a given number of them. Only this file depends on there being a list for each
+/// class.
 #[derive(Drop)]
 pub(crate) struct Lists {
     small: Vec<CellNo>,
@@ -19,7 +19,7 @@ pub(crate) struct Lists {
 impl Lists {
     ghost use Rattle.in_arena.specs.declared.content.CellClass.{CellClass};
 
-    /// Empty lists, each with room for as many as `room` has of its class.
+    /// Empty lists, each with room for the number that `room` has for its class.
     pub(crate) fn with_room(alloc: Global, room: Need) -> Result<Lists, AllocError>
         ensures { IfOk result (λ l. ((c : CellClass) → listed l c ≡ []) × (room_of l ≡ room)) }
     {
@@ -30,7 +30,7 @@ impl Lists {
         })
     }
 
-    /// How many of this class there are.
+    /// The count of numbers of this class.
     pub(crate) fn len(&self, class: CellClass) -> usize
         ensures { result ≡ length (listed self.now class) }
     {
@@ -41,7 +41,7 @@ impl Lists {
         }
     }
 
-    /// Adds one of this class.
+    /// Adds a number of this class.
     #[inline(always)]
     pub(crate) fn push(&mut self, class: CellClass, cell: CellNo)
         requires { length (listed self.old class) < count_of (room_of self.old) class }
@@ -54,7 +54,7 @@ impl Lists {
         }
     }
 
-    /// Takes out the last one of this class.
+    /// Takes out the last number of this class.
     #[inline(always)]
     pub(crate) fn take(&mut self, class: CellClass) -> CellNo
         requires { 0 < length (listed self.old class) }

@@ -21,7 +21,7 @@ pub(crate) struct MemberAgent {
 }
 
 /// The right member of a rule or the initial net of a program, as a machine over cells places it: its agents with their numbers in the
-/// net, where the wires at their places and at the boundary ends lead, and the active pairs among them. Boundary ends are the net's free
+/// net, the other ends of the wires at their places and at the boundary ends, and the active pairs among them. Boundary ends are the net's free
 /// ends, by their numbers from 0.
 ///
 /// Its first 64 bytes have all that a machine reads of it at each interaction.
@@ -55,14 +55,14 @@ impl Member {
         use_invariant!(self.agents);
     }
 
-    /// How many cells of each class its agents take.
+    /// The number of cells of each class that its agents take.
     pub fn need(&self) -> Need
         ensures { result ≡ self.now.need }
     {
         self.need
     }
 
-    /// How many agents it has. They are numbered from 0, as in the net.
+    /// The number of its agents. They are numbered from 0, as in the net.
     pub fn agents(&self) -> u32
         ensures { result ≡ length self.now.agents }
     {
@@ -85,7 +85,7 @@ impl Member {
         self.agents.as_slice()[agent as usize].class
     }
 
-    /// How many places this agent has, its principal port among them.
+    /// The number of places of this agent, its principal port among them.
     pub fn places(&self, agent: u32) -> u8
         requires { agent < length self.now.agents }
         ensures { places_at self.now agent ≡ Some result }
@@ -93,7 +93,7 @@ impl Member {
         self.agents.as_slice()[agent as usize].places
     }
 
-    /// Where the wire at this place of this agent leads, the principal port being place 0.
+    /// The other end of the wire at this place of this agent. The principal port is place 0.
     pub fn end(&self, agent: u32, place: u8) -> Joint
         requires { IsPlaceOf self.now agent place }
         ensures { joint_at self.now (ToAgent agent place) ≡ Some result }
@@ -102,14 +102,14 @@ impl Member {
         self.joints.as_slice()[first as usize + place as usize].joint()
     }
 
-    /// How many boundary ends it has.
+    /// The number of its boundary ends.
     pub fn boundary_ends(&self) -> u32
         ensures { result ≡ length self.now.joints }
     {
         u32::from(self.boundary)
     }
 
-    /// Where the wire at this boundary end leads.
+    /// The other end of the wire at this boundary end.
     pub fn joint(&self, end: u8) -> Joint
         requires { end < length self.now.joints }
         ensures { joint_at self.now (ToBoundary end) ≡ Some result }
@@ -117,7 +117,7 @@ impl Member {
         self.joints.as_slice()[end as usize].joint()
     }
 
-    /// How many active pairs its agents are.
+    /// The number of active pairs among its agents.
     pub fn pairs(&self) -> u32
         ensures { result ≡ length self.now.pairs }
     {

@@ -25,7 +25,7 @@ use in_symbols::Symbols;
 use sqlite_items::Items;
 use std::alloc::{AllocError, Global};
 
-/// Adds where the wires lead whose other points these are.
+/// Adds the joints for these points.
 fn add_joints(joints: &mut Items<StoredJoint>, points: &[Point]) -> Result<(), AllocError>
     requires { AreNarrow points.now }
     ensures { OnOk result (joints.new ≡ joints.old ++ map joint_of points.now) }
@@ -36,7 +36,7 @@ fn add_joints(joints: &mut Items<StoredJoint>, points: &[Point]) -> Result<(), A
     Ok(())
 }
 
-/// Where the wires at the boundary ends lead.
+/// The other ends of the wires at the boundary ends.
 fn boundary_joints(alloc: Global, net: &Net) -> Result<Items<StoredJoint>, AllocError>
     requires { IsWhole net.now }
     ensures { IfOk result (λ js. js ≡ map (λ f. joint_of f.end) net.now.free) }
@@ -104,7 +104,7 @@ fn add_agents(
     Ok(())
 }
 
-/// The active pairs that a net holds itself, in the order of their wires.
+/// The active pairs of a net, in the order of their wires.
 fn own_pairs(alloc: Global, symbols: &Symbols, net: &Net) -> Result<Items<(u32, u32)>, AllocError>
     requires over { IsOver symbols.now net.now }
     requires whole { IsWhole net.now }
@@ -120,7 +120,7 @@ fn own_pairs(alloc: Global, symbols: &Symbols, net: &Net) -> Result<Items<(u32, 
     Ok(pairs)
 }
 
-/// The member that is a net, which is over these tables and as it was built.
+/// The member of a net that is over these tables and as it was built.
 pub(crate) fn member_of(alloc: Global, symbols: &Symbols, net: &Net) -> Result<Member, AllocError>
     requires over { IsOver symbols.now net.now }
     requires there { AreAllThere net.now }
@@ -141,7 +141,7 @@ pub(crate) fn member_of(alloc: Global, symbols: &Symbols, net: &Net) -> Result<M
     })
 }
 
-/// The template of a rule, which is over these tables and as it was built.
+/// The template of a rule that is over these tables and as it was built.
 pub(crate) fn template(
     alloc: Global,
     symbols: &Symbols,

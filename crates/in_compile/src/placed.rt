@@ -12,7 +12,7 @@ use in_base::use_promise;
 use std::alloc::{AllocError, Global};
 use std::marker::Model;
 
-/// The agents of a member in leased cells: which cell each has, and the cells. It is kept from one member to the next, so that placing takes
+/// The agents of a member in leased cells: the number of each agent's cell, and the cells. It is kept from one member to the next, so placing takes
 /// no memory; after `settle` it has no cells, but still has their numbers.
 #[derive(Drop)]
 pub struct Placed {
@@ -45,7 +45,7 @@ fn settle_all(numbers: &[CellNo], bag: &mut Bag, arena: &mut Arena)
     }
 }
 
-/// The cells of a bag are free.
+/// Frees the cells of a bag.
 fn free_all(numbers: &[CellNo], bag: &mut Bag, arena: &mut Arena)
     requires of { IsBagOf bag.old arena.old }
     requires all { HasAllCells arena.old }
@@ -59,7 +59,7 @@ fn free_all(numbers: &[CellNo], bag: &mut Bag, arena: &mut Arena)
 }
 
 impl Placed {
-    /// Nothing yet, of this arena, with room for `room` agents. Refused only when out of memory.
+    /// No cells yet, of this arena, with room for `room` agents. It is refused only when out of memory.
     pub fn empty(alloc: Global, arena: &Arena, room: u32) -> Result<Placed, AllocError>
         ensures { IfOk result (λ p. p ≡ record { cells = []; bag = empty_bag arena.now; room = room }) }
     {
@@ -70,7 +70,7 @@ impl Placed {
         })
     }
 
-    /// How many agents it has.
+    /// The number of its agents.
     pub fn agents(&self) -> u32
         ensures { result ≡ length self.now.cells }
     {
@@ -85,7 +85,7 @@ impl Placed {
         self.numbers[agent as usize]
     }
 
-    /// Its cells become the arena's, live with their content. From then on it has none, but still their numbers. It takes no memory.
+    /// Makes its cells live with their content. Afterwards it has no cells, but still their numbers. It takes no memory.
     pub fn settle(&mut self, arena: &mut Arena)
         requires of { IsBagOf self.old.bag arena.old }
         requires written { AreWritten self.old.bag self.old.cells }
@@ -98,7 +98,7 @@ impl Placed {
         settle_all(numbers.as_slice(), bag, arena);
     }
 
-    /// Its cells are free. It has none from then on. It takes no memory.
+    /// Frees its cells. Afterwards it has none. It takes no memory.
     pub fn spend(&mut self, arena: &mut Arena)
         requires of { IsBagOf self.old.bag arena.old }
         requires cells { AreCellsOf self.old.bag self.old.cells }

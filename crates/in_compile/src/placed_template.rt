@@ -18,7 +18,7 @@ use in_arena::{Arena, CellNo};
 use in_base::use_invariant;
 use std::marker::Model;
 
-/// A template with its right member in leased cells, all of it and nothing else, so that no caller has to show that the two belong together.
+/// A template with its right member in leased cells, all of it and nothing else, so that no caller has to show that they belong together.
 /// It must be settled or spent, as `Placed` must: both give back the room that it was placed in.
 #[derive(Drop)]
 pub struct PlacedTemplate<'a> {
@@ -69,7 +69,7 @@ impl<'a> PlacedTemplate<'a> {
         self.template
     }
 
-    /// How many agents it has: each agent of the template has a cell.
+    /// The number of its agents: each agent of the template has a cell.
     pub fn agents(&self) -> u32
         ensures cells { result ≡ length self.now.placed.cells }
         ensures template { result ≡ length self.now.template.member.agents }
@@ -85,7 +85,7 @@ impl<'a> PlacedTemplate<'a> {
         self.placed.cell(agent)
     }
 
-    /// Where the wire at this boundary end of the template leads.
+    /// The other end of the wire at this boundary end of the template.
     pub fn joint(&self, end: u8) -> Joint
         requires { end < length self.now.template.member.joints }
         ensures { joint_at self.now.template.member (ToBoundary end) ≡ Some result }
@@ -93,7 +93,7 @@ impl<'a> PlacedTemplate<'a> {
         self.template.joint(end)
     }
 
-    /// Its cells become the arena's, live with their content. The returned room has no cells, but still their numbers, and can be placed into
+    /// Makes its cells live with their content. The returned room has no cells, but still their numbers, and can be placed into
     /// again. It takes no memory.
     pub fn settle(self, arena: &mut Arena) -> Placed
         requires { IsBagOf self.placed.bag arena.old }
@@ -109,7 +109,7 @@ impl<'a> PlacedTemplate<'a> {
         placed
     }
 
-    /// Its cells become free. The returned room is as after `settle`. It takes no memory.
+    /// Frees its cells. The returned room is as after `settle`. It takes no memory.
     pub fn spend(self, arena: &mut Arena) -> Placed
         requires { IsBagOf self.placed.bag arena.old }
         ensures arena { Regains (λ _. Vacant) arena.old self.entry.placed.bag arena.new }

@@ -17,7 +17,7 @@ use crate::placed::Placed;
 use crate::stock::Stock;
 use in_arena::{Bag, CellNo, End};
 
-/// The end that a joint is, where the agents have these cells.
+/// The end for a joint, if the agents have these cells.
 #[inline(always)]
 pub(crate) fn end_of(numbers: &[CellNo], joint: Joint) -> End
     requires { IsInside (length numbers.now) joint }
@@ -78,7 +78,7 @@ fn write_agents(member: &Member, numbers: &[CellNo], bag: &mut Bag)
     }
 }
 
-/// Places a member: each of its agents in a cell of the stock, with its wires to others of its agents and, at boundary ends, these ends'
+/// Places a member: each of its agents in a cell of the stock, with its wires to other agents of the member and, at boundary ends, these ends'
 /// numbers. The stock has to hold the member's need; `placed` has to have no cells, to be of the stock's arena, and to have room for the
 /// member's agents. It takes no memory.
 pub fn place_into(member: &Member, stock: &mut Stock, placed: &mut Placed)

@@ -15,8 +15,8 @@ use crate::placing::end_of;
 use in_arena::{Arena, CellNo};
 
 impl Member {
-    /// Begins a cell for the agent of that number: one of its class that was free is live with its symbol and its places. What these lead to is
-    /// open. One has to be free.
+    /// Makes a free cell live for the agent of that number: a cell of its class, with its symbol and its places, whose ends are open. Such a cell has
+    /// to be free.
     #[inline(always)]
     pub fn begin(&self, agent: u32, arena: &mut Arena) -> CellNo
         requires there { agent < length self.now.agents }
@@ -33,7 +33,7 @@ impl Member {
         cell
     }
 
-    /// The same once a live cell is free, which that agent then has where it is one of its class.
+    /// The same once a live cell is freed: the agent gets this cell if it is one of its class.
     #[inline(always)]
     pub fn begin_in(&self, agent: u32, cell: CellNo, arena: &mut Arena) -> CellNo
         requires there { agent < length self.now.agents }
@@ -52,7 +52,7 @@ impl Member {
     }
 }
 
-/// A cell for each agent.
+/// Begins a cell for each agent.
 #[inline(always)]
 fn begin_all(member: &Member, arena: &mut Arena, numbers: &mut Vec<CellNo>)
     requires none { numbers.old.items ≡ [] }
@@ -97,9 +97,9 @@ fn write_all(member: &Member, numbers: &[CellNo], arena: &mut Arena)
 }
 
 impl Placed {
-    /// Puts a member into free cells of an arena: each agent in a cell of its class, with its wires to others of its agents and, at boundary
-    /// ends, the numbers of these. The cells are the arena's, and it tells which they are. Of each class as many cells have to be free as the
-    /// member needs, and there has to be room for its agents. It takes no memory.
+    /// Puts a member into free cells of an arena: each agent in a cell of its class, with its wires to other agents of the member and, at boundary
+    /// ends, these ends' numbers. It keeps the numbers of the cells, which are the arena's. Each class must have as many free cells as the
+    /// member needs, and there must be room for its agents. It takes no memory.
     #[inline(always)]
     pub fn put(&mut self, member: &Member, arena: &mut Arena)
         requires free { IsEnough (count_of member.now.need) (free_of arena.old) }

@@ -37,7 +37,7 @@ impl Model for Stock {
     ghost invariant = { IsStock };
 }
 
-/// Leases `count` cells of a class, which are free and for which there is room.
+/// Leases `count` cells of a class. They must be free, and there must be room for them.
 fn lease_more(lists: &mut Lists, bag: &mut Bag, arena: &mut Arena, class: CellClass, count: u32)
     requires listing { IsListing bag.old (listed lists.old) }
     requires of { IsBagOf bag.old arena.old }
@@ -58,7 +58,7 @@ fn lease_more(lists: &mut Lists, bag: &mut Bag, arena: &mut Arena, class: CellCl
     }
 }
 
-/// Gives all cells of a class back: they are free.
+/// Frees all its cells of a class.
 fn give_back(lists: &mut Lists, bag: &mut Bag, arena: &mut Arena, class: CellClass)
     requires listing { IsListing bag.old (listed lists.old) }
     requires of { IsBagOf bag.old arena.old }
@@ -77,7 +77,7 @@ fn give_back(lists: &mut Lists, bag: &mut Bag, arena: &mut Arena, class: CellCla
 }
 
 impl Stock {
-    /// Holds no cell, is of this arena, and has room for as many of each class as `room` says. Refused only when out of memory.
+    /// A stock of this arena without cells, with room for as many of each class as `room` says. It is refused only when out of memory.
     pub fn empty(alloc: Global, arena: &Arena, room: Need) -> Result<Stock, AllocError>
         ensures { IfOk result (λ s. s ≡ empty_stock arena.now room) }
     {
@@ -128,7 +128,7 @@ impl Stock {
         need.wide as usize <= self.lists.len(CellClass::Wide)
     }
 
-    /// Takes a cell of this class out, for a bag that has none of the stock's.
+    /// Moves a cell of this class to a bag that has none of the stock's cells.
     #[inline(always)]
     pub(crate) fn take(&mut self, class: CellClass, bag: &mut Bag) -> CellNo
         requires some { 0 < held self.old class }
@@ -142,7 +142,7 @@ impl Stock {
         cell
     }
 
-    /// Gives all its cells back: they are free. It has to be of this arena. It takes no memory.
+    /// Frees all its cells. It has to be of this arena. It takes no memory.
     pub fn spend(self, arena: &mut Arena)
         requires { IsStockOf self arena.old }
         ensures { Regains (λ _. Vacant) arena.old self.bag arena.new }

@@ -15,7 +15,7 @@ use in_symbols::SymbolNo;
 use sqlite_items::Items;
 use std::marker::Model;
 
-/// The right member of a rule, with what joins it in the place of the rule's active pair: its boundary ends are the auxiliary ports of the
+/// The right member of a rule, with the data that join it in the place of the rule's active pair: its boundary ends are the auxiliary ports of the
 /// rule's two symbols, those of the first one first.
 #[derive(Drop)]
 pub struct Template {
@@ -28,7 +28,7 @@ pub struct Template {
     pub(crate) outputs: Items<bool>,
 }
 
-// Contracts see its fields, and of the lists of wires that its member has them.
+// Contracts see its fields. Of the lists of wires they see only that these are its member's.
 impl Model for Template {
     ghost use Rattle.in_compile.specs.Templates.{TemplateParts};
     ghost use Rattle.in_compile.specs.TemplateInside.{IsTemplate};
@@ -48,7 +48,7 @@ impl Template {
         self.heads
     }
 
-    /// Its boundary ends and its agents are few, so that each has a slot of its own, for proofs. The call does nothing.
+    /// Its boundary ends and its agents are few enough that each has its own slot, for proofs. The call does nothing.
     pub fn is_small(&self)
         ensures ends { length self.now.member.joints ≤ first_agent_slot }
         ensures agents { length self.now.member.agents ≤ max_member_agents }
@@ -63,14 +63,14 @@ impl Template {
         &self.member
     }
 
-    /// How many cells of each class its agents take.
+    /// The number of cells of each class that its agents take.
     pub fn need(&self) -> Need
         ensures { result ≡ self.now.member.need }
     {
         self.member.need()
     }
 
-    /// How many agents it has, at most `in_net::MAX_MEMBER_AGENTS`. They are numbered from 0, as in the right member.
+    /// The number of its agents, at most `in_net::MAX_MEMBER_AGENTS`. They are numbered from 0, as in the right member.
     pub fn agents(&self) -> u32
         ensures { result ≡ length self.now.member.agents }
     {
@@ -93,7 +93,7 @@ impl Template {
         self.member.class(agent)
     }
 
-    /// How many places this agent has, its principal port among them.
+    /// The number of places of this agent, its principal port among them.
     pub fn places(&self, agent: u32) -> u8
         requires { agent < length self.now.member.agents }
         ensures { places_at self.now.member agent ≡ Some result }
@@ -101,7 +101,7 @@ impl Template {
         self.member.places(agent)
     }
 
-    /// Where the wire at this place of this agent leads, the principal port being place 0.
+    /// The other end of the wire at this place of this agent. The principal port is place 0.
     pub fn end(&self, agent: u32, place: u8) -> Joint
         requires { IsPlaceOf self.now.member agent place }
         ensures { joint_at self.now.member (ToAgent agent place) ≡ Some result }
@@ -109,14 +109,14 @@ impl Template {
         self.member.end(agent, place)
     }
 
-    /// How many boundary ends it has: the auxiliary ports of its two symbols.
+    /// The number of its boundary ends: the auxiliary ports of its two symbols.
     pub fn boundary_ends(&self) -> u8
         ensures { result ≡ length self.now.member.joints }
     {
         self.member.boundary_ends() as u8
     }
 
-    /// How many of these are ports of its first symbol: they come first, in the order of their places.
+    /// The number of boundary ends that are ports of its first symbol: they come first, in the order of their places.
     pub fn first_ends(&self) -> u8
         ensures { result ≡ self.now.first_ends }
     {
@@ -131,7 +131,7 @@ impl Template {
         self.unmarked
     }
 
-    /// Whether the port of this boundary end is an output of the rule's pair. Its partner is an input then, else an output.
+    /// Whether the port of this boundary end is an output of the rule's pair. Its partner is then an input, otherwise an output.
     #[inline(always)]
     pub fn is_output(&self, end: u8) -> bool
         requires { end < length self.now.outputs }
@@ -140,7 +140,7 @@ impl Template {
         self.outputs.as_slice()[end as usize]
     }
 
-    /// Where the wire at this boundary end leads.
+    /// The other end of the wire at this boundary end.
     pub fn joint(&self, end: u8) -> Joint
         requires { end < length self.now.member.joints }
         ensures { joint_at self.now.member (ToBoundary end) ≡ Some result }
@@ -148,7 +148,7 @@ impl Template {
         self.member.joint(end)
     }
 
-    /// The wires that have a boundary end, each once, by its lowest boundary end and where it leads from there, in the order of these ends.
+    /// The wires that have a boundary end, each once, by its lowest boundary end and its other end, in the order of these boundary ends.
     #[inline(always)]
     pub fn over(&self) -> &[OverWire]
         ensures { result.now ≡ over_of self.now.member }
@@ -164,7 +164,7 @@ impl Template {
         self.within.as_slice()
     }
 
-    /// How many active pairs its agents are.
+    /// The number of active pairs among its agents.
     pub fn pairs(&self) -> u32
         ensures { result ≡ length self.now.member.pairs }
     {

@@ -20,7 +20,7 @@ pub struct Templates {
     pub(crate) largest: Need,
 }
 
-// Contracts see the templates, how they are found, and the net. The largest need is kept, so that it is looked for once.
+// Contracts see the templates, how they are found, and the net. The largest need is kept, so that it is computed once.
 impl Model for Templates {
     ghost use Rattle.in_compile.specs.Templates.{TemplatesParts, IsLargestNeed};
 
@@ -32,7 +32,7 @@ impl Model for Templates {
 }
 
 impl Templates {
-    /// The template of the rule of two symbols, whichever is named first. There has to be a rule for the two, as there is for each two
+    /// The template of the rule of two symbols, in either order. There has to be a rule for the two, as there is for each two
     /// symbols that match.
     pub fn of(&self, c: SymbolNo, d: SymbolNo) -> &Template
         requires { IsSome (template_at self.now c.0 d.0) }
@@ -49,7 +49,7 @@ impl Templates {
         &self.start
     }
 
-    /// Of each class, as many cells as the template needs that needs most of them; 0 where there are no templates.
+    /// For each class, the most cells that a template needs; 0 if there are no templates.
     pub fn largest_need(&self) -> Need
         ensures { IsLargestNeed self.now.templates result }
     {

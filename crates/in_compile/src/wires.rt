@@ -1,4 +1,4 @@
-// The wires of a right member, as a machine goes over them.
+// The wires of a right member, in the order in which a machine writes them.
 ghost use Rattle.std.specs.Prelude.{◌≡◌, ◌++◌, ◌<◌, ◌≤◌, length, Some, slice_get, IfOk, OnOk};
 ghost use Rattle.std.specs.List.{filter};
 ghost use Rattle.in_syntax.specs.Grammar.{max_ports};
@@ -16,7 +16,7 @@ use std::marker::Model;
 /// The slot of agent 0. Those before it are for boundary ends: a pair has at most 32 auxiliary ports.
 pub const FIRST_AGENT_SLOT: u8 = 32;
 
-/// Where a wire of a right member leads, in two bytes: a slot, which is a boundary end's number or `FIRST_AGENT_SLOT` and the agent's number,
+/// An end of a wire of a right member, in two bytes: a slot, which is a boundary end's number or `FIRST_AGENT_SLOT` and the agent's number,
 /// and the place in it, which is 0 at a boundary end. So a machine that keeps its cells by slots finds the wire's end without a test.
 #[derive(Drop)]
 pub struct SmallJoint {
@@ -72,7 +72,7 @@ impl SmallJoint {
     }
 }
 
-/// A wire of a right member that has a boundary end: the lowest one, and where the wire leads from there.
+/// A wire of a right member that has a boundary end: the lowest one, and the wire's other end.
 #[derive(Drop)]
 pub struct OverWire {
     end: u8,
@@ -101,7 +101,7 @@ impl OverWire {
         self.end
     }
 
-    /// The slot to which it leads from there, below 96.
+    /// The slot of the wire's other end, below 96.
     #[inline(always)]
     pub fn slot(&self) -> u8
         ensures slot { result ≡ slot_of self.now.1 }
@@ -144,7 +144,7 @@ impl WithinWire {
         &self.one
     }
 
-    /// The place to which it leads from there.
+    /// The place at the wire's other end.
     #[inline(always)]
     pub fn other(&self) -> &SmallJoint
         ensures { result.now ≡ self.now.1 }
@@ -153,7 +153,7 @@ impl WithinWire {
     }
 }
 
-/// Whether the wire that leads there from this boundary end leads to no lower one.
+/// Whether the wire from this boundary end to that joint has no lower boundary end.
 fn starts_lowest(end: u8, to: Joint) -> bool
     ensures { result ≡ is_from_lowest (end, to) }
 {
@@ -163,7 +163,7 @@ fn starts_lowest(end: u8, to: Joint) -> bool
     }
 }
 
-/// Whether the wire that leads there from this place of this agent leads to a later place of an agent.
+/// Whether the wire from this place of this agent to that joint leads to a later place of an agent.
 fn starts_first(agent: u32, place: u8, to: Joint) -> bool
     ensures { result ≡ is_from_first (ToAgent agent place, to) }
 {

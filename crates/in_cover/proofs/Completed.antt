@@ -1,4 +1,4 @@
--- Where the table holds all rules and has no gap, the rules are complete; else the first gap is the first pair without a rule.
+-- If the table holds all rules and has no gap, the rules are complete; otherwise the first gap is the first pair without a rule.
 use Rattle.std.proofs.Common.{◌≡◌, ◌⊎◌, ℕ, ◌<◌, ◌≤◌, Bool, true, false, nat_eq, ◌&&◌, List, length, Option, Some, None, IsSome, refl, sym, ◌∙◌, ap, subst, inl, inr, arith}
 use Rattle.std.specs.List.{AllByRecursion}
 use Rattle.std.proofs.lemmas.Bool.{cases_lt, cases_order, and_parts}

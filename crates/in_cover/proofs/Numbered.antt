@@ -35,7 +35,7 @@ written_as r x y = is_for_by r x y (cases_eq r.heads.0.0 x) (cases_eq r.heads.1.
 
 -- ---- one more rule
 
--- what the table has for two symbols, when the rule's number is written at its symbols in both orders
+-- the table's rule for two symbols, when the rule's number is written at its symbols in both orders
 read_by : (r : RuleParts) (old new : Cells) (k : RuleNo) → SetsBoth old r.heads.0.0 r.heads.1.0 k new → (x y : ℕ) →
     ((r.heads.0.0 ≡ x) × (r.heads.1.0 ≡ y)) ⊎ ((r.heads.0.0 ≡ x) × (r.heads.1.0 ≡ y) → ⊥) → ((r.heads.0.0 ≡ y) × (r.heads.1.0 ≡ x)) ⊎ ((r.heads.0.0 ≡ y) × (r.heads.1.0 ≡ x) → ⊥) →
     (IsRuleOfSymbols r x y × (rule_at new x y ≡ Some k)) ⊎ ((IsRuleOfSymbols r x y → ⊥) × (rule_at new x y ≡ rule_at old x y))
@@ -84,7 +84,7 @@ module _ (rules : List RuleParts) (i : ℕ) (r : RuleParts) (old new : Cells) (s
   pub one_more : HoldsBelow rules (i + 1) new
   one_more = λ x y k. ((λ e. to_rule x y k (read r old new (record { 0 = i }) both x y) e), (λ h. new_rule x y k (read r old new (record { 0 = i }) both x y) (cases_lt k.0 i) h.0 h.1))
 
--- ---- whether it is a second one
+-- ---- a rule is a second one or not
 
 second_of : (rules : List RuleParts) (i : ℕ) (r : RuleParts) (table : Cells) → slice_get rules i ≡ Some r → HoldsBelow rules i table → (o : Option RuleNo) → rule_at table r.heads.0.0 r.heads.1.0 ≡ o → IsSome o → IsSecond rules i
 second_of rules i r table stands holds None is some = cc

@@ -18,7 +18,7 @@ inside_by n c d cells true false p q lt lt' = absurd (omega (arith, ltb-false d 
 pub inside : (n c d : ℕ) (cells : List (Option RuleNo)) → c < n → d < n → rule_at (square n cells) c d ≡ slice_index_or cells (c * n + d) None
 inside n c d cells lt lt' = inside_by n c d cells (nat_lt c n) (nat_lt d n) refl refl lt lt'
 
--- where it is without a cell, there is no rule
+-- if it has no cell, there is no rule
 both_by : {X : Type 0} (n c d : ℕ) (o p : Option X) → (c < n → d < n → o ≡ p) → (a b : Bool) → nat_lt c n ≡ a → nat_lt d n ≡ b → (if a && b then o else None) ≡ (if a && b then p else None)
 both_by n c d o p same true true e f = same (ltb-true c n e) (ltb-true d n f)
 both_by n c d o p same false b e f = refl
@@ -36,7 +36,7 @@ sets n c d cells k is lt lt' = record {
       (λ in_x in_y. get_or-set_other cells (c * n + d) (x * n + y) (Some k) None (λ e. apart (same_from_place x y c d n in_y lt' e)));
 }
 
--- the same, where the cell was found and written
+-- the same, if the cell was found and written
 pub sets_cell : (table : Cells) (n c d cell : ℕ) (cells written : List (Option RuleNo)) (k : RuleNo) → square n cells ≡ table → length cells ≡ n * n → c < table.size → d < table.size → cell ≡ c * table.size + d →
     written ≡ set cells cell (Some k) → Sets table c d k (square n written)
 sets_cell table n c d cell cells written k is long lt lt' number e =

@@ -1,5 +1,5 @@
 -- One rule for each pair. Lafont 1990: there is one rule for each constructor and destructor of one type, and at most one rule for
--- two symbols, whichever of them is written first. The codes, the places and which fault is the first are this project's own choice.
+-- two symbols, in either order. The codes, the places and the choice of the first fault are this project's own.
 use Rattle.std.specs.Prelude.{◌≡◌, ◌⊎◌, ◌↔◌, ℕ, ◌<◌, ◌≤◌, true, List, Some, IsSome, Result, Ok, Err, slice_get}
 use Rattle.in_syntax.specs.Refusals.{refusal_of}
 use Rattle.in_syntax.specs.declared.faults.Code.TheVariants.{E14, E15}
@@ -48,7 +48,7 @@ pub record IsTableOf (t : Tables) (rules : List RuleParts) (table : Cells) : Typ
 
 -- ---- a second rule
 
--- the rule of that number is for two symbols for which an earlier one is
+-- the rule of that number is for two symbols that have an earlier rule
 pub record IsSecond (rules : List RuleParts) (k : ℕ) : Type 0 where
   pub c : ℕ
   pub d : ℕ
@@ -60,7 +60,7 @@ pub record IsSecond (rules : List RuleParts) (k : ℕ) : Type 0 where
 abbrev pub HasNoSecond : List RuleParts → Type 0
 HasNoSecond rules = (k : ℕ) → IsSecond rules k → ⊥
 
--- at the name of the rule's first head
+-- the refusal of a second rule, at the name of its first head
 abbrev pub second_at : RuleParts → Refusal
 second_at r = refusal_of E14 (place_of_head r 0)
 
@@ -81,13 +81,13 @@ pub record IsMissing (t : Tables) (rules : List RuleParts) (later earlier : ℕ)
   pub declared : earlier < later
   pub unruled : (k : ℕ) → IsRuleFor rules k later earlier → ⊥
 
--- at the later declared name, with the place of the other
+-- the refusal is at the later declared name, with the place of the other
 pub record IsMissingAt (t : Tables) (later earlier : ℕ) (refusal : Refusal) : Type 0 where
   pub code : refusal.code ≡ E15
   pub place : Some refusal.place ≡ place_of t later
   pub other : refusal.other ≡ place_of t earlier
 
--- the one whose later name is declared first, and of these the one whose earlier name is
+-- the refusal is for the pair whose later name is declared first, and among these for the pair whose earlier name is
 pub record IsFirstMissing (t : Tables) (rules : List RuleParts) (refusal : Refusal) : Type 0 where
   pub later : ℕ
   pub earlier : ℕ
@@ -95,13 +95,13 @@ pub record IsFirstMissing (t : Tables) (rules : List RuleParts) (refusal : Refus
   pub first : (c d : ℕ) → IsMissing t rules c d → (later < c) ⊎ ((later ≡ c) × (earlier ≤ d))
   pub refused : IsMissingAt t later earlier refusal
 
--- ---- what is answered
+-- ---- results
 
--- what is answered on rules over tables
+-- a relation between tables, rules and the result of covering them
 abbrev pub RulesAnswer : Type 1
 RulesAnswer = Tables → List RuleParts → Result Cells Fault → Type 0
 
--- Ok exactly when the rules are complete, and then the table is theirs; else refused for the first second rule, or, if there is none, for the first
+-- Ok exactly when the rules are complete, with their table; otherwise the refusal of the first second rule, or, if there is none, of the first
 -- pair without a rule
 abbrev pub Covers : RulesAnswer
 Covers t rules (Ok table) = IsComplete t rules × IsTableOf t rules table

@@ -12,13 +12,13 @@ pub record HasNoRule (size : ℕ) (t : Cells) : Type 0 where
   pub size_is : t.size ≡ size
   pub nothing : (c d : ℕ) → rule_at t c d ≡ None
 
--- one cell is written
+-- the table has this number in the cell of these two symbols, and is otherwise as it was
 pub record Sets (old : Cells) (c d : ℕ) (k : RuleNo) (new : Cells) : Type 0 where
   pub size : new.size ≡ old.size
   pub here : rule_at new c d ≡ Some k
   pub elsewhere : (x y : ℕ) → ((x ≡ c) × (y ≡ d) → ⊥) → rule_at new x y ≡ rule_at old x y
 
--- both orders are written
+-- .. in the cells of both orders
 pub record SetsBoth (old : Cells) (c d : ℕ) (k : RuleNo) (new : Cells) : Type 0 where
   pub size : new.size ≡ old.size
   pub here : rule_at new c d ≡ Some k

@@ -1,4 +1,4 @@
--- How the number of a rule is stored, or that there is none, in one word. No contract of a public call speaks of it. This project's own choice.
+-- How a word stores the number of a rule, or that there is none. No contract of a public call speaks of it. This project's own choice.
 use Rattle.std.specs.Prelude.{◌≡◌, ℕ, nat_eq, cond, Option, Some, None}
 use Rattle.std.proofs.Common.{inl, inr, ap, sym, ◌∙◌}
 use Rattle.std.proofs.lemmas.Bool.Decides.{eqb_tells}

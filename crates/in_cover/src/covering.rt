@@ -11,7 +11,7 @@ use in_symbols::{SymbolNo, Symbols};
 use in_syntax::{Code, Fault, Refusal};
 use std::alloc::Global;
 
-/// Notes the rule for its two symbols, and says whether there was none for them. Where there was one, nothing changes.
+/// Writes the rule's number for its two symbols, and returns true, if they had none. Otherwise nothing changes, and it returns false.
 fn add(table: &mut RuleTable, number: RuleNo, rule: &Rule) -> bool
     requires first { rule.now.heads.0.0 < table.old.size }
     requires second { rule.now.heads.1.0 < table.old.size }

@@ -60,7 +60,7 @@ impl RuleWord {
         }
     }
 
-    /// The number of a rule that is there.
+    /// The number of the rule that the word has.
     fn known(self) -> RuleNo
         requires { IsSome self }
         ensures { self ≡ Some result }
@@ -101,7 +101,7 @@ impl RuleTable {
         })
     }
 
-    /// The same table once more. Refused only when out of memory.
+    /// A copy of the table. Refused only when out of memory.
     pub fn copy(&self, alloc: Global) -> Result<RuleTable, AllocError>
         ensures { IfOk result (λ t. t ≡ self.now) }
     {
@@ -112,7 +112,7 @@ impl RuleTable {
         })
     }
 
-    /// The number of the rule for two symbols, whichever of them is named first.
+    /// The number of the rule for two symbols, in either order.
     pub fn rule(&self, c: SymbolNo, d: SymbolNo) -> RuleNo
         requires { IsSome (rule_at self.now c.0 d.0) }
         ensures { rule_at self.now c.0 d.0 ≡ Some result }
@@ -131,7 +131,7 @@ impl RuleTable {
         }
     }
 
-    /// Notes the rule for two symbols in this order.
+    /// Writes the number of the rule for two symbols in this order.
     pub(crate) fn set(&mut self, c: SymbolNo, d: SymbolNo, rule: RuleNo)
         requires first { c.0 < self.old.size }
         requires second { d.0 < self.old.size }

@@ -10,18 +10,18 @@ use Rattle.in_check.specs.Programs.{Program}
 abbrev member : List ℕ → List ℕ
 member name = 34 ∷ [] ++ (name ++ (34 ∷ 58 ∷ []))
 
--- how it begins: the number of this form, which another form doesn't have; the number of the code; the line, the column and the bytes
+-- the beginning of the data: the number of this form, which no other form has; the number of the code; the line, the column and the bytes
 abbrev pub data_head : Refusal → List ℕ
 data_head r =
     codes "{" ++ (member (codes "format") ++ (codes "1," ++ (member (codes "code") ++ (decimal (code_number r.code)
     ++ (codes "," ++ (member (codes "line") ++ (decimal r.place.line ++ (codes "," ++ (member (codes "column") ++ (decimal r.place.col
     ++ (codes "," ++ (member (codes "bytes") ++ (codes "[" ++ (decimal r.place.from ++ (codes "," ++ (decimal r.place.to ++ codes "],"))))))))))))))))
 
--- the line of a refusal: it begins so
+-- the line of a refusal has this beginning
 abbrev pub IsDataOf : Refusal → List ℕ → Type 0
 IsDataOf r line = (rest : List ℕ) × (line ≡ data_head r ++ rest)
 
--- there is one on a text that is refused, and none on one that is accepted
+-- a refused text has such a line, and an accepted text has none
 abbrev pub IsToldAsData : List ℕ → Option (Vec ℕ Global) → Type 0
 IsToldAsData text (Some line) = (r : Refusal) × IsRefused text r × IsDataOf r line.items
 IsToldAsData text None = (p : Program) × IsAccepted text p

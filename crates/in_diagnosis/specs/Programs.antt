@@ -1,4 +1,4 @@
--- Which texts have a diagnosis.
+-- The texts that have a diagnosis.
 use Rattle.std.specs.Prelude.{Bool, true, false, List, ℕ, Ok, Err, Option, Some, None}
 use Rattle.in_syntax.specs.declared.faults.Refusal.{Refusal}
 use Rattle.in_syntax.specs.declared.faults.Fault.TheVariants.{Refused}
@@ -6,17 +6,17 @@ use Rattle.in_syntax.specs.declared.tree.Source.{Source}
 use Rattle.in_check.specs.Checking.{ChecksNames, IsAccepted, IsRefused}
 use Rattle.in_check.specs.Programs.{Program}
 
--- a text that is refused has a diagnosis, and one that is accepted has none
+-- a refused text has a diagnosis, and an accepted text has none
 abbrev pub IsToldOfText : List ℕ → Bool → Type 0
 IsToldOfText text true = (r : Refusal) × IsRefused text r
 IsToldOfText text false = (p : Program) × IsAccepted text p
 
--- a text is refused so, or accepted
+-- a text has this refusal, or is accepted
 abbrev pub Refuses : List ℕ → Option Refusal → Type 0
 Refuses text (Some r) = IsRefused text r
 Refuses text None = (p : Program) × IsAccepted text p
 
--- the same of a text's tree
+-- .. and so for a text's tree
 abbrev pub RefusesTree : Source → Option Refusal → Type 0
 RefusesTree s (Some r) = ChecksNames s (Err (Refused r))
 RefusesTree s None = (p : Program) × ChecksNames s (Ok p)

@@ -14,7 +14,7 @@ is_stuck E12 = true
 is_stuck E13 = true
 is_stuck c = false
 
--- accepted; or refused at this byte, for a rule or a net that no steps build; or refused otherwise
+-- accepted, or refused at this byte for a rule or a net that no steps build, or refused otherwise
 abbrev pub IsAnsweredWith : List ℕ → Verdict → Type 0
 IsAnsweredWith text Accepted = (p : Program) × IsAccepted text p
 IsAnsweredWith text (Stuck at) = (r : Refusal) × IsRefused text r × (is_stuck r.code ≡ true) × (r.place.from ≡ at)

@@ -31,7 +31,7 @@ impl Wires {
         }
     }
 
-    /// The other end of the wire at a port, where it is a port.
+    /// The other end of the wire at a port, if there is such a port.
     pub(crate) fn end(&self, from: Port) -> Option<Port> {
         *self.ends.get(slot(from))?
     }
@@ -79,7 +79,7 @@ pub(crate) struct Circle {
     pub(crate) way: Vec<u32>,
 }
 
-/// From which node each node was reached, itself for the first; nothing for those that weren't.
+/// For each node, the node from which it was reached, itself for the first; `None` for nodes that weren't reached.
 type Reached = Vec<Option<u32>>;
 
 fn is_reached(reached: &Reached, node: u32) -> bool {
@@ -131,7 +131,7 @@ fn spread_all(
     Ok(())
 }
 
-/// Which nodes of a part are reached from one of them.
+/// The nodes of a part that are reached from one of them.
 fn reached_from(
     alloc: Global,
     wires: &Wires,
@@ -159,7 +159,7 @@ fn way_to(alloc: Global, reached: &Reached, last: u32) -> Result<Vec<u32>, Alloc
     Ok(way)
 }
 
-/// The part of a net in which a circle is searched.
+/// The part of a net in which a circle is sought.
 #[derive(Clone, Copy)]
 pub(crate) struct Field<'a> {
     pub(crate) source: &'a Source,
@@ -174,7 +174,7 @@ impl Field<'_> {
         matches!(self.wires.end(at), Some((node, _)) if node == to)
     }
 
-    /// A port of a node, of another class than this one of it, that is joined to a node.
+    /// A port of the same node, of another class than this one, that is joined to the node `to`.
     fn leaving(&self, at: Port, to: u32) -> Option<u8> {
         let (node, _) = at;
         let class = class_of(self.source, self.open, at);
@@ -188,7 +188,7 @@ impl Field<'_> {
         None
     }
 
-    /// The ports by which a way from one node over a second one to a third one passes the second, where some are of different classes: the
+    /// The ports by which a way from one node over a second one to a third one passes the second, if some are of different classes: the
     /// first and the third may be one node, to which two wires lead.
     pub(crate) fn passed(&self, from: u32, node: u32, to: u32) -> Option<(u8, u8)> {
         for first in 0..MOST_PORTS as u8 {
@@ -217,7 +217,7 @@ impl Field<'_> {
         None
     }
 
-    /// The circle of a wire between this port and another one of its node, where they are of different classes.
+    /// The circle of a wire between this port and another one of its node, if they are of different classes.
     fn own_circle(&self, alloc: Global, at: Port, second: u8) -> Option<Circle> {
         let (node, first) = at;
         if class_of(self.source, self.open, (node, second))

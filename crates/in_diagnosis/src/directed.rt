@@ -1,4 +1,4 @@
-//! A directed circle in an open net: each agent has an output that the next one takes, so that a value is needed to compute itself.
+//! A directed circle in an open net: each agent has an output that the next one takes, so a value is needed to compute itself.
 use crate::circles::{Field, MOST_PORTS, Port};
 use in_diagnosis_words::port;
 use in_open_nets::{Node, OpenNet};
@@ -12,7 +12,7 @@ pub(crate) struct Flow {
     pub(crate) input: Port,
 }
 
-/// The symbol of a node, where it is an agent.
+/// The symbol of a node, if the node is an agent.
 pub(crate) fn agent_symbol<'a>(
     source: &'a Source,
     open: &OpenNet,
@@ -28,7 +28,7 @@ pub(crate) fn agent_symbol<'a>(
 }
 
 impl Field<'_> {
-    /// Whether a port is an output, and its class; nothing where it is no port of an agent of the part.
+    /// Whether a port is an output, and its class; `None` if it is no port of an agent of the part.
     fn sign(&self, at: Port) -> Option<(bool, usize)> {
         let (node, place) = at;
         if !matches!(self.part.get(node as usize), Some(true)) {
@@ -78,7 +78,7 @@ impl Field<'_> {
         }
     }
 
-    /// How many ports of a node take what agents of the part give.
+    /// The number of ports of a node that take outputs of agents of the part.
     fn taken(&self, node: u32) -> usize {
         let mut count: usize = 0;
         for place in 0..MOST_PORTS as u8 {
@@ -89,7 +89,7 @@ impl Field<'_> {
         count
     }
 
-    /// Removes a node: each node that takes one of its outputs has an input less.
+    /// Removes a node: each node that takes one of its outputs then takes one output less.
     fn take_out(
         &self,
         node: u32,
@@ -109,7 +109,7 @@ impl Field<'_> {
         Ok(())
     }
 
-    /// Counts how many ports of each node take what agents give, and lists the nodes without any.
+    /// Counts the ports of each node that take outputs of agents, and lists the nodes without any.
     fn count_taken(&self, taken: &mut [usize], ready: &mut Vec<u32>) -> Result<(), AllocError> {
         for node in 0..self.open.nodes() {
             let count = self.taken(node);
@@ -123,7 +123,7 @@ impl Field<'_> {
         Ok(())
     }
 
-    /// Removes nodes that take no output of the part, again and again. Each node that is left takes an output of one that is left.
+    /// Removes nodes that take no output of the part, again and again. Each remaining node takes an output of a remaining one.
     fn take_out_all(&self, taken: &mut [usize], ready: &mut Vec<u32>) -> Result<(), AllocError> {
         self.count_taken(taken, ready)?;
         for index in 0..self.open.nodes() as usize {
@@ -135,7 +135,7 @@ impl Field<'_> {
         Ok(())
     }
 
-    /// A wire by which a node takes something from a node that is left.
+    /// A wire by which a node takes an output of a remaining node.
     fn flow_to(&self, node: u32, taken: &[usize]) -> Option<Flow> {
         for place in 0..MOST_PORTS as u8 {
             if let Some(output) = self.giver((node, place)) {
@@ -151,7 +151,7 @@ impl Field<'_> {
         None
     }
 
-    /// Goes back from a node that is left, against the wires, until a node comes again, and returns that node.
+    /// Goes back from a remaining node, against the wires, until a node comes again, and returns that node.
     fn go_back(
         &self,
         first: u32,
@@ -176,7 +176,7 @@ impl Field<'_> {
         Ok(node)
     }
 
-    /// The circle to which one comes back from a node that is left, in the direction of the values.
+    /// The circle that is found by going back from a remaining node, in the direction of the values.
     fn circle_before(
         &self,
         alloc: Global,
@@ -202,7 +202,7 @@ impl Field<'_> {
     }
 }
 
-/// Whether a node is left.
+/// Whether a node remains.
 fn is_left(taken: &[usize], node: u32) -> bool {
     match taken.get(node as usize) {
         Some(count) => *count > 0,
@@ -210,7 +210,7 @@ fn is_left(taken: &[usize], node: u32) -> bool {
     }
 }
 
-/// The first of so many nodes that is left.
+/// The first remaining node of the first `nodes` ones.
 fn first_left(taken: &[usize], nodes: u32) -> Option<u32> {
     for node in 0..nodes {
         if is_left(taken, node) {

@@ -28,7 +28,7 @@ pub fn code_number(code: Code) -> u32
     }
 }
 
-/// How the data of a refusal begins: the number of the form, the number of the code, and where it is.
+/// The beginning of the data of a refusal: the number of the form, the number of the code, and the place.
 pub(crate) fn head(alloc: Global, refusal: Refusal) -> Result<Vec<u8>, AllocError>
     ensures { IfOk result (λ bytes. bytes.items ≡ data_head refusal) }
 {

@@ -1,16 +1,16 @@
 //! Why a program is refused, in words for people: the place of the fault, its name in the field, and help. The line on standard
-//! output says which fault it is; nothing here changes it.
+//! output names the fault; nothing here changes it.
 //!
-//! `telling` reads the refused text once more: `parse_expecting`, which is `parse` and notes which tokens the grammar expects where it refuses, and
+//! `telling` reads the refused text once more: `parse_expecting`, which is `parse` and keeps the tokens that the grammar expects at the refusal, and
 //! `in_check::refusal_of` on the tree, which together do the same as `check`. `refusal_of` also returns the evidence of its refusal (`Evidence`):
 //! the two ends of a wire whose types don't fit, or the open net that no steps build, with the part that is stuck; so no table, net or rule is built
 //! for the diagnosis alone.
 //!
-//! `wires` describes the ends of a wire. `directed` finds agents in a circle of which each gives what the next one takes; if there are none,
+//! `wires` describes the ends of a wire. `directed` finds a circle of agents, each of which has an output that the next one takes. If there is none,
 //! `circles` finds a circle through a part that no node splits. `stuck` describes it, and `remedies` tries declarations with other braces (`braces`
 //! of `in_diagnosis_words` writes them): each alone, and then the usual ones of all symbols.
 //!
-//! A `Report` gets all of it, and becomes a text or data, before which `heads` writes the refusal.
+//! A `Report` gets all of this, and becomes a text or data; `heads` writes the refusal before the data.
 #![tactic(auto)]
 
 mod circles;

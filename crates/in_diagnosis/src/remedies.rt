@@ -11,13 +11,13 @@ use in_diagnosis_words::{
 use in_syntax::{Code, Fault, Place, Source, SourceSymbol};
 use std::alloc::{AllocError, Global};
 
-/// How many declarations are tried at most. Each takes a check, which may go further than the one that refused the text.
+/// The most declarations that are tried. Each takes a check, which may go further than the one that refused the text.
 pub(crate) const MOST_TRIED: usize = 4;
 
-/// How many bytes are checked at most for all that are tried, so that a diagnosis takes no more than some checks.
+/// The most bytes that are checked for all declarations that are tried, so that a diagnosis takes no more than some checks.
 const MOST_CHECKED: usize = 32_768;
 
-/// At most this many declarations are suggested at once.
+/// The most declarations that are suggested at once.
 const MOST_DECLARED: usize = 6;
 
 /// A symbol with other braces.
@@ -42,7 +42,7 @@ fn is_among(remedies: &[Remedy], remedy: &Remedy) -> bool {
     false
 }
 
-/// One more remedy to try, where it is another one and there is room.
+/// Adds a remedy to try, if it is another one and there is room.
 pub(crate) fn add_remedy<'a>(
     remedies: &mut Vec<Remedy<'a>>,
     remedy: Remedy<'a>,
@@ -111,7 +111,7 @@ enum Effect {
 }
 
 impl Refused<'_> {
-    /// The number of the rule around a byte; that of the net is larger.
+    /// The number of the rule around a byte; the number of the net is larger.
     fn number(&self, at: usize) -> usize {
         rule_at(self.source, at).unwrap_or(usize::MAX)
     }
@@ -140,7 +140,7 @@ impl Refused<'_> {
         }
     }
 
-    /// The effect of the usual braces, if some symbol is declared in others.
+    /// The effect of the usual braces, if some symbol is declared with other ones.
     fn usual_effect(&self, alloc: Global) -> Result<Effect, AllocError> {
         if Change::AllUsual.count(self.source) == 0 {
             return Ok(Effect::Nothing);
@@ -166,7 +166,7 @@ fn rank(effect: Effect) -> u8 {
     }
 }
 
-/// The better of two remedies; of two that are as good the first.
+/// The better of two remedies; the first if they are equally good.
 fn better<'a>(best: Option<Trial<'a>>, tried: Trial<'a>) -> Trial<'a> {
     match best {
         Some(best) if rank(tried.effect) <= rank(best.effect) => best,
@@ -195,7 +195,7 @@ fn best_of<'a>(
     Ok(best)
 }
 
-/// Of some remedies those that are tried of a text.
+/// The remedies among these that are tried for a text.
 fn to_try<'r, 'a>(text: &[u8], remedies: &'r [Remedy<'a>]) -> &'r [Remedy<'a>] {
     let most = MOST_CHECKED.checked_div(text.len()).unwrap_or(0);
     remedies.get(..most).unwrap_or(remedies)
@@ -244,7 +244,7 @@ fn add_change(report: &mut Report, refused: Refused, change: Change, accepted: b
     }
 }
 
-/// Adds a remedy that builds what was refused, by a sentence with its declaration.
+/// Adds a remedy that builds the refused rule or net, by a sentence with its declaration.
 fn add_mending(
     report: &mut Report,
     refused: Refused,
@@ -280,7 +280,7 @@ fn add_tried(report: &mut Report, refused: Refused, tried: Trial) -> bool {
     rank(tried.effect) > 1
 }
 
-/// Adds the declarations that the usual braces change, by a sentence on what these do.
+/// Adds the declarations that the usual braces change, by a sentence on the effect of these braces.
 fn add_usual(report: &mut Report, refused: Refused, sentence: &str, accepted: bool) {
     let mut words = Words::new(report.alloc);
     words.fill(sentence, &[("what", Value::Text(refused.what))]);
@@ -323,7 +323,7 @@ fn add_without(report: &mut Report, source: &Source, best: Option<Trial>) {
     }
 }
 
-/// Adds the effect of the usual braces if they help, else one declaration that was tried, else general help.
+/// Adds the effect of the usual braces if they help, otherwise one declaration that was tried, otherwise general help.
 fn add_usual_or(report: &mut Report, refused: Refused, best: Option<Trial>, usual: Effect) {
     match (usual, best) {
         (Effect::Accepts, _) => add_usual(report, refused, sentences::USUAL_MENDS, true),
@@ -333,7 +333,7 @@ fn add_usual_or(report: &mut Report, refused: Refused, best: Option<Trial>, usua
     }
 }
 
-/// Adds what helps where no single declaration makes the program accepted.
+/// Adds help if no single declaration makes the program accepted.
 fn add_other_help(report: &mut Report, refused: Refused, best: Option<Trial>) {
     match refused.usual_effect(report.alloc) {
         Ok(usual) => add_usual_or(report, refused, best, usual),
@@ -341,7 +341,7 @@ fn add_other_help(report: &mut Report, refused: Refused, best: Option<Trial>) {
     }
 }
 
-/// Adds help: the first of these remedies with which the text is accepted, or else the usual braces, if they build the refused rule or net, or else
+/// Adds help: the first of these remedies with which the text is accepted, otherwise the usual braces if they build the refused rule or net, else
 /// the best of the remedies.
 pub(crate) fn add_help(report: &mut Report, remedies: &[Remedy], refused: Refused) {
     match best_of(report.alloc, refused, to_try(refused.text, remedies)) {

@@ -5,7 +5,7 @@ pub(crate) const MISFIT: &str = "the types of the two ends of this wire don't fi
 pub(crate) const BUILD_LATER: &str =
     "let a symbol of its own build a part of it when a value meets it";
 
-// ---- what no steps build
+// ---- rules and nets that no steps build
 
 pub(crate) const NO_STEPS: &str =
     "{what} is not semi-simple: its agents could wait for each other in a circle";

@@ -1,4 +1,4 @@
-//! Rules and nets that no steps build: a directed circle of agents; or else the first part that no node splits, and a circle in it.
+//! Rules and nets that no steps build: a directed circle of agents, or otherwise the first part that no node splits, and a circle in it.
 use crate::circles::{Circle, Field, Port, Wires};
 use crate::directed::{Flow, agent_symbol};
 use crate::remedies::{MOST_TRIED, Refused, Remedy, add_help, add_help_for_value, add_remedy};
@@ -14,7 +14,7 @@ use std::alloc::{AllocError, Global};
 /// A list with at most this many nodes is written whole.
 const MOST_TOLD: usize = 6;
 
-/// How many of the first nodes of a longer list are written. Its last one is written too.
+/// The number of the first nodes of a longer list that are written. Its last one is written too.
 const FIRST_TOLD: usize = 4;
 
 /// On a circle of at most this many nodes the line of the text is shown for each.
@@ -25,7 +25,7 @@ fn is_told(index: usize, count: usize) -> bool {
     count <= MOST_TOLD || index < FIRST_TOLD || index == count - 1
 }
 
-/// How many nodes of a list of `count` the message leaves out.
+/// The number of nodes of a list of `count` that the message leaves out.
 fn left_out(count: usize) -> usize {
     if count <= MOST_TOLD {
         0
@@ -34,7 +34,7 @@ fn left_out(count: usize) -> usize {
     }
 }
 
-/// The symbol of a node, and the class where it is a class node.
+/// The symbol of a node, and the class if it is a class node.
 fn symbol_of<'a>(
     source: &'a Source,
     open: &OpenNet,
@@ -81,7 +81,7 @@ fn before_node(index: usize, count: usize) -> &'static str {
     }
 }
 
-/// Says nodes; of many nodes the first ones and the last one, and how many others there are.
+/// Writes nodes; of many nodes the first ones and the last one, and the number of the others.
 fn say_nodes(words: &mut Words, source: &Source, open: &OpenNet, nodes: &[u32]) {
     let count = nodes.len();
     for (index, node) in nodes.iter().enumerate() {
@@ -103,7 +103,7 @@ fn note_nodes(report: &mut Report, source: &Source, open: &OpenNet, sentence: &s
     report.add(Kind::Note, None, words);
 }
 
-/// Adds from where to where a circle through a node of this symbol leads.
+/// Adds the ports between which a circle through a node of this symbol leads.
 fn add_ports(report: &mut Report, symbol: &SourceSymbol, class: Option<usize>, circle: &Circle) {
     let slots = [
         ("first", port_of(symbol, class, circle.first)),
@@ -137,13 +137,13 @@ fn add_way(report: &mut Report, field: Field, way: &[u32]) {
     }
 }
 
-/// The symbol at this byte is shown.
+/// Notes that the symbol at this byte is shown.
 fn add_shown(shown: &mut Vec<usize>, at: usize) -> Result<(), AllocError> {
     shown.push(at)?;
     Ok(())
 }
 
-/// The same for a node that is passed by these ports, unless its symbol was shown.
+/// Shows the symbol of a node that is passed by these ports, unless it was shown.
 fn add_passed_by(
     report: &mut Report,
     symbol: &SourceSymbol,
@@ -158,7 +158,7 @@ fn add_passed_by(
     }
 }
 
-/// The same for a node that a way passes from one node to another.
+/// The same for a node on a way from one node to another.
 fn add_passed(report: &mut Report, field: Field, way: (u32, u32, u32), shown: &mut Vec<usize>) {
     let (from, node, to) = way;
     if let (Some(ports), Some((symbol, class))) = (
@@ -169,7 +169,7 @@ fn add_passed(report: &mut Report, field: Field, way: (u32, u32, u32), shown: &m
     }
 }
 
-/// The same for those nodes of a circle that the message names, each symbol once.
+/// The same for the nodes of a circle that the message names, each symbol once.
 fn add_braces_on_the_way(
     report: &mut Report,
     field: Field,
@@ -187,7 +187,7 @@ fn add_braces_on_the_way(
     }
 }
 
-/// The symbols on the way of a circle from a node of this symbol, which is shown already.
+/// Adds the symbols on the way of a circle from a node of this symbol, which is shown already.
 fn add_reasons(
     report: &mut Report,
     field: Field,
@@ -200,7 +200,7 @@ fn add_reasons(
     add_braces_on_the_way(report, field, node, circle.way.as_slice(), &mut shown);
 }
 
-/// Which nodes are in the part, but for one.
+/// The nodes that are in the part, except one.
 fn others(
     alloc: Global,
     open: &OpenNet,
@@ -218,7 +218,7 @@ fn others(
     Ok(part)
 }
 
-/// One more remedy to try: other braces for the symbol of a node that is passed by these ports.
+/// Adds a remedy to try: other braces for the symbol of a node that is passed by these ports.
 fn add_remedy_at<'a>(
     remedies: &mut Vec<Remedy<'a>>,
     source: &'a Source,
@@ -234,7 +234,7 @@ fn add_remedy_at<'a>(
     Ok(())
 }
 
-/// The remedies to try for a circle through a node: other braces for each node that it passes, as far as there is room.
+/// The remedies to try for a circle through a node: other braces for each node that it passes, while there is room.
 fn remedies_for<'a>(
     alloc: Global,
     field: Field<'a>,
@@ -266,7 +266,7 @@ fn add_help_for(report: &mut Report, field: Field, node: u32, circle: &Circle, r
     }
 }
 
-/// A circle through a node.
+/// Adds a circle through a node.
 fn add_found(report: &mut Report, field: Field, node: u32, circle: &Circle, refused: Refused) {
     if let Some((symbol, class)) = symbol_of(field.source, field.open, node) {
         add_ports(report, symbol, class, circle);
@@ -277,7 +277,7 @@ fn add_found(report: &mut Report, field: Field, node: u32, circle: &Circle, refu
     }
 }
 
-/// A circle through a node, where there is one.
+/// Adds a circle through a node, if there is one.
 fn add_circle(report: &mut Report, field: Field, node: u32, refused: Refused) {
     match field.circle(report.alloc, node) {
         Ok(Some(circle)) => add_found(report, field, node, &circle, refused),
@@ -286,7 +286,7 @@ fn add_circle(report: &mut Report, field: Field, node: u32, refused: Refused) {
     }
 }
 
-/// The first node of a part, from which a circle through it leads back to it.
+/// Adds a circle through the first node of a part, if a circle leads from it back to it.
 fn add_circle_of(
     report: &mut Report,
     source: &Source,
@@ -313,7 +313,7 @@ fn add_circle_of(
     }
 }
 
-/// A part in which no node splits, and a circle through its first node.
+/// Adds a part in which no node splits, and a circle through its first node.
 fn add_part(
     report: &mut Report,
     source: &Source,
@@ -335,7 +335,7 @@ fn port_at<'a>(source: &'a Source, open: &OpenNet, at: Port) -> Option<Value<'a>
     Some(Value::Port(agent_symbol(source, open, node)?, place as usize))
 }
 
-/// Says that an agent gives what another one takes, or it itself.
+/// Writes that an agent gives a value that another one takes, or that it takes itself.
 fn say_flow(words: &mut Words, field: Field, flow: Flow) {
     let ((from, _), (to, _)) = (flow.output, flow.input);
     if let (Some(output), Some(input), Some(place)) = (
@@ -357,7 +357,7 @@ fn say_flow(words: &mut Words, field: Field, flow: Flow) {
     }
 }
 
-/// Adds that an agent gives what another one takes, or it itself, and shows the line of the text at a place.
+/// Adds that an agent gives a value that another one takes, or that it takes itself, and shows the line of the text at a place.
 fn add_flow(report: &mut Report, field: Field, flow: Flow, shown: Option<Place>) {
     let mut words = Words::new(report.alloc);
     say_flow(&mut words, field, flow);
@@ -370,7 +370,7 @@ fn giver_place(open: &OpenNet, flow: Flow) -> Option<Place> {
     place_of(open, from)
 }
 
-/// The same, but for an agent that is shown already.
+/// The same, unless the agent is shown already.
 fn giver_place_elsewhere(open: &OpenNet, flow: Flow, shown: Place) -> Option<Place> {
     match giver_place(open, flow) {
         Some(place) if place.from != shown.from => Some(place),
@@ -423,7 +423,7 @@ fn add_flows(report: &mut Report, field: Field, circle: &[Flow], shown: Place) {
     }
 }
 
-/// The remedies to try for a circle: for each agent that takes by an auxiliary port and gives by another one, both in one pair of braces.
+/// The remedies to try for a circle: for each agent that takes by an auxiliary port and gives by another one, both ports in one pair of braces.
 fn remedies_for_value<'a>(
     alloc: Global,
     field: Field<'a>,
@@ -453,7 +453,7 @@ fn remedies_for_value<'a>(
     Ok(remedies)
 }
 
-/// A value that is needed to compute itself.
+/// Adds a value that is needed to compute itself.
 fn add_value(report: &mut Report, field: Field, circle: &[Flow], refused: Refused) {
     report.wrong_on(refused.place, sentences::NEEDS_ITSELF, refused.what);
     add_flows(report, field, circle, refused.place);
@@ -481,7 +481,7 @@ fn value_circle(
     field.directed_circle(alloc)
 }
 
-/// A value of an open net that is needed to compute itself, or else the part in which no node splits.
+/// Adds a value of an open net that is needed to compute itself, or otherwise the part in which no node splits.
 fn add_open(
     report: &mut Report,
     source: &Source,
@@ -508,7 +508,7 @@ fn add_open(
     }
 }
 
-/// An open net that no steps build, with the part of it in which no node splits.
+/// Adds an open net that no steps build, with the part of it in which no node splits.
 fn add_stuck_part(report: &mut Report, source: &Source, part: &StuckPart, refused: Refused) {
     let StuckPart { open, stuck } = part;
     match Wires::of(report.alloc, open) {
@@ -524,7 +524,7 @@ fn add_stuck_part(report: &mut Report, source: &Source, part: &StuckPart, refuse
     }
 }
 
-/// A rule or a net that no steps build.
+/// Adds a rule or a net that no steps build.
 pub(crate) fn add_stuck(
     report: &mut Report,
     source: &Source,

@@ -14,7 +14,7 @@ use in_net::{MAX_AGENTS, MAX_MEMBER_AGENTS};
 use in_syntax::{Code, Expected, Fault, Place, Refusal, Source, parse_expecting};
 use std::alloc::{AllocError, Global};
 
-/// More agents than a right member or the net may have.
+/// Adds that there are more agents than a right member or the net may have.
 fn add_agents(report: &mut Report, source: &Source, place: Place) {
     let (most, what) = match rule_at(source, place.from) {
         Some(_) => (MAX_MEMBER_AGENTS, "agents in the right member of a rule"),
@@ -65,7 +65,7 @@ fn add_shape_fault(
     }
 }
 
-/// Adds why a program that has a tree is refused, and returns the refusal; `None` if the program is accepted.
+/// Adds the reason why a program that has a tree is refused, and returns the refusal; `None` if the program is accepted.
 fn add_refusal(report: &mut Report, source: &Source) -> Result<Option<Refusal>, AllocError>
     requires { IsOfText source.now }
     ensures { IfOk result (RefusesTree source.now) }
@@ -84,7 +84,7 @@ fn add_refusal(report: &mut Report, source: &Source) -> Result<Option<Refusal>, 
     told
 }
 
-/// Adds why the report's text is refused, and returns the refusal; `None` if the text is accepted.
+/// Adds the reason why the report's text is refused, and returns the refusal; `None` if the text is accepted.
 fn add_first_fault(report: &mut Report, text: &[u8]) -> Result<Option<Refusal>, AllocError>
     ensures { IfOk result (Refuses text.now) }
 {
@@ -100,10 +100,10 @@ fn add_first_fault(report: &mut Report, text: &[u8]) -> Result<Option<Refusal>, 
 }
 
 /// The diagnosis of a program's text, in words for people: the fault in one sentence, the line of the text with a mark under its place, notes
-/// and help. None if `in_check::check` accepts the text. Its only error is running out of memory.
+/// and help. `None` if `in_check::check` accepts the text. Its only error is running out of memory.
 ///
-/// The fault is the one that `in_check::check` refuses the text for. The words are this project's own choice: a clause says
-/// that there are some exactly when the text is refused, and none says which.
+/// The fault is the one for which `in_check::check` refuses the text. The words are this project's own choice: a clause says
+/// that there are some exactly when the text is refused, and no clause says which.
 pub fn diagnosis(alloc: Global, text: &[u8]) -> Result<Option<String>, AllocError>
     ensures { IfOk result (λ found. IsToldOfText text.now (is_some found)) }
 {
@@ -126,10 +126,10 @@ fn line_of(alloc: Global, refusal: Refusal, report: Report) -> Result<Vec<u8>, A
 
 /// The diagnosis of a program's text as data: one JSON object and a line feed, in UTF-8. It begins with the number of this form, the code, the
 /// line, the column and the bytes of the refusal; then come the sentences of the diagnosis, which are those of `diagnosis`, each with its place
-/// and with the change of the text that it tells. Nothing where `in_check::check` accepts the text. Its only error is running out of memory.
+/// and with the change of the text that it suggests. `None` if `in_check::check` accepts the text. Its only error is running out of memory.
 ///
-/// The refusal is that of `in_check::check`. The form and the words are this project's own choice: a clause says how the line begins, and none
-/// says how it goes on.
+/// The refusal is that of `in_check::check`. The form and the words are this project's own choice: a clause says how the line begins, and no
+/// clause says how it goes on.
 pub fn diagnosis_data(alloc: Global, text: &[u8]) -> Result<Option<Vec<u8>>, AllocError>
     ensures { IfOk result (IsToldAsData text.now) }
 {

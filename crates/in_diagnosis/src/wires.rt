@@ -36,7 +36,7 @@ fn told_both<'a>(
     Some((told(source, misfit.one)?, told(source, misfit.other)?))
 }
 
-/// A wire whose two ends don't fit.
+/// Adds a wire whose two ends don't fit.
 pub(crate) fn add_misfit(
     report: &mut Report,
     source: &Source,

@@ -1,4 +1,4 @@
-//! The names of characters that begin no name of a program: signs, digits, marks, spaces and what isn't seen.
+//! The names of characters that begin no name of a program: signs, digits, marks, spaces and hidden characters.
 //!
 //! There is one call, and a table of some 14,000 lines, which `bench/characters` writes from the data of Unicode 18.
 #![tactic(auto)]
@@ -8,7 +8,7 @@ mod tables;
 use crate::tables::table_of;
 use std::str;
 
-/// The name of a line, where the line is that of the number.
+/// The name in a line, if the line is that of the number.
 fn name_on(line: &'static str, number: u32) -> Option<&'static str> {
     let (digits, name) = line.split_once(' ')?;
     if u32::from_str_radix(digits, 16) == Ok(number) {
@@ -18,11 +18,11 @@ fn name_on(line: &'static str, number: u32) -> Option<&'static str> {
     }
 }
 
-/// The name of a character by Unicode 18, in small letters but for proper names, such as "leftwards arrow" or "Greek question mark".
-/// Nothing for those that may begin an identifier (`XID_Start`), and for those that have no name: private and unassigned ones. In the
-/// place of a faulty name comes its correction; a few are called as they are known better, such as "slash" and "byte order mark".
+/// The name of a character by Unicode 18, in small letters except for proper names, such as "leftwards arrow" or "Greek question mark".
+/// `None` for characters that may begin an identifier (`XID_Start`), and for those without a name: private and unassigned ones. A correction
+/// replaces a faulty name; a few characters have their better known names, such as "slash" and "byte order mark".
 ///
-/// That characters have names here is this project's own choice: diagnoses tell them. No clause says which name is whose.
+/// That characters have names here is this project's own choice: diagnoses write them. No clause says which character has which name.
 pub fn name_of(c: char) -> Option<&'static str> {
     let number = u32::from(c);
     let names = str::from_utf8(table_of(number)).unwrap_or("");

@@ -85,7 +85,7 @@ pub(crate) fn end_with_name_at(tokens: &[Token], at: usize) -> bool {
     }
 }
 
-/// The place of the last of these tokens, where it is a name.
+/// The place of the last of these tokens, if it is a name.
 pub(crate) fn last_name(tokens: &[Token]) -> Option<Place> {
     let token = tokens.last()?;
     if token.kind == TokenKind::Name {

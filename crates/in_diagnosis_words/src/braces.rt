@@ -8,16 +8,16 @@ use std::alloc::{AllocError, Global};
 /// Other braces for the auxiliary ports of a symbol, whose order stays as it is.
 #[derive(Clone, Copy, PartialEq, Eq)]
 pub enum Braces {
-    /// The ports from that of the first number to that of the second one are in one pair.
+    /// The ports from the one with the first number to the one with the second number are in one pair.
     Together(usize, usize),
     /// The port of this number begins a pair.
     Apart(usize),
-    /// Each input is in a pair of its own, and neighbouring outputs are in one pair.
+    /// Each input is in its own pair, and neighbouring outputs are in one pair.
     Usual,
 }
 
-/// Braces with which a circle no longer passes a node by two ports, by their numbers at the node: those of an agent are put together, those of
-/// a class of a head apart. None if one of them is a principal port, which is in no braces.
+/// Braces with which a circle no longer passes a node by two ports, by their numbers at the node: an agent's ports are put together, and those of
+/// a class of a head apart. `None` if one of them is a principal port, which is in no braces.
 pub fn changed_braces(
     symbol: &SourceSymbol,
     class: Option<usize>,
@@ -67,7 +67,7 @@ fn begins(symbol: &SourceSymbol, braces: Braces, number: usize) -> bool {
     }
 }
 
-/// Whether some braces put each input of a symbol into a pair of its own, and all outputs, its principal port among them, into one class:
+/// Whether some braces put each input of a symbol into its own pair, and all outputs, its principal port among them, into one class:
 /// it has no output, one principal output, or neighbouring outputs at auxiliary ports.
 pub fn has_usual_braces(symbol: &SourceSymbol) -> bool {
     let mut groups: usize = if symbol.port.output { 1 } else { 0 };
@@ -79,7 +79,7 @@ pub fn has_usual_braces(symbol: &SourceSymbol) -> bool {
     groups <= 1
 }
 
-/// Whether a symbol is declared in other braces than the usual ones, and has such.
+/// Whether a symbol has usual braces and is declared in others.
 fn is_unusual(symbol: &SourceSymbol) -> bool {
     if !has_usual_braces(symbol) {
         return false;
@@ -124,7 +124,7 @@ fn say_declaration(words: &mut Words, symbol: &SourceSymbol, braces: Braces) {
     words.say(if ports > 0 { "}" } else { "" });
 }
 
-/// A change of a text: of the braces of one symbol, or of all symbols that could have usual braces and have others.
+/// A change of a text: of the braces of one symbol, or of all symbols that have usual braces and are declared in others.
 #[derive(Clone, Copy)]
 pub enum Change<'a> {
     One(&'a SourceSymbol, Braces),
@@ -132,7 +132,7 @@ pub enum Change<'a> {
 }
 
 impl Change<'_> {
-    /// The braces that a symbol gets; nothing where they stay as they are.
+    /// The braces that a symbol gets; `None` if they stay as they are.
     fn braces_of(&self, symbol: &SourceSymbol) -> Option<Braces> {
         match self {
             Change::One(one, braces) if one.name.place.from == symbol.name.place.from => {
@@ -143,7 +143,7 @@ impl Change<'_> {
         }
     }
 
-    /// How many declarations of a program it changes.
+    /// The number of declarations of a program that it changes.
     pub fn count(&self, source: &Source) -> usize {
         let mut count: usize = 0;
         for symbol in source.symbols.as_slice() {
@@ -170,7 +170,7 @@ impl Change<'_> {
         Ok(edits)
     }
 
-    /// Writes the first declarations that it changes, at most `most`, each with the change and on a line of its own.
+    /// Writes the first declarations that it changes, at most `most`, each with the change and on its own line.
     pub fn say(&self, words: &mut Words, source: &Source, most: usize) {
         let mut left = most;
         for symbol in source.symbols.as_slice() {
@@ -231,7 +231,7 @@ struct Shift {
     after: usize,
 }
 
-/// A text with changes, beside the one that it was made of.
+/// A text with changes, and the offsets in the text before them.
 #[derive(Drop)]
 pub struct Changed {
     text: Vec<u8>,
@@ -244,7 +244,7 @@ impl Changed {
         self.text.as_slice()
     }
 
-    /// The former offset of the byte at this offset, which no change replaced.
+    /// The offset, before the changes, of the byte at this offset, which no change replaced.
     pub fn before(&self, at: usize) -> usize {
         let mut found = at;
         for shift in self.shifts.as_slice() {

@@ -83,7 +83,7 @@ fn equations_around(source: &Source, place: Place) -> &[Equation] {
     }
 }
 
-/// A wire that is joined to itself.
+/// Adds a wire that is joined to itself.
 pub(crate) fn add_closed(report: &mut Report, source: &Source, place: Place) {
     report.wrong(place, sentences::CLOSED);
     let equations = equations_around(source, place);

@@ -9,7 +9,7 @@ fn is_inside(byte: u8) -> bool {
     (0x80..=0xBF).contains(&byte)
 }
 
-/// How many characters begin before a byte of a text.
+/// The number of characters that begin before a byte of a text.
 fn characters_before(text: &[u8], at: usize) -> usize {
     let mut count: usize = 0;
     for byte in text.get(..at).unwrap_or(text) {
@@ -43,7 +43,7 @@ fn add_place(page: &mut Words, text: &[u8], place: Place) {
     page.say("}");
 }
 
-/// Adds a place, or `null` where there is none.
+/// Adds a place, or `null` if there is none.
 fn add_some_place(page: &mut Words, text: &[u8], place: Option<Place>) {
     match place {
         Some(place) => add_place(page, text, place),
@@ -65,7 +65,7 @@ fn comma(count: usize) -> &'static str {
     if count > 0 { "," } else { "" }
 }
 
-/// Adds the changes of the part of this number, and says how many there are and whether the program is accepted with them.
+/// Adds the changes of the part of this number. Returns their count, and whether the program is accepted with them.
 fn add_changes(page: &mut Words, text: &[u8], remedies: &[Remedy], number: usize) -> (usize, bool) {
     let mut count: usize = 0;
     let mut accepted = false;
@@ -98,7 +98,7 @@ fn add_remedy(page: &mut Words, text: &[u8], remedies: &[Remedy], number: usize)
     page.say(if accepted { "true}" } else { "false}" });
 }
 
-/// Adds the remedy of the part of this number, or `null` where it has none.
+/// Adds the remedy of the part of this number, or `null` if it has none.
 fn add_some_remedy(page: &mut Words, text: &[u8], remedies: &[Remedy], number: usize) {
     if has_remedy(remedies, number) {
         add_remedy(page, text, remedies, number);

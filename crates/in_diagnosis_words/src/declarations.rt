@@ -56,7 +56,7 @@ pub(crate) fn symbol_named<'a>(source: &'a Source, text: &str) -> Option<&'a Sou
     None
 }
 
-/// How many auxiliary ports a symbol has.
+/// The number of auxiliary ports of a symbol.
 pub(crate) fn arity(symbol: &SourceSymbol) -> usize {
     let mut arity: usize = 0;
     for class in symbol.classes.as_slice() {
@@ -66,7 +66,7 @@ pub(crate) fn arity(symbol: &SourceSymbol) -> usize {
 }
 
 /// The class of the port of a symbol at a place, and the port: place 0 is the principal port, in class 0; the auxiliary ports follow, class
-/// by class, from place 1 and class 1 on. Nothing where the symbol has no such place.
+/// by class, from place 1 and class 1 on. `None` if the symbol has no such place.
 pub fn port(symbol: &SourceSymbol, place: usize) -> Option<(usize, &SourcePort)> {
     if place == 0 {
         return Some((0, &symbol.port));

@@ -1,7 +1,7 @@
 //! Changes of a text.
 use std::alloc::{AllocError, Global};
 
-/// A change of a text: these words in the place of its bytes from `from` up to `to`.
+/// A change of a text: these words replace its bytes from `from` up to `to`.
 #[derive(Drop)]
 pub struct Edit {
     pub from: usize,
@@ -10,7 +10,7 @@ pub struct Edit {
 }
 
 impl Edit {
-    /// The change that puts these words in the place of these bytes.
+    /// The change that replaces these bytes by these words.
     pub(crate) fn new(
         alloc: Global,
         from: usize,

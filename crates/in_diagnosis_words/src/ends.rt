@@ -1,4 +1,4 @@
-//! The two ends of a wire, which don't fit.
+//! The two ends of a wire whose types don't fit.
 use crate::declarations::{arity, port};
 use crate::reports::Report;
 use crate::sentences;
@@ -11,13 +11,13 @@ use in_syntax::{Place, Source, SourcePort, SourceSymbol};
 enum Owner<'a> {
     /// An agent of this symbol, with the port of this number.
     Agent(&'a SourceSymbol, usize),
-    /// A head of a rule, and the number of its port at this end.
+    /// A head of a rule, with the port of this number.
     Head(&'a SourceSymbol, usize),
     /// The free end of this name.
     Free(&'a str),
 }
 
-/// An end of a wire: its place, its owner, and the type that a wire to it has there.
+/// An end of a wire: its place, its owner, and the type of a wire to it.
 #[derive(Clone, Copy)]
 pub struct ToldEnd<'a> {
     place: Place,
@@ -26,7 +26,7 @@ pub struct ToldEnd<'a> {
     output: bool,
 }
 
-/// The end of a wire at the port of that number of the agent at a place of the text. None if the symbol has no such port.
+/// The end of a wire at the port of that number of the agent at a place of the text. `None` if the symbol has no such port.
 pub fn agent_end(symbol: &SourceSymbol, number: usize, place: Place) -> Option<ToldEnd<'_>> {
     let (_, port) = port(symbol, number)?;
     Some(ToldEnd {
@@ -37,7 +37,7 @@ pub fn agent_end(symbol: &SourceSymbol, number: usize, place: Place) -> Option<T
     })
 }
 
-/// An end of a wire in the right member of a rule: there it replaces the port of that number of the head at a place of the text. Nothing where
+/// An end of a wire in the right member of a rule, which replaces the port of that number of the head at a place of the text. `None` if
 /// the symbol has no such port.
 pub fn head_end(symbol: &SourceSymbol, number: usize, place: Place) -> Option<ToldEnd<'_>> {
     let (_, port) = port(symbol, number)?;
@@ -65,7 +65,7 @@ fn direction(output: bool) -> &'static str {
     if output { "output" } else { "input" }
 }
 
-/// Adds what an end is, and where.
+/// Adds the kind of an end, and its place.
 fn add_end(report: &mut Report, end: &ToldEnd) {
     let kind = Value::Type(end.port);
     let direction = Value::Text(direction(end.output));
@@ -81,7 +81,7 @@ fn add_end(report: &mut Report, end: &ToldEnd) {
     report.note_with(end.place, sentence, &slots);
 }
 
-/// Adds why a wire of these two ends doesn't fit, at a place of the text.
+/// Adds the reason why a wire of these two ends doesn't fit, at a place of the text.
 fn add_misfit(report: &mut Report, place: Place, one: &ToldEnd, other: &ToldEnd) {
     let first = Value::Text(one.port.kind.text.as_str());
     let second = Value::Text(other.port.kind.text.as_str());
@@ -96,7 +96,7 @@ fn add_misfit(report: &mut Report, place: Place, one: &ToldEnd, other: &ToldEnd)
     report.wrong_with(place, sentence, &slots);
 }
 
-/// A symbol whose agents give something of this type, and how many of their auxiliary ports do.
+/// A symbol whose agents have outputs of this type, and the number of their auxiliary ones.
 #[derive(Clone, Copy)]
 pub struct Giving<'a> {
     symbol: &'a SourceSymbol,
@@ -104,7 +104,7 @@ pub struct Giving<'a> {
     auxiliary: usize,
 }
 
-/// Whether the port of that number of a symbol is of this type, an output or else an input.
+/// Whether the port of that number of a symbol is of this type, and an output if `output`, otherwise an input.
 fn has_port(symbol: &SourceSymbol, number: usize, kind: &str, output: bool) -> bool {
     match port(symbol, number) {
         Some((_, port)) => port.output == output && port.kind.text.as_str() == kind,
@@ -117,7 +117,7 @@ fn gives(symbol: &SourceSymbol, kind: &str, number: usize) -> bool {
     has_port(symbol, number, kind, true)
 }
 
-/// How many auxiliary ports of a symbol are outputs of this type.
+/// The number of auxiliary ports of a symbol that are outputs of this type.
 fn outputs(symbol: &SourceSymbol, kind: &str) -> usize {
     let mut count: usize = 0;
     for number in 1..=arity(symbol) {
@@ -137,8 +137,8 @@ fn giving_of<'a>(symbol: &'a SourceSymbol, kind: &'a str) -> Giving<'a> {
     }
 }
 
-/// Where an agent gives what may be wanted from this end of it, where a term of it may have been taken for that: at its principal port, or
-/// at an output, an agent whose principal port takes something and that has an output of the wire's type.
+/// The outputs of an agent that may be wanted instead of this end of it, because its term was taken for them: at its principal port, or
+/// at an output, of an agent whose principal port is an input and that has an output of the wire's type.
 fn result_at<'a>(end: &ToldEnd<'a>) -> Option<Giving<'a>> {
     let Owner::Agent(symbol, number) = end.owner else {
         return None;
@@ -154,7 +154,7 @@ fn result_at<'a>(end: &ToldEnd<'a>) -> Option<Giving<'a>> {
     }
 }
 
-/// Where an agent gives what may be wanted from this end of it: at an auxiliary port that takes something, an agent that has an output of
+/// The outputs of an agent that may be wanted instead of this end of it: at an auxiliary input, of an agent that has an output of
 /// the wire's type at another port.
 fn result_beside<'a>(end: &ToldEnd<'a>) -> Option<Giving<'a>> {
     let Owner::Agent(symbol, number) = end.owner else {
@@ -199,12 +199,12 @@ fn separator(told: usize, count: usize) -> &'static str {
 }
 
 impl Giving<'_> {
-    /// Whether it is given at the port of that number.
+    /// Whether the port of that number is one of the outputs.
     fn is_at(&self, number: usize) -> bool {
         gives(self.symbol, self.kind, number)
     }
 
-    /// Says the auxiliary ports at which it is given, by their numbers.
+    /// Writes the auxiliary outputs by their numbers.
     fn say_auxiliary(&self, words: &mut Words) {
         words.say(if self.auxiliary > 1 {
             "auxiliary ports "
@@ -221,7 +221,7 @@ impl Giving<'_> {
         }
     }
 
-    /// Says the ports at which it is given.
+    /// Writes the outputs.
     pub(crate) fn say_outputs(&self, words: &mut Words) {
         if self.is_at(0) {
             words.say("the principal port");
@@ -234,7 +234,7 @@ impl Giving<'_> {
         }
     }
 
-    /// Says the letters of the ports at which it is given, of an agent with a letter for each of its ports.
+    /// Writes the letters of the outputs, of an agent with a letter for each of its ports.
     pub(crate) fn say_letters(&self, words: &mut Words) {
         let principal: usize = if self.is_at(0) { 1 } else { 0 };
         let count = self.auxiliary.saturating_add(principal);
@@ -251,7 +251,7 @@ impl Giving<'_> {
     }
 }
 
-/// Adds that something is given at these ports.
+/// Adds a sentence on these outputs.
 fn help_with_giving(report: &mut Report, sentence: &str, giving: Giving) {
     let slots = [
         ("type", Value::Text(giving.kind)),
@@ -274,7 +274,7 @@ fn help_with_result(report: &mut Report, giving: Giving) {
     help_with_giving(report, sentences::TERM_GIVES, giving);
 }
 
-/// Adds help if a free end has the wrong sign: its declaration with the other one.
+/// Adds help if a free end has the wrong sign: its declaration with the other sign.
 fn help_with_free_end<'e>(
     report: &mut Report,
     sentence: &str,
@@ -289,7 +289,7 @@ fn help_with_free_end<'e>(
     report.help_with(sentence, &slots);
 }
 
-/// The free end that one of two ends is, and the port that belongs there; nothing where both are free ends.
+/// The one of two ends that is a free end, and the port that belongs there; `None` if both are free ends.
 fn free_end_of<'a>(one: &ToldEnd<'a>, other: &ToldEnd<'a>) -> Option<(&'a str, &'a SourcePort)> {
     match (one.owner, other.owner) {
         (Owner::Free(_), Owner::Free(_)) => None,
@@ -307,7 +307,7 @@ fn result_of<'a>(one: &ToldEnd<'a>, other: &ToldEnd<'a>) -> Option<Giving<'a>> {
     }
 }
 
-/// Where an agent gives what may be wanted from one of these ends, which may have been taken for that.
+/// The outputs of an agent that may be wanted instead of one of these ends.
 fn port_of<'a>(one: &ToldEnd<'a>, other: &ToldEnd<'a>) -> Option<Giving<'a>> {
     match result_beside(one) {
         Some(result) => Some(result),
@@ -336,7 +336,7 @@ fn has_principal(one: &ToldEnd, other: &ToldEnd) -> bool {
     matches!(one.owner, Owner::Agent(_, 0)) || matches!(other.owner, Owner::Agent(_, 0))
 }
 
-/// Adds where the agent at one of these ends gives what may be wanted at the free end that the other one is; says whether there is such a port.
+/// Adds the outputs of the agent at one of these ends that may be wanted at the other one, a free end. Returns whether there is such a port.
 fn add_other_port(report: &mut Report, one: &ToldEnd, other: &ToldEnd) -> bool {
     match (result_of(one, other), port_of(one, other)) {
         (Some(result), _) if has_principal(one, other) => help_with_result(report, result),

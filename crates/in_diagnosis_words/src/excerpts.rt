@@ -3,10 +3,10 @@ use crate::words::Words;
 use in_syntax::Place;
 use std::str;
 
-/// How many characters of a line are shown before the marked place.
+/// The number of characters of a line that are shown before the marked place.
 const BEFORE: usize = 48;
 
-/// How many characters of a line are shown from the beginning of the marked place on.
+/// The number of characters of a line that are shown from the beginning of the marked place on.
 const AFTER: usize = 64;
 
 /// In this many bytes there are more characters than are shown before the marked place.
@@ -34,7 +34,7 @@ pub(crate) fn between(text: &[u8], from: usize, to: usize) -> &str {
     }
 }
 
-/// A line, as far as it is read: the text before a place in it, at the place, and after it. A byte at the place that is part of no character is in
+/// A part of a line: the text before a place in it, at the place, and after it. A byte at the place that is part of no character is in
 /// none of them.
 #[derive(Clone, Copy)]
 struct Line<'a> {
@@ -44,7 +44,7 @@ struct Line<'a> {
     after: &'a str,
 }
 
-/// Whether the byte there continues a character.
+/// Whether the byte at this index continues a character.
 fn goes_on(text: &[u8], index: usize) -> bool {
     matches!(text.get(index), Some(0x80..=0xBF))
 }
@@ -112,7 +112,7 @@ fn line_of(text: &[u8], place: Place) -> Line<'_> {
 /// The character that replaces one that can't be shown.
 const REPLACEMENT: char = '\u{FFFD}';
 
-/// Whether a character isn't seen, or turns the direction of what follows it.
+/// Whether a character is hidden, or turns the direction of the characters after it.
 pub(crate) fn is_hidden(c: char) -> bool {
     matches!(c, '\u{AD}' | '\u{200B}'..='\u{200F}' | '\u{2028}'..='\u{202E}' | '\u{2060}'..='\u{206F}' | '\u{FEFF}')
 }
@@ -126,7 +126,7 @@ fn shown(c: char) -> char {
     }
 }
 
-/// The character above the mark, below this character of the line: a tab is as wide below a tab.
+/// The character in the line of the mark, below this character of the line: a tab is as wide below a tab.
 fn blank(c: char) -> char {
     if c == '\t' { '\t' } else { ' ' }
 }
@@ -138,7 +138,7 @@ fn add_before(page: &mut Words, before: &str, hidden: usize) {
     }
 }
 
-/// Adds at most `most` of these characters. Returns how many more may come, or `None` if some are left out.
+/// Adds at most `most` of these characters. Returns the number of characters that may still come, or `None` if some are left out.
 fn add_some(page: &mut Words, text: &str, most: usize) -> Option<usize> {
     let mut left = most;
     for c in text.chars() {
@@ -159,7 +159,7 @@ fn add_rest(page: &mut Words, line: &Line) {
     }
 }
 
-/// These words, or none.
+/// These words if it holds, otherwise none.
 fn where_it_holds(holds: bool, words: &'static str) -> &'static str {
     if holds { words } else { "" }
 }

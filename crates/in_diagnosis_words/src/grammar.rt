@@ -58,12 +58,12 @@ fn words(expected: Expected) -> &'static str {
     }
 }
 
-/// Whether the grammar has this word for itself.
+/// Whether the word is reserved.
 fn is_reserved(word: &str) -> bool {
     matches!(word, "type" | "symbol" | "rule" | "net")
 }
 
-/// The word that the grammar has for itself and that is near to this one.
+/// The reserved word that is near to this one.
 fn reserved_near(alloc: Global, found: &str) -> Result<Option<&'static str>, AllocError> {
     for word in ["type", "symbol", "rule", "net"] {
         if distance(alloc, found, word)?.is_some() {
@@ -73,7 +73,7 @@ fn reserved_near(alloc: Global, found: &str) -> Result<Option<&'static str>, All
     Ok(None)
 }
 
-/// Whether a token is a sign of the grammar, and no word: no word begins as a sign does.
+/// Whether a token is a sign of the grammar and no word: no word begins as a sign does.
 fn is_sign(token: &str) -> bool {
     matches!(
         token.as_bytes().first(),
@@ -83,7 +83,7 @@ fn is_sign(token: &str) -> bool {
     )
 }
 
-/// A token, or the end of the text, that no program has there.
+/// A token, or the end of the text, that the grammar doesn't allow at its place.
 #[derive(Clone, Copy)]
 struct Unexpected<'a> {
     place: Place,
@@ -94,7 +94,7 @@ struct Unexpected<'a> {
 }
 
 impl Unexpected<'_> {
-    /// Whether a name is expected, and this is a reserved word.
+    /// Whether a name is expected, and the token is a reserved word.
     fn is_no_name(&self) -> bool {
         is_reserved(self.found)
             && matches!(
@@ -110,7 +110,7 @@ impl Unexpected<'_> {
             )
     }
 
-    /// Whether it ends the text, or begins an item or the net.
+    /// Whether the token is the end of the text, or begins an item or the net.
     fn is_next_item(&self) -> bool {
         self.found.is_empty() || is_reserved(self.found)
     }
@@ -152,7 +152,7 @@ impl Unexpected<'_> {
             && end_with_name_at(self.before, self.place.from)
     }
 
-    /// The name before it, where it begins brackets with nothing in them, as a head has them.
+    /// The name before it, if it begins brackets with nothing in them, as a head has them.
     fn bare_name(&self) -> Option<Place> {
         match (self.expected, self.found, self.after) {
             (Expected::AfterName(_), "[", Some(TokenKind::CloseBracket)) => last_name(self.before),
@@ -160,7 +160,7 @@ impl Unexpected<'_> {
         }
     }
 
-    /// The word of the grammar that may have been meant, where one is expected.
+    /// The word of the grammar that may have been meant, if one is expected.
     fn meant(&self, alloc: Global) -> Result<Option<&'static str>, AllocError> {
         match (self.expected, self.after) {
             (Expected::Item, Some(TokenKind::Name | TokenKind::OpenParenthesis)) => {
@@ -269,7 +269,7 @@ impl Unexpected<'_> {
     }
 }
 
-/// Adds where a `;` is missing: after the last token.
+/// Adds the place of a missing `;`: after the last token.
 fn add_missing_semicolon(report: &mut Report, before: &[Token]) {
     if let Some(place) = place_after(before) {
         report.note(place, sentences::SEMICOLON_HERE);
@@ -286,13 +286,13 @@ fn closing(kind: TokenKind) -> &'static str {
     }
 }
 
-/// Adds the bracket that is open, and what closes it.
+/// Adds the bracket that is open, and the sign that closes it.
 fn add_open(report: &mut Report, bracket: Token) {
     report.note_on(bracket.place, sentences::IS_OPEN, report.at(bracket.place));
     report.help_on(sentences::CLOSED_BY, closing(bracket.kind));
 }
 
-/// The last bracket that is open, where it may have been meant to be closed before this.
+/// The last open bracket, if it may have been meant to be closed before this.
 fn open_before(unexpected: &Unexpected) -> Option<Token> {
     if unexpected.may_be_open() {
         open_bracket(unexpected.before)
@@ -320,7 +320,7 @@ fn add_help(report: &mut Report, unexpected: &Unexpected) {
     }
 }
 
-/// Adds the notes on a token that no program has there, and help.
+/// Adds the notes on an unexpected token, and help.
 fn add_reasons(report: &mut Report, unexpected: &Unexpected) {
     if unexpected.misses_semicolon() {
         add_missing_semicolon(report, unexpected.before);
@@ -331,14 +331,14 @@ fn add_reasons(report: &mut Report, unexpected: &Unexpected) {
     }
 }
 
-/// The tokens before a place, and the one right after it.
+/// The tokens before a place, and the kind of the one right after it.
 fn around(report: &Report, place: Place) -> Result<(Vec<Token>, Option<TokenKind>), AllocError> {
     let before = tokens_before(report, place)?;
     let after = kind_after(report, place)?;
     Ok((before, after))
 }
 
-/// Adds which token was found in the place of an expected one.
+/// Adds the token that was found in the place of an expected one.
 fn wrong_token(report: &mut Report, place: Place, found: &str, expected: Expected) {
     let sentence = if found.is_empty() {
         sentences::ENDS_HERE
@@ -352,7 +352,7 @@ fn wrong_token(report: &mut Report, place: Place, found: &str, expected: Expecte
     report.wrong_with(place, sentence, &slots);
 }
 
-/// An unexpected token, where this is expected.
+/// Adds an unexpected token, at a place where this is expected.
 pub(crate) fn add_unexpected(report: &mut Report, place: Place, expected: Expected) {
     let found = report.at(place);
     wrong_token(report, place, found, expected);
@@ -371,19 +371,19 @@ pub(crate) fn add_unexpected(report: &mut Report, place: Place, expected: Expect
     }
 }
 
-/// A text of too many bytes. Their number is not known, since reading stops past the limit.
+/// Adds that a text has too many bytes. Their number is not known, since reading stops past the limit.
 pub(crate) fn add_long_text(report: &mut Report, place: Place) {
     let most = Value::Number(MAX_TEXT_BYTES);
     report.wrong_with(place, sentences::LONG_TEXT, &[("most", most)]);
 }
 
-/// A word of too many characters.
+/// Adds that a word has too many characters.
 pub(crate) fn add_long_word(report: &mut Report, place: Place) {
     let most = Value::Number(MAX_NAME_CHARACTERS);
     report.wrong_with(place, sentences::LONG_WORD, &[("most", most)]);
 }
 
-/// The limit that is passed where the grammar expects this, and what it counts.
+/// The limit that is passed when the grammar expects this, and the things that it counts.
 fn limit(expected: Expected) -> (usize, &'static str) {
     match expected {
         Expected::TypeName => (MAX_TYPES, "types"),
@@ -405,13 +405,13 @@ fn limit_help(expected: Expected) -> Option<&'static str> {
     }
 }
 
-/// Adds that there is more of something than there may be at most.
+/// Adds that there are more things than the most allowed.
 pub fn add_more_than(report: &mut Report, place: Place, most: usize, what: &str) {
     let slots = [("most", Value::Number(most)), ("what", Value::Text(what))];
     report.wrong_with(place, sentences::MORE_THAN, &slots);
 }
 
-/// A limit of the grammar that is passed, where this is expected.
+/// Adds the limit of the grammar that is passed when this is expected.
 pub(crate) fn add_limit(report: &mut Report, place: Place, expected: Expected) {
     let (most, what) = limit(expected);
     add_more_than(report, place, most, what);

@@ -16,7 +16,7 @@ fn nameless(c: char) -> &'static str {
     }
 }
 
-/// Whether a character isn't seen by itself in a line.
+/// Whether a character by itself can't be seen in a line.
 fn is_blank(c: char) -> bool {
     c.is_control() || c.is_whitespace() || is_hidden(c)
 }
@@ -71,7 +71,7 @@ fn byte_before(text: &[u8], at: usize) -> Option<u8> {
     Some(*byte)
 }
 
-/// A character with which no token begins: one that isn't seen by its number and its name.
+/// Adds a character with which no token begins: a hidden one by its number and its name.
 fn add_letter(report: &mut Report, place: Place, c: char) {
     let sentence = if is_blank(c) {
         sentences::NO_TOKEN_UNSEEN
@@ -102,7 +102,7 @@ fn add_rest(report: &mut Report, place: Place, rest: &[u8]) {
     }
 }
 
-/// No token begins at this place.
+/// Adds that no token begins at this place.
 pub(crate) fn add_no_token(report: &mut Report, place: Place) {
     if let Some(rest) = report.text().get(place.from..) {
         add_rest(report, place, rest);

@@ -1,14 +1,14 @@
-//! The parts of a diagnosis: excerpts of the text, names that are near, and sentences on a text, its names, its rules and its wires. Nothing here
+//! The parts of a diagnosis: excerpts of the text, near names, and sentences on a text, its names, its rules and its wires. Nothing here
 //! builds a net.
 //!
-//! They need the text and its tree alone, so that they are proved beside the passes. `refusals` picks the sentences on a code, which are in the file
-//! of its kind: `letters` (characters, with their names from `in_diagnosis_characters::name_of`), `grammar` (what was expected; limits), `names`,
+//! They need only the text and its tree, so that they are proved beside the passes. `refusals` picks the sentences on a code, which are in the file
+//! of its kind: `letters` (characters, with their names from `in_diagnosis_characters::name_of`), `grammar` (expected tokens; limits), `names`,
 //! `closed_wires`, `pairs`.
 //!
-//! `declarations` and `occurrences` look into the tree, the latter for a name's places in a rule or in the net; `single` finds the
+//! `declarations` and `occurrences` look into the tree; `occurrences` finds a name's places in a rule or in the net. `single` finds the
 //! variables that occur once, `near` the names that may have been meant (`strsim`). `ends` has the two ends of a wire that don't fit,
-//! `nodes` the nodes of a circle, and `braces` declarations with other braces, in words, and the texts with them. Tokens are read again in
-//! `before` alone: those before a place where the grammar refuses, where there is no tree.
+//! `nodes` the nodes of a circle, and `braces` declarations with other braces, in words, and the texts with them. Only `before` reads tokens
+//! again: those before a refusal by the grammar, when there is no tree.
 //!
 //! `sentences` has each sentence whole, with named slots; `words` writes a sentence with the values of its slots (`slots`). `reports` keeps the
 //! parts of a diagnosis, and the changes of the text that they suggest (`edits`). It writes them as a text with `excerpts`, lines of the text with

@@ -1,4 +1,4 @@
-//! Names: declared twice, not declared, with another number of arguments, or in another number of places.
+//! Names: declared twice, not declared, with a wrong number of arguments, or in a wrong number of places.
 use crate::declarations::{Declared, arity, first_of, is_among, symbol_named};
 use crate::near::add_near;
 use crate::occurrences::{arguments, names_around, occurrences, rule_around};
@@ -9,7 +9,7 @@ use crate::single::add_single;
 use crate::slots::{Slot, Value};
 use in_syntax::{Name, NameUse, Place, Source, SourceSymbol};
 
-/// Adds what is wrong with the name at a place, by this sentence.
+/// Adds the fault of the name at a place, by this sentence.
 fn wrong_name(report: &mut Report, place: Place, sentence: &str) {
     report.wrong_on(place, sentence, report.at(place));
 }
@@ -23,7 +23,7 @@ fn add_second<D: Declared>(report: &mut Report, sentence: &str, declared: &[D], 
     report.help(sentences::RENAME_OR_LEAVE_OUT);
 }
 
-/// A free end that is declared twice, or has the name of a symbol.
+/// Adds a free end that is declared twice, or has the name of a symbol.
 fn add_second_end(report: &mut Report, source: &Source, place: Place) {
     match symbol_named(source, report.at(place)) {
         Some(symbol) => {
@@ -40,7 +40,7 @@ fn add_second_end(report: &mut Report, source: &Source, place: Place) {
     }
 }
 
-/// A name that is declared twice in its namespace.
+/// Adds a name that is declared twice in its namespace.
 pub(crate) fn add_declared_twice(report: &mut Report, source: &Source, place: Place) {
     let types = source.types.as_slice();
     let symbols = source.symbols.as_slice();
@@ -53,12 +53,12 @@ pub(crate) fn add_declared_twice(report: &mut Report, source: &Source, place: Pl
     }
 }
 
-/// Adds the declared symbols that are near; says whether there are any.
+/// Adds the declared symbols with near names. Returns whether there are any.
 fn add_near_symbols(report: &mut Report, source: &Source, name: &str) -> bool {
     add_near(report, name, source.symbols.as_slice())
 }
 
-/// A type that isn't declared.
+/// Adds a type that isn't declared.
 pub(crate) fn add_unknown_type(report: &mut Report, source: &Source, place: Place) {
     let name = report.at(place);
     wrong_name(report, place, sentences::UNKNOWN_TYPE);
@@ -67,7 +67,7 @@ pub(crate) fn add_unknown_type(report: &mut Report, source: &Source, place: Plac
     }
 }
 
-/// A name before brackets that is no symbol.
+/// Adds a name before brackets that is no symbol.
 pub(crate) fn add_unknown_symbol(report: &mut Report, source: &Source, place: Place) {
     wrong_name(report, place, sentences::UNKNOWN_SYMBOL);
     let _ = add_near_symbols(report, source, report.at(place));
@@ -83,7 +83,7 @@ fn arity_help(ports: usize) -> &'static str {
     }
 }
 
-/// Where a symbol with that many auxiliary ports is declared.
+/// The sentence on the declaration of a symbol with that many auxiliary ports.
 fn where_ports_stand(ports: usize) -> &'static str {
     if ports == 0 {
         sentences::WITHOUT_PORTS
@@ -92,7 +92,7 @@ fn where_ports_stand(ports: usize) -> &'static str {
     }
 }
 
-/// A name with another number of arguments than its symbol has auxiliary ports.
+/// A name whose number of arguments isn't the number of its symbol's auxiliary ports.
 #[derive(Clone, Copy)]
 struct Miscounted<'a> {
     symbol: &'a SourceSymbol,
@@ -119,7 +119,7 @@ impl<'a> Miscounted<'a> {
     }
 }
 
-/// A number of arguments of a symbol that is not its arity.
+/// Adds a number of arguments of a symbol that is not its arity.
 fn add_count(report: &mut Report, symbol: &SourceSymbol, arguments: usize, place: Place) {
     let name = report.at(place);
     let miscounted = Miscounted {
@@ -134,7 +134,7 @@ fn add_count(report: &mut Report, symbol: &SourceSymbol, arguments: usize, place
     report.help(arity_help(ports));
 }
 
-/// A number of arguments that is not the arity of the symbol, and where that is declared.
+/// Adds a number of arguments that is not the arity of the symbol, and the place of the symbol's declaration.
 fn add_arguments(report: &mut Report, source: &Source, count: Option<usize>, place: Place) {
     match (symbol_named(source, report.at(place)), count) {
         (Some(symbol), Some(count)) => add_count(report, symbol, count, place),
@@ -142,7 +142,7 @@ fn add_arguments(report: &mut Report, source: &Source, count: Option<usize>, pla
     }
 }
 
-/// An agent or a head with another number of arguments than its symbol's arity.
+/// Adds an agent or a head whose number of arguments isn't its symbol's arity.
 pub(crate) fn add_other_arity(report: &mut Report, source: &Source, place: Place) {
     match arguments(report.alloc, source, place) {
         Ok(count) => add_arguments(report, source, count, place),
@@ -150,7 +150,7 @@ pub(crate) fn add_other_arity(report: &mut Report, source: &Source, place: Place
     }
 }
 
-/// The first of these names that has another number of arguments than its symbol has auxiliary ports.
+/// The first of these names whose number of arguments isn't the number of its symbol's auxiliary ports.
 fn first_miscounted<'a>(
     report: &Report<'a>,
     source: &'a Source,
@@ -176,7 +176,7 @@ fn first_miscounted<'a>(
     None
 }
 
-/// Adds the first of these names that is such a one, and what helps; says whether any is.
+/// Adds the first of these names that is such a one, and help. Returns whether there is one.
 fn add_first_miscounted(report: &mut Report, source: &Source, names: &[NameUse]) -> bool {
     match first_miscounted(report, source, names) {
         Some(name) => {
@@ -209,7 +209,7 @@ fn add_earlier(report: &mut Report, places: &[Place], place: Place) {
     }
 }
 
-/// Help for a variable of this name: this, except for the name that means nothing in other languages.
+/// Help for a variable of this name: this, except for the name `_`, which means nothing in other languages.
 fn variable_help(name: &str, help: &'static str) -> &'static str {
     if name == "_" {
         sentences::ERASE_NO_WILDCARD
@@ -218,7 +218,7 @@ fn variable_help(name: &str, help: &'static str) -> &'static str {
     }
 }
 
-/// Adds what helps where a variable occurs once, and no symbol is near: its rule may be one that is never used, it may be another end of the
+/// Adds help if a variable occurs once, and no symbol is near: its rule may be one that is never used, it may be another end of the
 /// same wire, or its other end may be a term that is forgotten.
 fn help_once(report: &mut Report, source: &Source, name: &str, place: Place) {
     if add_unmet(report, source, place) {
@@ -232,7 +232,7 @@ fn help_once(report: &mut Report, source: &Source, name: &str, place: Place) {
     }
 }
 
-/// A variable that occurs once.
+/// Adds a variable that occurs once.
 fn add_once(report: &mut Report, source: &Source, name: &str, place: Place) {
     wrong_name(report, place, sentences::OCCURS_ONCE);
     if add_near_symbols(report, source, name) {
@@ -242,14 +242,14 @@ fn add_once(report: &mut Report, source: &Source, name: &str, place: Place) {
     }
 }
 
-/// A variable that occurs a third time.
+/// Adds a variable that occurs a third time.
 fn add_third(report: &mut Report, name: &str, places: &[Place], place: Place) {
     wrong_name(report, place, sentences::OCCURS_A_THIRD_TIME);
     add_earlier(report, places, place);
     report.help(variable_help(name, sentences::COPY));
 }
 
-/// A free end that occurs nowhere in the body.
+/// Adds a free end that occurs nowhere in the body.
 fn add_unjoined(report: &mut Report, source: &Source, name: &str, place: Place) {
     wrong_name(report, place, sentences::NOT_JOINED);
     let _ = add_single(report, source, place, name, sentences::NO_FREE_END);
@@ -257,14 +257,14 @@ fn add_unjoined(report: &mut Report, source: &Source, name: &str, place: Place) 
     report.help(sentences::OCCURS_IN_THE_NET);
 }
 
-/// A free end that occurs a second time.
+/// Adds a free end that occurs a second time.
 fn add_second_time(report: &mut Report, places: &[Place], place: Place) {
     wrong_name(report, place, sentences::OCCURS_A_SECOND_TIME);
     add_earlier(report, places, place);
     report.help(sentences::ONE_END_OF_ONE_WIRE);
 }
 
-/// A free end that occurs nowhere in the body, or a second time.
+/// Adds a free end that occurs nowhere in the body, or a second time.
 fn add_free(report: &mut Report, source: &Source, declared: &Name, places: &[Place], place: Place) {
     if declared.place.from == place.from {
         add_unjoined(report, source, declared.text.as_str(), place);
@@ -273,7 +273,7 @@ fn add_free(report: &mut Report, source: &Source, declared: &Name, places: &[Pla
     }
 }
 
-/// The free end of this name, where a place is in the net.
+/// The free end of this name, if a place is in the net.
 fn free_end_at<'a>(source: &'a Source, name: &str, place: Place) -> Option<&'a Name> {
     match rule_around(source, place) {
         Some(_) => None,
@@ -281,7 +281,7 @@ fn free_end_at<'a>(source: &'a Source, name: &str, place: Place) -> Option<&'a N
     }
 }
 
-/// A variable or a free end that occurs at these places.
+/// Adds a variable or a free end that occurs at these places.
 fn add_places(report: &mut Report, source: &Source, places: &[Place], place: Place) {
     let name = report.at(place);
     match free_end_at(source, name, place) {
@@ -291,7 +291,7 @@ fn add_places(report: &mut Report, source: &Source, places: &[Place], place: Pla
     }
 }
 
-/// A variable that doesn't occur twice, or a free end that doesn't occur once.
+/// Adds a variable that doesn't occur twice, or a free end that doesn't occur once.
 pub(crate) fn add_occurrences(report: &mut Report, source: &Source, place: Place) {
     let name = report.at(place).as_bytes();
     match occurrences(report.alloc, report.text(), source, place, name) {

@@ -6,15 +6,15 @@ use in_syntax::Name;
 use std::alloc::{AllocError, Global};
 use strsim::osa_distance;
 
-/// How many characters may differ in a near name at most.
+/// The most characters that may differ in a near name.
 const FARTHEST: usize = 3;
 
-/// How many characters may differ in a name that is near to one of that many characters.
+/// The most characters that may differ in a name that is near to one of that many characters.
 fn most(characters: usize) -> usize {
     (characters / 3).min(FARTHEST)
 }
 
-/// By how many characters a declared name differs from this one, where it is near to it. Two that are swapped count as one.
+/// The number of characters by which a declared name differs from this one, if it is near to it. Two swapped characters count as one.
 pub(crate) fn distance(
     alloc: Global,
     name: &str,
@@ -33,14 +33,14 @@ pub(crate) fn distance(
     })
 }
 
-/// A declared name, and by how many characters it differs from another one.
+/// A declared name, and the number of characters by which it differs from another one.
 #[derive(Clone, Copy)]
 struct Near<'a> {
     name: &'a Name,
     distance: usize,
 }
 
-/// Adds a declared name where it is near to this one.
+/// Adds a declared name if it is near to this one.
 fn find_near<'a>(
     alloc: Global,
     name: &str,
@@ -69,7 +69,7 @@ fn near_names<'a, D: Declared>(
     Ok(found)
 }
 
-/// How many near names are written.
+/// The most near names that are written.
 const MOST_TOLD: usize = 4;
 
 /// Asks whether this name was meant, or this one too.
@@ -85,7 +85,7 @@ fn add_name(report: &mut Report, name: &Name, further: bool) {
     }
 }
 
-/// Adds the names that differ by `distance` characters, after the first `told`. Returns how many there are now.
+/// Adds the names that differ by `distance` characters, after the first `told`. Returns the number of names now.
 fn add_at(report: &mut Report, found: &[Near], distance: usize, told: usize) -> usize {
     let mut count = told;
     for near in found {
@@ -97,7 +97,7 @@ fn add_at(report: &mut Report, found: &[Near], distance: usize, told: usize) -> 
     count
 }
 
-/// Adds these names, the nearest first; says whether there are any.
+/// Adds these names, the nearest first. Returns whether there are any.
 fn add_found(report: &mut Report, found: &[Near]) -> bool {
     let mut told = 0;
     for distance in 0..=FARTHEST {
@@ -106,7 +106,7 @@ fn add_found(report: &mut Report, found: &[Near]) -> bool {
     told > 0
 }
 
-/// Adds the declared names that are near to this one, the nearest first; says whether there are any.
+/// Adds the declared names that are near to this one, the nearest first. Returns whether there are any.
 pub(crate) fn add_near<D: Declared>(report: &mut Report, name: &str, declared: &[D]) -> bool {
     match near_names(report.alloc, name, declared) {
         Ok(found) => add_found(report, found.as_slice()),

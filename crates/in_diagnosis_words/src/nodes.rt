@@ -20,7 +20,7 @@ pub fn say_node_at(words: &mut Words, symbol: &SourceSymbol, class: Option<usize
     words.fill(sentence, &slots);
 }
 
-/// A port of a node, by its number at the node: at an agent that is its place, and at a class of a head the ports of the class count from 0.
+/// A port of a node, by its number at the node: for an agent its place, and for a class of a head its number in the class, from 0.
 pub fn port_of(symbol: &SourceSymbol, class: Option<usize>, number: u8) -> Value<'_> {
     match class {
         Some(class) => Value::Port(symbol, place_in(symbol, class, number as usize)),
@@ -28,7 +28,7 @@ pub fn port_of(symbol: &SourceSymbol, class: Option<usize>, number: u8) -> Value
     }
 }
 
-/// Adds where the symbol of a node is declared, whose braces keep two auxiliary ports of an agent apart, or ports of a class of a head
+/// Adds the place of the declaration of a node's symbol, whose braces keep two auxiliary ports of an agent apart, or ports of a class of a head
 /// together. A principal port, which is in no braces, gets no note.
 pub fn add_braces(
     report: &mut Report,

@@ -3,7 +3,7 @@ use in_syntax::{NameUse, Place, Source, SourceNet, SourceRule, names_of_body, na
 use sqlite_items::Items;
 use std::alloc::{AllocError, Global};
 
-/// Where the net's names begin.
+/// The byte at which the net's names begin.
 fn net_start(net: &SourceNet) -> usize {
     if let Some(end) = net.free.as_slice().first() {
         return end.name.place.from;
@@ -14,7 +14,7 @@ fn net_start(net: &SourceNet) -> usize {
     }
 }
 
-/// The number, from 0, of the rule that contains a byte of the program's text; none if the byte is before the first rule or in the net.
+/// The number, from 0, of the rule that contains a byte of the program's text; `None` if the byte is before the first rule or in the net.
 pub fn rule_at(source: &Source, at: usize) -> Option<usize> {
     if at >= net_start(&source.net) {
         return None;
@@ -63,7 +63,7 @@ pub(crate) fn occurrences(
     Ok(found)
 }
 
-/// How many arguments the name at a place has, or terms where it is a head's; nothing where no name of a rule or of an equation begins
+/// The number of arguments of the name at a place, or of terms if it is a head's; `None` if no name of a rule or of an equation begins
 /// there.
 pub(crate) fn arguments(
     alloc: Global,

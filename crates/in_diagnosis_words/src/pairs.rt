@@ -1,4 +1,4 @@
-//! Rules: of heads that can't meet, a second one for two symbols, and one that is missing.
+//! Rules: of heads that can't meet, a second rule for two symbols, and a missing rule.
 use crate::declarations::{arity, port, symbol_named};
 use crate::occurrences::rule_around;
 use crate::reports::Report;
@@ -16,7 +16,7 @@ fn rule_with(source: &Source, place: Place) -> Option<&SourceRule> {
     None
 }
 
-/// Adds whether a symbol is a constructor or a destructor, by its principal port, at its declaration.
+/// Adds that a symbol is a constructor or a destructor, by its principal port, at its declaration.
 fn add_principal(report: &mut Report, symbol: &SourceSymbol) {
     let sentence = if symbol.port.output {
         sentences::CONSTRUCTOR
@@ -30,14 +30,14 @@ fn add_principal(report: &mut Report, symbol: &SourceSymbol) {
     report.note_with(symbol.name.place, sentence, &slots);
 }
 
-/// The symbol of a head, where it is declared.
+/// Adds the symbol of a head, if it is declared.
 fn add_head(report: &mut Report, source: &Source, name: &str) {
     if let Some(symbol) = symbol_named(source, name) {
         add_principal(report, symbol);
     }
 }
 
-/// The heads' symbols, where they are declared.
+/// Adds the heads' symbols, if they are declared.
 fn add_heads(report: &mut Report, source: &Source, rule: &SourceRule) {
     let first = rule.first.name.text.as_str();
     let second = rule.second.name.text.as_str();
@@ -47,7 +47,7 @@ fn add_heads(report: &mut Report, source: &Source, rule: &SourceRule) {
     }
 }
 
-/// Heads that can't meet.
+/// Adds heads that can't meet.
 pub(crate) fn add_unmatched(report: &mut Report, source: &Source, place: Place) {
     report.wrong(place, sentences::CANNOT_MEET);
     if let Some(rule) = rule_with(source, place) {
@@ -115,7 +115,7 @@ fn note_first(report: &mut Report, source: &Source, rule: &SourceRule) {
     }
 }
 
-/// A second rule for two symbols: the first one, and the symbols where they are declared.
+/// Adds a second rule for two symbols: the first one, and the declarations of the symbols.
 fn add_second(report: &mut Report, source: &Source, place: Place, rule: &SourceRule) {
     let slots = [
         ("first", Value::Text(rule.first.name.text.as_str())),
@@ -127,7 +127,7 @@ fn add_second(report: &mut Report, source: &Source, place: Place, rule: &SourceR
     report.help(sentences::KEEP_ONE_RULE);
 }
 
-/// A second rule for two symbols.
+/// Adds a second rule for two symbols.
 pub(crate) fn add_second_rule(report: &mut Report, source: &Source, place: Place) {
     match rule_with(source, place) {
         Some(rule) => add_second(report, source, place, rule),
@@ -164,7 +164,7 @@ fn erases_or_copies(destructor: &SourceSymbol) -> bool {
     }
 }
 
-/// A constructor and a destructor that can meet and have no rule.
+/// Adds a constructor and a destructor that can meet and have no rule.
 fn add_gap<'s>(
     report: &mut Report,
     place: Place,
@@ -184,7 +184,7 @@ fn add_gap<'s>(
     }
 }
 
-/// Two symbols that can meet and have no rule.
+/// Adds two symbols that can meet and have no rule.
 fn add_gap_of<'s>(
     report: &mut Report,
     place: Place,
@@ -210,7 +210,7 @@ fn symbol_at<'a>(
     }
 }
 
-/// Two symbols that can meet and have no rule, at the places of their declarations.
+/// Adds two symbols that can meet and have no rule, at the places of their declarations.
 pub(crate) fn add_missing_rule(
     report: &mut Report,
     source: &Source,

@@ -9,7 +9,7 @@ use crate::pairs::{add_missing_rule, add_second_rule, add_unmatched};
 use crate::reports::Report;
 use in_syntax::{Code, Expected, MAX_TEXT_BYTES, Place, Refusal, Source};
 
-/// A limit of tokens or of the grammar that is passed.
+/// Adds a limit of tokens or of the grammar that is passed.
 fn add_limit_of_text(report: &mut Report, place: Place, expected: Expected) {
     if report.text().len() > MAX_TEXT_BYTES {
         add_long_text(report, place);
@@ -29,7 +29,7 @@ pub fn add_text_fault(report: &mut Report, refusal: Refusal, expected: Expected)
     }
 }
 
-/// Adds what is wrong with a name, or with how often it occurs.
+/// Adds the fault of a name, or of its number of occurrences.
 fn add_name_fault(report: &mut Report, source: &Source, code: Code, place: Place) {
     match code {
         Code::E04 => add_declared_twice(report, source, place),
@@ -40,7 +40,7 @@ fn add_name_fault(report: &mut Report, source: &Source, code: Code, place: Place
     }
 }
 
-/// Adds what is wrong with a pair of symbols, or which wire is closed.
+/// Adds the fault of a pair of symbols, or the closed wire.
 fn add_pair_fault(report: &mut Report, source: &Source, refusal: Refusal) {
     let Refusal { code, place, other } = refusal;
     match code {

@@ -1,4 +1,4 @@
-//! A diagnosis, part by part, and its text, or the data of it.
+//! A diagnosis, part by part, and its text or data.
 use crate::data::add_parts;
 use crate::edits::Edit;
 use crate::excerpts::{add_excerpt, between};
@@ -15,7 +15,7 @@ pub enum Kind {
     Help,
 }
 
-/// A sentence of a diagnosis, and the place of the text that it is about.
+/// A sentence of a diagnosis, and the place of the text for it.
 #[derive(Drop)]
 pub(crate) struct Remark {
     pub(crate) kind: Kind,
@@ -23,8 +23,8 @@ pub(crate) struct Remark {
     pub(crate) sentence: String,
 }
 
-/// A change of the text that the part of this number suggests, and whether the program is accepted with all changes of that part, as a check of the
-/// changed text found; without such a check, it is false.
+/// A change of the text that the part of this number suggests, and whether a check of the text with all changes of that part found the program
+/// accepted; without such a check, it is false.
 #[derive(Drop)]
 pub(crate) struct Remedy {
     pub(crate) part: usize,
@@ -32,11 +32,11 @@ pub(crate) struct Remedy {
     pub(crate) accepted: bool,
 }
 
-/// A diagnosis of a program's text that is being made. That memory ran out is kept, and `into_text` returns it: so code that makes one has one
+/// A diagnosis of a program's text that is being made. It keeps that memory ran out, and `into_text` returns this: so code that makes one has one
 /// way out.
 #[derive(Drop)]
 pub struct Report<'a> {
-    /// Where its memory comes from.
+    /// The allocator of its memory.
     pub alloc: Global,
     text: &'a [u8],
     parts: Vec<Remark>,
@@ -131,7 +131,7 @@ impl<'a> Report<'a> {
         self.add_with(Kind::Error, Some(place), sentence, slots);
     }
 
-    /// Adds what belongs to it, at a place of the text: a sentence without a slot.
+    /// Adds a note at a place of the text: a sentence without a slot.
     pub fn note(&mut self, place: Place, sentence: &str) {
         self.add_plain(Kind::Note, Some(place), sentence);
     }
@@ -146,7 +146,7 @@ impl<'a> Report<'a> {
         self.add_with(Kind::Note, Some(place), sentence, slots);
     }
 
-    /// Adds what helps: a sentence without a slot.
+    /// Adds help: a sentence without a slot.
     pub fn help(&mut self, sentence: &str) {
         self.add_plain(Kind::Help, None, sentence);
     }
@@ -180,7 +180,7 @@ impl<'a> Report<'a> {
         }
     }
 
-    /// Adds the change that puts these words in the place of these bytes to the last part.
+    /// Adds the change that replaces these bytes by these words to the last part.
     pub(crate) fn change(&mut self, from: usize, to: usize, words: &str) {
         match Edit::new(self.alloc, from, to, words) {
             Ok(edit) => {
@@ -196,7 +196,7 @@ impl<'a> Report<'a> {
         self.parts.first()?.place
     }
 
-    /// The whole diagnosis. Refused only when out of memory, also where that was met while the diagnosis was made.
+    /// The whole diagnosis. Refused only when out of memory, also if memory ran out while the diagnosis was made.
     pub fn into_text(self) -> Result<String, AllocError> {
         let Report {
             alloc,

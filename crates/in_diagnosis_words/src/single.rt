@@ -7,10 +7,10 @@ use crate::reports::Report;
 use in_syntax::{NameUse, Place, Source};
 use std::alloc::{AllocError, Global};
 
-/// At most this many of them are read.
+/// The most variables that are read.
 const MOST_LOOKED_AT: usize = 64;
 
-/// How many of them are written.
+/// The most variables that are written.
 const MOST_TOLD: usize = 3;
 
 /// A name that no bracket follows, and its place.
@@ -20,7 +20,7 @@ struct Bare<'a> {
     place: Place,
 }
 
-/// Whether no bracket follows a name: it is a variable's, a free end's, or that of an agent without auxiliary ports.
+/// Whether no bracket follows a name: it is that of a variable, a free end, or an agent without auxiliary ports.
 fn is_bare(name: &NameUse) -> bool {
     !name.is_head && name.arguments == 0
 }
@@ -44,7 +44,7 @@ fn bare_names<'a>(
     Ok(found)
 }
 
-/// Whether the name of this number is another one than that.
+/// Whether the name of this number differs from that one.
 fn differs(sorted: &[Bare], index: Option<usize>, name: &str) -> bool {
     match index {
         Some(index) => match sorted.get(index) {
@@ -55,7 +55,7 @@ fn differs(sorted: &[Bare], index: Option<usize>, name: &str) -> bool {
     }
 }
 
-/// Whether a name is no symbol's, and in the net no free end's.
+/// Whether a name is no symbol's, and, in the net, no free end's.
 fn is_variable(source: &Source, at: Place, name: &str) -> bool {
     symbol_named(source, name).is_none()
         && (rule_around(source, at).is_some()
@@ -99,7 +99,7 @@ fn single_in<'a>(
     Ok(single)
 }
 
-/// The wanted ones: those that are near to a name, or the others.
+/// The wanted variables: those that are near to a name, or the others.
 #[derive(Clone, Copy)]
 struct Wanted<'a> {
     name: &'a str,
@@ -107,7 +107,7 @@ struct Wanted<'a> {
     sentence: &'static str,
 }
 
-/// Adds the wanted ones, after the first `told`. Returns how many there are now.
+/// Adds the wanted variables, after the first `told`. Returns the number of variables now.
 fn add_wanted(report: &mut Report, single: &[Bare], wanted: Wanted, told: usize) -> usize {
     let mut count = told;
     for bare in single {
@@ -126,7 +126,7 @@ fn add_wanted(report: &mut Report, single: &[Bare], wanted: Wanted, told: usize)
     count
 }
 
-/// Adds these, the near ones first. Returns how many were added.
+/// Adds these variables, the near ones first. Returns the number of added ones.
 fn add_all(report: &mut Report, single: &[Bare], name: &str, sentence: &'static str) -> usize {
     let near = Wanted {
         name,

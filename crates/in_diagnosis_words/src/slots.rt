@@ -9,7 +9,7 @@ pub enum Value<'v> {
     Text(&'v str),
     /// A number.
     Number(usize),
-    /// A number, and the words after it where it is one and where it isn't.
+    /// A number, and the words after it for one and for several.
     Count(usize, &'static str, &'static str),
     /// A character.
     Character(char),
@@ -21,7 +21,7 @@ pub enum Value<'v> {
     Type(&'v SourcePort),
     /// The port of that number of a symbol, as "auxiliary port 2 of `Add`".
     Port(&'v SourceSymbol, usize),
-    /// A letter for each of so many terms, from the letter of the first number on, as `a, b, c`.
+    /// Letters from that of the first number on, as many as the second number, as `a, b, c`.
     Letters(usize, usize),
     /// The ports of a symbol that are outputs of a type.
     Outputs(Giving<'v>),

@@ -5,7 +5,7 @@ use in_syntax::{Place, SourcePort, SourceSymbol};
 use std::alloc::{AllocError, Global};
 use std::fmt::Display;
 
-/// Words that are being written. That memory ran out is kept, and `into_text` returns it: so code that writes has one way out.
+/// Words that are being written. They keep that memory ran out, and `into_text` returns this: so code that writes has one way out.
 #[derive(Drop)]
 pub struct Words {
     text: String,
@@ -99,7 +99,7 @@ impl Words {
         self.say(rest);
     }
 
-    /// Writes the value of a slot, or the brace, where a sentence has this after a `{`. Returns the rest of the sentence.
+    /// Writes the value of a slot, or the brace, if a sentence has this after a `{`. Returns the rest of the sentence.
     fn fill_slot<'w>(&mut self, after: &'w str, slots: &[Slot]) -> &'w str {
         if let Some((name, rest)) = after.split_once('}') {
             if let Some(value) = value_of(slots, name) {
@@ -187,7 +187,7 @@ impl Words {
         }
     }
 
-    /// The words. Refused where memory ran out while they were written.
+    /// The words. Refused if memory ran out while they were written.
     pub fn into_text(self) -> Result<String, AllocError> {
         let Words { text, failure } = self;
         match failure {

@@ -123,7 +123,7 @@ module _ (t : Tables) (n : Parts) (whole : IsWhole n) where
   first w q x qs joins h (suc k) e =
       absurd (let r = h.on 0 x refl in let l = h.order 0 (suc k) r.0 w x q (omega arith) refl e r.2 joins in let m = r.1 in omega (arith, l, m))
 
-  -- what is so of the wires after this one
+  -- the property of the wires after this one
   abbrev Rest : ℕ → ℕ → Type 0
   Rest many w = (ps : List (ℕ × ℕ)) → AreAfter (w + 1) ps → AreOnWires n (active_from n (w + 1) many) ps
 

@@ -9,7 +9,7 @@ use Rattle.in_check.proofs.Public.{checked_once}
 use Rattle.in_export.specs.Programs.{program_line}
 use Rattle.in_export.specs.Exporting.{Exports, TextsAreExportedOnce}
 
--- the line says nothing of the table of rules
+-- the line doesn't depend on the table of rules
 same_line : (p q : Program) → AreOneProgram p q → program_line p ≡ program_line q
 same_line p q same =
     λ i. program_line (record { tables = same.tables i; rules = same.rules i; net = same.net i; numbers = p.numbers; rule_certificates = same.rule_certificates i; net_certificate = same.net_certificate i })
@@ -23,7 +23,7 @@ exported_once text (Err (Refused q)) (Err (Refused r)) l r2 = checked_once text 
 exported_once text (Err (Refused q)) (Err (Memory e)) l r = tt
 exported_once text (Err (Memory e)) b l r = tt
 
--- what the check refuses is refused
+-- a text that the check refuses is refused
 pub refused_so : (text : List ℕ) (f : Fault) → IsChecked text (Err f) → Exports text (Err f)
 refused_so text (Refused r) h = h
 refused_so text (Memory e) h = tt

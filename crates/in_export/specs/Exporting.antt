@@ -13,7 +13,7 @@ abbrev pub as_bytes : Result (Vec ℕ Global) Fault → Result (List ℕ) Fault
 as_bytes (Ok line) = Ok line.items
 as_bytes (Err f) = Err f
 
--- the line is that of the text's program, or the text is refused so
+-- the line is that of the text's program, or the text has this refusal
 abbrev pub Exports : List ℕ → Result (List ℕ) Fault → Type 0
 Exports text (Ok line) = (p : Program) × IsAccepted text p × (line ≡ program_line p)
 Exports text (Err (Refused r)) = IsRefused text r

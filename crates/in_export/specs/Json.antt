@@ -1,7 +1,7 @@
 -- The texts of JSON values.
 use Rattle.std.specs.Prelude.{ℕ, zero, suc, ◌+◌, Bool, true, false, List, [], ◌∷◌, ◌++◌, length, codes, decimal, slice_index_or}
 
--- a name between two quotation marks: it holds no character that JSON has another way to write
+-- a name between two quotation marks; it holds no character that JSON writes in another way
 abbrev pub name_text : List ℕ → List ℕ
 name_text name = 34 ∷ [] ++ (name ++ 34 ∷ [])
 
@@ -13,7 +13,7 @@ bool_text false = codes "false"
 abbrev pub key : List ℕ → List ℕ
 key name = 34 ∷ [] ++ (name ++ (34 ∷ 58 ∷ []))
 
--- a comma, but before number 0
+-- a comma, except before number 0
 abbrev pub comma : ℕ → List ℕ
 comma zero = []
 comma (suc k) = codes ","

@@ -69,7 +69,7 @@ abbrev pub joins_principals : Option (Point × Point) → Bool
 joins_principals None = false
 joins_principals (Some (p, q)) = is_principal p && is_principal q
 
--- those of a given number of wires, from number w on, that join two principal ports: Lafont 1990 calls their agents an active pair
+-- the wires that join two principal ports, among a given number of wires from number w on: Lafont 1990 calls their agents an active pair
 abbrev pub active_from : Parts → ℕ → ℕ → List ℕ
 active_from n w zero = []
 active_from n w (suc many) = cond (joins_principals (wire_in n w)) (w ∷ active_from n (w + 1) many) (active_from n (w + 1) many)
@@ -77,11 +77,11 @@ active_from n w (suc many) = cond (joins_principals (wire_in n w)) (w ∷ active
 abbrev pub active_wires : Parts → List ℕ
 active_wires n = active_from n 0 (length n.wires)
 
--- the agents, the wires, and which of the wires are active pairs, in the order in which a run begins with them
+-- the agents, the wires, and the wires that are active pairs, in the order in which a run begins with them
 abbrev pub graph_text : Parts → List ℕ
 graph_text n = key (codes "agents") ++ (agents_text n ++ (codes "," ++ (key (codes "wires") ++ (wires_text n ++ (codes "," ++ (key (codes "active") ++ numbers_text (active_wires n)))))))
 
--- a free end: its name and the type that it is declared with
+-- a free end: its name and its declared type
 abbrev pub no_type : PortType
 no_type = record { kind = 0; output = false }
 

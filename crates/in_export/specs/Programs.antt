@@ -22,7 +22,7 @@ heads_text heads = key (codes "constructor") ++ (decimal heads.0.0 ++ (codes ","
 abbrev pub both_members_text : RuleParts → List ℕ
 both_members_text r = heads_text r.heads ++ (codes "," ++ graph_text r.member)
 
--- the rule of that number: its heads, its right member, and the steps that build this
+-- the rule of that number: its heads, its right member, and the steps that build the right member
 abbrev pub rule_text : Program → ℕ → Option RuleParts → List ℕ
 rule_text p k None = []
 rule_text p k (Some r) = codes "{" ++ (both_members_text r ++ (codes "," ++ (item_text p (RuleItem (record { 0 = k })) ++ codes "}")))
@@ -44,7 +44,7 @@ tables_text p = key (codes "types") ++ (types_text p.tables ++ (codes "," ++ (ke
 abbrev pub rules_and_net_text : Program → List ℕ
 rules_and_net_text p = key (codes "rules") ++ (rules_text p ++ (codes "," ++ (key (codes "net") ++ net_text p)))
 
--- the number of this form of the line: a form that a reader of this one can't read has another
+-- the number of this form of the line; a form that a reader of this one can't read has another number
 abbrev pub format_text : List ℕ
 format_text = key (codes "format") ++ decimal 1
 

@@ -12,7 +12,7 @@ AreOnWires n [] (q ∷ qs) = ⊥
 AreOnWires n (w ∷ ws) [] = ⊥
 AreOnWires n (w ∷ ws) (q ∷ qs) = JoinsPair n w q × AreOnWires n ws qs
 
--- the active pairs of a net, in the order in which they are in the queue at the start of a run, are those of the active wires: no more and no
--- fewer, and in this order. The same holds of the pairs that a right member holds itself
+-- the active pairs of a net, in the order of the queue at the start of a run, are those of the active wires: no more and no
+-- fewer, and in this order. The same holds for the pairs of a right member itself
 abbrev pub ActiveWiresAreTheQueue : Type 0
 ActiveWiresAreTheQueue = (t : Tables) (n : Parts) (queue : List (ℕ × ℕ)) → IsWhole n → IsFirstQueue t n queue → AreOnWires n (active_wires n) queue

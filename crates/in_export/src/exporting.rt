@@ -5,8 +5,8 @@ use in_check::check;
 use in_syntax::Fault;
 use std::alloc::Global;
 
-/// The line of a text's program, where the text is accepted: one JSON object and a line feed, in UTF-8, whose numbers are those that `check` returns
-/// (`specs/Programs.antt` has each byte). Else the text is refused as `check` refuses it, at the first fault of the first pass that finds one; or
+/// The line of a text's program, if the text is accepted: one JSON object and a line feed, in UTF-8, whose numbers are those that `check` returns
+/// (`specs/Programs.antt` has each byte). Otherwise the text is refused as `check` refuses it, at the first fault of the first pass that has one, or
 /// memory runs out. The form is this project's own choice.
 pub fn export(alloc: Global, text: &[u8]) -> Result<Vec<u8>, Fault>
     ensures { Exports text.now (as_bytes result) }

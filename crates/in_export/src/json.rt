@@ -41,7 +41,7 @@ pub fn add_bool(bytes: &mut Vec<u8>, value: bool) -> Result<(), AllocError>
     }
 }
 
-/// Adds a comma, but before the element of number 0.
+/// Adds a comma, except before the element of number 0.
 pub fn add_comma(bytes: &mut Vec<u8>, number: usize) -> Result<(), AllocError>
     ensures { OnOk result (bytes.new.items ≡ bytes.old.items ++ comma number) }
 {

@@ -8,8 +8,8 @@ pub fn texts_are_exported_once()
     ensures { TextsAreExportedOnce }
 {}
 
-/// The active wires of a net, in their order, join the active pairs of the queue with which its reduction begins; those of a right member the
-/// pairs that it brings itself.
+/// The active wires of a net, in their order, join the active pairs of the queue with which its reduction begins. The active wires of a right
+/// member join the pairs that it brings itself.
 pub fn active_wires_are_the_queue()
     ensures { ActiveWiresAreTheQueue }
 {}

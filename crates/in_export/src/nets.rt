@@ -133,7 +133,7 @@ pub fn add_graph(bytes: &mut Vec<u8>, alloc: Global, net: &Net) -> Result<(), Al
     add_active(bytes, alloc, net)
 }
 
-/// Adds a free end: its name, and the type that it is declared with.
+/// Adds a free end: its name, and its declared type.
 fn add_free_end(
     bytes: &mut Vec<u8>,
     alloc: Global,

@@ -5,7 +5,7 @@ use crate::json::{add_comma, add_key, add_name, add_number, add_numbers};
 use in_open_nets::{Derivation, Node, OpenNet, Step};
 use std::alloc::{AllocError, Global};
 
-/// Adds a node: the number of its symbol, and of a class node the number of the class too.
+/// Adds a node: the number of its symbol, and for a class node also the number of the class.
 fn add_node(bytes: &mut Vec<u8>, alloc: Global, node: Node) -> Result<(), AllocError>
     ensures { OnOk result (bytes.new.items ≡ bytes.old.items ++ node_text (Some node)) }
 {

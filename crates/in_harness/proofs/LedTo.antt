@@ -1,4 +1,4 @@
--- The agent that the wire of a machine's free end leads to is there.
+-- The agent to which the wire of a machine's free end leads exists.
 use Rattle.std.proofs.Common.{◌≡◌, ◌≤◌, ℕ, Option, Some, None, IsSome, IsSomeAnd, option_map, is_some, refl, ap, subst}
 use Rattle.in_arena.specs.declared.content.CellNo.{CellNo}
 use Rattle.in_arena.specs.declared.content.End.TheVariants as end

@@ -50,7 +50,7 @@ module _ (s s' : StockParts) (d : DoneParts) (g : GatherParts) (a : ArenaView) (
       let new = holders-cons n s'.bag (bags_of h.slots) in
       omega (arith, put, first, second, new))
 
--- what is taken is in hand
+-- a taken result is in hand
 pub taken_in_hand : (s : StockParts) (d : DoneParts) (g h : GatherParts) (job : ℕ) (a : ArenaView) → HaveAllLeased (s.bag ∷ bags_of g.slots) a → TakesDone g job (Some d) h → HaveAllLeased (d.placed.placed.bag ∷ s.bag ∷ bags_of h.slots) a
 taken_in_hand s d g h job a have takes =
     let bag = d.placed.placed.bag in
@@ -68,7 +68,7 @@ taken_in_hand s d g h job a have takes =
     let old = holders-cons n s.bag (bags_of g.slots) in
     omega (arith, take, now, first, second, old))
 
--- the end: the stock and then the gather give back what they have
+-- the end: the cells of the stock and then those of the gather are freed
 module _ (s : StockParts) (g : GatherParts) (a a' : ArenaView) (have : HaveAllLeased (s.bag ∷ bags_of g.slots) a) (back : Regains (λ _. Vacant) a s.bag a') where
   pub gather_has_all : HaveAllLeased (bags_of g.slots) a'
   gather_has_all = one_less s.bag (bags_of g.slots) a a' have back

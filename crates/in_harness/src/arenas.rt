@@ -9,7 +9,7 @@ use in_harness_texts::{Sheet, fresh, word};
 use std::sync::Wait;
 use std::thread::Threads;
 
-/// A row of puts and takes over 20 cells of each class.
+/// Adds the answers to a row of puts and takes over 20 cells of each class.
 fn add_in_few(sheet: &mut Sheet, program: &Checked, templates: &Templates, words: &[String])
     requires { AreTemplatesOf program.now templates.now }
 {
@@ -22,7 +22,7 @@ fn add_in_few(sheet: &mut Sheet, program: &Checked, templates: &Templates, words
     }
 }
 
-/// Workers over 600 cells of each class.
+/// Adds the answers of workers over 600 cells of each class.
 fn add_in_many<R: Threads + Wait>(
     rt: &R,
     sheet: &mut Sheet,

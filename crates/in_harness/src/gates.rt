@@ -5,7 +5,7 @@ use std::sync::atomic::{AtomicU64, Ordering};
 /// The most turns for which a job is held.
 const TURNS: u32 = 1_000_000_000;
 
-/// Holds each of the first `jobs` jobs, at most 64, until the others were reached too, so one thread alone can't pass; after `TURNS` turns it gives
+/// Holds each of the first `jobs` jobs, at most 64, until the others were reached too, so one thread alone can't pass. After `TURNS` turns it gives
 /// up, and notes that.
 #[derive(Drop)]
 pub struct Together {

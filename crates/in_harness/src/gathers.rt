@@ -89,7 +89,7 @@ fn put<'t>(
     }
 }
 
-/// Whether a result is kept for the job; its cells are then free.
+/// Whether a result is kept for the job; its cells are then freed.
 fn taken(arena: &mut Arena, stock: &Stock, gather: &mut Gather, job: u32) -> &'static str
     requires { HaveAllLeased (stock.now.bag ∷ bags_of gather.old.slots) arena.old }
     ensures { HaveAllLeased (stock.now.bag ∷ bags_of gather.new.slots) arena.new }

@@ -18,8 +18,8 @@
 //! calls LIMIT CELLS INTERACTIONS               calls that take memory, a line for each
 //! action WORD ..                               the action for these words of `inet`
 //!
-//! If the text is refused, it writes that; `none` if nothing can start, and `memory` if memory runs out. `tests/harness/asked.py` has the expected
-//! answers. `in_harness_texts`, which is proved beside the machines, answers questions without a machine.
+//! If the text is refused, it writes the refusal; `none` if nothing can start, and `memory` if memory runs out. `tests/harness/asked.py` has the
+//! expected answers. `in_harness_texts`, which is proved beside the machines, answers questions without a machine.
 #![tactic(auto)]
 
 mod arenas;
@@ -52,7 +52,7 @@ use std::{env, io};
 fn read_text<R: Read>(alloc: Global, reader: &mut R) -> io::Result<Vec<u8>> {
     let mut text = Vec::new(alloc);
     let mut buffer = [0u8; 4096];
-    // Each turn but the last brings at least one byte, so these are enough.
+    // Each turn except the last brings at least one byte, so these are enough.
     for _turn in 0..MAX_TEXT_BYTES + 1 {
         let read = reader.read(&mut buffer)?;
         text.extend_from_slice(&buffer[..read])?;

@@ -77,7 +77,7 @@ fn turns_and_phase<R: Threads>(
     }
 }
 
-/// The whole run. Each turn but the last does an interaction, so as many turns as allowed interactions are enough.
+/// The whole run. Each turn except the last does an interaction, so as many turns as allowed interactions are enough.
 fn all<R: Threads>(
     rt: &R,
     alloc: Global,

@@ -7,7 +7,7 @@ use std::alloc::{AllocError, Global};
 use std::sync::Wait;
 use std::thread::Threads;
 
-/// The interactions of the first pairs in turn, at most `most`, while the cells that the first one needs are free. Returns their number.
+/// The interactions of the first pairs in turn, at most `most`, while the cells for the first one are free. Returns their number.
 pub fn turns(machine: &mut Machine, most: u64) -> u64 {
     for turn in 0..most {
         if machine.pairs() == 0 || !machine.has_room(0) {
@@ -18,7 +18,7 @@ pub fn turns(machine: &mut Machine, most: u64) -> u64 {
     most
 }
 
-/// A round with these workers and this budget; `None` if these are out of range, there is no pair, or the cells that it needs aren't free.
+/// A round with these workers and this budget; `None` if these are out of range, there is no pair, or its cells aren't free.
 pub fn one_round<R: Threads + Wait, G: Gate + Sync>(
     rt: &R,
     alloc: Global,
@@ -33,8 +33,8 @@ pub fn one_round<R: Threads + Wait, G: Gate + Sync>(
     Some(round(rt, alloc, machine, workers, budget, gate))
 }
 
-/// A round of a machine with the workers and the budget of the words, the number of pairs that it leaves, then the steps of the words, the net that
-/// is reached, and, if first jobs are held back, the number of jobs that came to the gate and how often it gave up.
+/// A round of a machine with the workers and the budget of the words, the number of pairs that it leaves, then the steps of the words, the reached
+/// net, and, if first jobs are held back, the numbers of jobs that came to the gate and of times that it gave up.
 pub fn add_round<R: Threads + Wait>(
     rt: &R,
     sheet: &mut Sheet,
@@ -103,7 +103,7 @@ pub fn add_rounds<R: Threads + Wait>(
     }
 }
 
-/// Interactions in turn, as many as each of the words says, and the view of the machine after these.
+/// Interactions in turn, by each number of the words, and the view of the machine after these.
 pub fn add_steps(sheet: &mut Sheet, machine: &mut Machine, words: &[String]) {
     for at in 3..words.len() {
         let done = turns(machine, number(words, at));
@@ -113,7 +113,7 @@ pub fn add_steps(sheet: &mut Sheet, machine: &mut Machine, words: &[String]) {
 }
 
 /// Interactions, in the numbers of the words, by `step`, by `take_newest` and by `take_first`, and the number that each did: nothing of the net, so a
-/// count of the requests for memory has those of these calls alone.
+/// count of the requests for memory has only those of these calls.
 pub fn add_still(sheet: &mut Sheet, machine: &mut Machine, words: &[String]) {
     let stepped = turns(machine, number(words, 3));
     let newest = machine.take_newest(0, number(words, 4));

@@ -8,7 +8,7 @@ use in_run::{Outcome, RunFault, run};
 use std::sync::Wait;
 use std::thread::Threads;
 
-/// Which part of a run's outcome is written.
+/// The part of a run's outcome that is written.
 #[derive(Clone, Copy)]
 pub enum Told {
     /// Its end, and the view of its machine.
@@ -34,7 +34,7 @@ fn add_outcome(sheet: &mut Sheet, outcome: &Outcome, told: Told) {
     }
 }
 
-/// That nothing can start, or that memory ran out.
+/// Adds that nothing can start, or that memory ran out.
 fn add_no_run(sheet: &mut Sheet, fault: &RunFault) {
     match fault {
         RunFault::Start(StartFault::Full { .. }) => sheet.say("none\n"),
@@ -50,7 +50,7 @@ fn came_of_fault(fault: &RunFault) -> Came {
     }
 }
 
-/// The reason why there was none.
+/// Adds the reason why there was no run.
 fn add_fault(sheet: &mut Sheet, fault: &RunFault, told: Told) {
     match told {
         Told::All => add_no_run(sheet, fault),

@@ -20,7 +20,7 @@ fn add_pair(sheet: &mut Sheet, machine: &Machine, number: u32) {
     sheet.fill("#\n", &[machine.arity(other) as u64]);
 }
 
-/// A free end by its name and the port, of an agent by its symbol, or free end that its wire leads to.
+/// A free end by its name, and the other end of its wire: a port of an agent by its symbol, or a free end.
 fn add_free(sheet: &mut Sheet, machine: &Machine, number: u32) {
     if number >= machine.free_ends() {
         return;
@@ -87,7 +87,7 @@ fn add_came(sheet: &mut Sheet, came: Result<u64, PrintFault>) {
     }
 }
 
-/// Adds the part of a machine's net that a writer takes which has room for this many bytes, and then fails.
+/// Adds the part of a machine's net that a writer takes if it has room for this many bytes and then fails.
 pub fn add_written(sheet: &mut Sheet, machine: &Machine, room: u32) {
     match MemoryOut::new(sheet.alloc, room as usize) {
         Ok(mut writer) => {

@@ -30,7 +30,7 @@ fn are_shares(arena: &Arena, workers: u32) -> bool
     workers * 8 <= arena.free_count(CellClass::Wide)
 }
 
-/// 1 if a result of the job is kept, and its cells are then free; else 0.
+/// 1 if a result of the job is kept, otherwise 0; its cells are then freed.
 fn taken(arena: &mut Arena, gather: &mut Gather, job: u32) -> u32
     requires { HaveAllLeased (bags_of gather.old.slots) arena.old }
     ensures all { HaveAllLeased (bags_of gather.new.slots) arena.new }
@@ -45,7 +45,7 @@ fn taken(arena: &mut Arena, gather: &mut Gather, job: u32) -> u32
     }
 }
 
-/// The number of kept results of six jobs; their cells are free then.
+/// The number of kept results of six jobs; their cells are then freed.
 fn kept(arena: &mut Arena, gather: &mut Gather) -> u32
     requires { HaveAllLeased (bags_of gather.old.slots) arena.old }
     ensures { HaveAllLeased (bags_of gather.new.slots) arena.new }

@@ -7,11 +7,11 @@ use Rattle.in_check.specs.Checking.{IsAccepted, IsRefused}
 use Rattle.in_check.specs.Laws.{AreOneProgram}
 use Rattle.in_check.specs.Programs.{Program}
 
--- the text is refused so alone, and no program of it is accepted
+-- this is the text's only refusal, and no program of it is accepted
 abbrev pub IsOnlyRefusal : List ℕ → Refusal → Type 0
 IsOnlyRefusal text r = IsRefused text r × ((s : Refusal) → IsRefused text s → r ≡ s) × ((p : Program) → IsAccepted text p → ⊥)
 
--- this program of the text is accepted alone, and the text isn't refused
+-- this is the only accepted program of the text, and the text isn't refused
 abbrev pub IsOnlyProgram : List ℕ → Program → Type 0
 IsOnlyProgram text p = IsAccepted text p × ((q : Program) → IsAccepted text q → AreOneProgram p q) × ((r : Refusal) → IsRefused text r → ⊥)
 

@@ -1,4 +1,4 @@
--- What is known of a text's tables, rules and net: as much as the calls on them require.
+-- The known properties of a text's tables, rules and net: as much as the calls on them require.
 use Rattle.std.specs.Prelude.{IsTrue}
 use Rattle.in_syntax.specs.Order.{IsWrittenInOrder}
 use Rattle.in_syntax.specs.Parsing.{IsOfText}

@@ -1,5 +1,5 @@
 //! Calls that take memory, each made directly on a program, and a line on the result of each. They are for a run in which one request for memory is
-//! refused: then the line of one call says that memory ran out, the values that it has to leave unchanged are read, and the other lines are as ever.
+//! refused: then the line of one call says that memory ran out, the values that it has to leave unchanged are read, and the other lines stay.
 ghost use Rattle.std.specs.Prelude.{◌≡◌, ◌≤◌, IfOk, IfSome, IsTrue};
 ghost use Rattle.in_arena.specs.Arenas.{NoneLeased, free_of};
 ghost use Rattle.in_compile.specs.Cells.{count_of, IsEnough};
@@ -16,7 +16,7 @@ use in_simple::verify;
 use in_symbols::Symbols;
 use std::alloc::{AllocError, Global};
 
-/// How many cells of each class an arena has.
+/// The number of cells of each class of an arena.
 const CELLS: u32 = 64;
 
 /// The result of a call that takes memory.
@@ -26,13 +26,13 @@ pub enum Came {
     Done,
     /// Memory ran out.
     Memory,
-    /// .. and what has to be as before is.
+    /// .. and the values that have to be as before are.
     Unchanged,
     /// Memory ran out before its result could be read.
     Unseen,
-    /// It isn't as it has to be.
+    /// A value isn't as it has to be.
     Wrong,
-    /// A round of so many interactions was done, with so many threads.
+    /// A round of this many interactions was done, with this many threads.
     Rounded(u32, u32),
     /// A round was refused, all was as before, and then it was done.
     RoundedThen(u32, u32),
@@ -86,7 +86,7 @@ pub fn fresh(alloc: Global, cells: u32) -> Result<Arena, AllocError>
     Arena::new(alloc, cells)
 }
 
-/// How many cells of each class are free.
+/// The number of free cells of each class.
 pub fn free(arena: &Arena) -> Need {
     Need {
         small: arena.free_count(CellClass::Small),
@@ -95,7 +95,7 @@ pub fn free(arena: &Arena) -> Need {
     }
 }
 
-/// Whether as many cells of each class are free as `need` asks for.
+/// Whether each class has as many free cells as `need` says.
 pub fn are_free(arena: &Arena, need: Need) -> bool
     ensures { IsTrue result → IsEnough (count_of need) (free_of arena.now) }
 {
@@ -117,7 +117,7 @@ fn unchanged(arena: &Arena, before: Need) -> Came {
     }
 }
 
-/// The result of filling a stock with the cells of `need`, which are given back.
+/// The result of filling a stock with the cells of `need`, which are then freed.
 fn filled(alloc: Global, arena: &mut Arena, need: Need) -> Came
     ensures { arena.new ≡ arena.old }
 {
@@ -147,7 +147,7 @@ fn filled_anew(alloc: Global, need: Need) -> Option<Came> {
     }
 }
 
-/// A stock for the template of a program that needs most.
+/// The result of filling a stock for the template of a program that needs most.
 fn fill(alloc: Global, program: &Checked) -> Option<Came> {
     match compile(alloc, program) {
         Ok(templates) => {
@@ -182,7 +182,7 @@ fn first_pair(symbols: &Symbols, net: &Net) -> Option<(AgentNo, AgentNo)>
     None
 }
 
-/// The interaction of a pair, where there is one whose first agent is a constructor.
+/// The interaction of a pair, if there is one whose first agent is a constructor.
 fn step(alloc: Global, program: &Checked, plain: &mut Plain) -> Option<Result<(), AllocError>>
     requires { plain.old.program ≡ program.now }
     ensures { plain.new.program ≡ program.now }

@@ -1,5 +1,5 @@
-//! The answers of the program `in_harness` on a text and on an accepted program, without machines, and the `Sheet` that it prints. It is a crate
-//! of its own so that it is proved beside the machines and the runs.
+//! The answers of the program `in_harness` on a text and on an accepted program, without machines, and the `Sheet` that it prints. It is its
+//! own crate so that it is proved beside the machines and the runs.
 #![tactic(auto)]
 
 mod calls;

@@ -11,7 +11,7 @@ use in_symbols::{PortType, SymbolNo, Symbols};
 use in_syntax::{Fault, Source, parse};
 use std::alloc::{AllocError, Global};
 
-/// Which part of a read program is written.
+/// The part of a read program that is written.
 #[derive(Clone, Copy)]
 pub enum Read {
     Tables,
@@ -24,7 +24,7 @@ fn add_port(sheet: &mut Sheet, port: PortType, class: u8) {
     sheet.fill(form, &[port.kind as u64, class as u64]);
 }
 
-/// Adds the parts of a symbol after its name: its place, how many ports and classes it has, and each port's type, sign and class.
+/// Adds the parts of a symbol after its name: its place, its numbers of ports and classes, and each port's type, sign and class.
 fn add_ports(sheet: &mut Sheet, symbols: &Symbols, symbol: SymbolNo)
     requires { IsSymbol symbols.now symbol.0 }
 {
@@ -56,7 +56,7 @@ fn add_symbol(sheet: &mut Sheet, symbols: &Symbols, symbol: SymbolNo)
     add_ports(sheet, symbols, symbol);
 }
 
-/// Which symbols match this one.
+/// Adds the symbols that match this one.
 fn add_matching(sheet: &mut Sheet, symbols: &Symbols, symbol: SymbolNo)
     requires { IsSymbol symbols.now symbol.0 }
 {
@@ -137,7 +137,7 @@ fn add_free(sheet: &mut Sheet, net: &Net, number: u32)
     sheet.say("\n");
 }
 
-/// These active pairs.
+/// Adds these active pairs.
 pub fn add_pairs(sheet: &mut Sheet, what: &str, pairs: &[(AgentNo, AgentNo)]) {
     sheet.say(what);
     for (one, other) in pairs {
@@ -192,7 +192,7 @@ fn add_rule(sheet: &mut Sheet, symbols: &Symbols, rule: &Rule)
     add_net(sheet, symbols, rule.member());
 }
 
-/// The net of a program, where it has to be known only that it is over its tables.
+/// The net of a program; only that it is over its tables has to be known.
 fn net_in(alloc: Global, source: &Source, symbols: &Symbols) -> Result<Net, Fault>
     requires { IsReadProgram source.now symbols.now }
     ensures { IfOk result (IsBuilt symbols.now) }
@@ -200,7 +200,7 @@ fn net_in(alloc: Global, source: &Source, symbols: &Symbols) -> Result<Net, Faul
     build_net(alloc, source, symbols)
 }
 
-/// The rule of that number, with as much known.
+/// The rule of that number; only that much has to be known.
 fn rule_in(alloc: Global, source: &Source, symbols: &Symbols, number: u32) -> Result<Rule, Fault>
     requires program { IsReadProgram source.now symbols.now }
     requires number { number < length source.now.rules }
@@ -224,14 +224,14 @@ fn add_nets(sheet: &mut Sheet, source: &Source, symbols: &Symbols)
     }
 }
 
-/// The tree of a text, where it has to be known only that it was read.
+/// The tree of a text; only that it was read has to be known.
 fn tree_of(alloc: Global, text: &[u8]) -> Result<Source, Fault>
     ensures { IfOk result IsRead }
 {
     parse(alloc, text)
 }
 
-/// The tables of a tree, with as much known.
+/// The tables of a tree; only that much has to be known.
 fn tables_of(alloc: Global, source: &Source) -> Result<Symbols, Fault>
     requires { IsRead source.now }
     ensures { IfOk result (IsReadProgram source.now) }
@@ -255,7 +255,7 @@ fn add_read_source(sheet: &mut Sheet, source: &Source, read: Read)
     }
 }
 
-/// The tables of a text, or its rules and its net, or why it is refused.
+/// Adds the tables of a text, or its rules and its net, or the reason why it is refused.
 pub fn add_read(sheet: &mut Sheet, text: &[u8], read: Read) {
     match tree_of(sheet.alloc, text) {
         Ok(source) => {

@@ -1,4 +1,4 @@
-//! The result of `check` on a text. The definitions allow no other, whatever the code does.
+//! The result of `check` on a text. The definitions allow no other, for any code.
 ghost use Rattle.in_harness_texts.specs.Only.{IsOnlyAnswer};
 
 use in_check::laws::texts_are_checked_once;

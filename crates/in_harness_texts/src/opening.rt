@@ -39,7 +39,7 @@ fn net_opened(alloc: Global, source: &Source, symbols: &Symbols) -> Result<OpenN
     Ok(open_net(alloc, symbols, &net)?)
 }
 
-/// How many nodes and wires an open net has, and how many steps build it, or how many nodes are stuck.
+/// Adds the numbers of nodes and wires of an open net, and of the steps that build it, or of the stuck nodes.
 fn add_derived(sheet: &mut Sheet, shape: &OpenNet) {
     let counts = [shape.nodes() as u64, shape.wires() as u64];
     sheet.fill("# nodes, # wires, ", &counts);

@@ -21,7 +21,7 @@ fn is_pair(symbols: &Symbols, one: SymbolNo, other: SymbolNo) -> bool
     one.0 < count && other.0 < count && symbols.matching(one, other)
 }
 
-/// The number of the rule of two symbols, where they match.
+/// Adds the number of the rule of two symbols, if they match.
 fn add_rule_of(sheet: &mut Sheet, program: &Checked, one: SymbolNo, other: SymbolNo) {
     if is_pair(program.symbols(), one, other) {
         let rule = program.rule_of(one, other);
@@ -56,7 +56,7 @@ fn add_point(sheet: &mut Sheet, point: OpenPoint) {
     }
 }
 
-/// An open net: its nodes and its wires; and whether the steps build it that come with it.
+/// Adds an open net: its nodes and its wires; and whether its steps build it.
 fn add_shape(sheet: &mut Sheet, shape: &OpenNet, steps: &Derivation) {
     for number in 0..shape.nodes() {
         add_node(sheet, shape, number);
@@ -116,7 +116,7 @@ fn graft_at(alloc: Global, words: &[String], at: usize, node: u32) -> Result<Ste
     Ok(Step::Graft { node, classes })
 }
 
-/// The step that begins at a word, as `cut 0 1 2`; of a graft the classes are the words up to the next step.
+/// The step that begins at a word, as `cut 0 1 2`; the classes of a graft are the words up to the next step.
 fn step_at(alloc: Global, words: &[String], at: usize) -> Result<Step, AllocError> {
     let one = small(words, at.saturating_add(1));
     let two = small(words, at.saturating_add(2));
@@ -199,7 +199,7 @@ fn add_asked(sheet: &mut Sheet, request: &Request) {
     sheet.say("\n");
 }
 
-/// Adds why words of a command line make no request.
+/// Adds the reason why words of a command line make no request.
 fn add_usage(sheet: &mut Sheet, usage: &Usage) {
     match usage {
         Usage::Help(_) => sheet.say("help: "),

@@ -1,4 +1,4 @@
-//! The active pairs that wait, in the order in which a machine queues them.
+//! The active pairs that wait, in the order of a machine's queue.
 ghost use Rattle.std.specs.Prelude.{◌≡◌, ◌<◌, length};
 ghost use Rattle.in_net.specs.ActivePairs.{AreActive};
 ghost use Rattle.in_net.specs.Built.{IsOver};
@@ -37,7 +37,7 @@ fn rule_at(checked: &Checked, number: u32) -> &Rule
     checked.rule(RuleNo(number))
 }
 
-/// Adds the pairs that an interaction of this pair makes, where the rule is for its symbols.
+/// Adds the pairs that an interaction of this pair makes, if the rule is for its symbols.
 fn add_made(
     alloc: Global,
     symbols: &Symbols,
@@ -64,7 +64,7 @@ fn add_made(
     }
 }
 
-/// Those of the pairs that are another one.
+/// The pairs that differ from this one.
 fn without(alloc: Global, waiting: &[Pair], pair: Pair) -> Result<Vec<Pair>, AllocError> {
     let mut others = Vec::new(alloc);
     for other in waiting {
@@ -75,7 +75,7 @@ fn without(alloc: Global, waiting: &[Pair], pair: Pair) -> Result<Vec<Pair>, All
     Ok(others)
 }
 
-/// The pairs that wait after an interaction of this one: the others that waited, and then those that it makes.
+/// The pairs that wait after an interaction of this one: the others that waited, and then the new ones.
 pub fn waiting_after(
     alloc: Global,
     checked: &Checked,

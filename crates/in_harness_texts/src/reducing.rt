@@ -10,7 +10,7 @@ use in_check::{Checked, Plain};
 use in_interaction::MOST_AGENTS;
 use std::alloc::{AllocError, Global};
 
-/// Which pair is taken next.
+/// The choice of the next pair.
 #[derive(Clone, Copy)]
 enum Order {
     FirstInFirstOut,
@@ -34,7 +34,7 @@ fn next_of(waiting: &[Pair], order: Order, turn: u32) -> Option<Pair> {
     Some(*next)
 }
 
-/// The place of the pair, past the last one where it isn't there.
+/// The place of the pair, or the place past the last one if it isn't there.
 fn place_of(active: &[Pair], wanted: Option<Pair>) -> usize {
     for place in 0..active.len() {
         if Some(active[place]) == wanted {
@@ -64,7 +64,7 @@ fn next_pair(
     }
 }
 
-/// One interaction at the next pair; whether there was one. The pairs that wait are then those of the net after it.
+/// Does one interaction at the next pair. Returns whether there was one. The pairs that wait are then those of the net after it.
 fn step(
     alloc: Global,
     checked: &Checked,
@@ -90,7 +90,7 @@ fn step(
     Ok(true)
 }
 
-/// At most `turns` turns. How many there were.
+/// Does at most `turns` turns. Returns their number.
 fn turned(
     alloc: Global,
     checked: &Checked,
@@ -110,7 +110,7 @@ fn turned(
     Ok(turns)
 }
 
-/// Which order the words ask for: `oldest`, `newest`, or a seed.
+/// The order that the words request: `oldest`, `newest`, or a seed.
 fn order_in(words: &[String]) -> Order {
     match word(words, 2) {
         "oldest" => Order::FirstInFirstOut,
@@ -119,7 +119,7 @@ fn order_in(words: &[String]) -> Order {
     }
 }
 
-/// Adds the end of a run: how many interactions, how many agents the program's net still has, the net that was reached, and its active pairs.
+/// Adds the end of a run: the number of interactions, the number of agents of the program's net, the net that was reached, and its active pairs.
 fn add_reached(sheet: &mut Sheet, checked: &Checked, plain: &Plain, waiting: &[Pair], turns: u32)
     requires { plain.now.program ≡ checked.now }
 {

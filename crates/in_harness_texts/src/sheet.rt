@@ -1,10 +1,10 @@
-//! The printed lines. That memory ran out is kept until the end, so that code that writes has one exit.
+//! The printed lines. A sheet keeps until the end that memory ran out, so that code that writes has one exit.
 use in_syntax::{Fault, Place, Refusal};
 use std::alloc::Global;
 use std::fmt::{Debug, Display};
 use std::io;
 
-/// How many bytes there is memory for from the beginning on.
+/// The number of bytes that there is memory for from the beginning on.
 const ROOM: usize = 65_536;
 
 /// The lines so far.
@@ -16,7 +16,7 @@ pub struct Sheet {
 }
 
 impl Sheet {
-    /// No lines yet. The first 65,536 bytes take no more memory, so that tests of calls without memory see their requests alone.
+    /// No lines yet. The first 65,536 bytes take no more memory, so that tests of calls without memory see only the calls' requests.
     pub fn new(alloc: Global) -> Sheet {
         let mut lines = String::new(alloc);
         let is_short = lines.reserve(ROOM).is_err();
@@ -111,7 +111,7 @@ impl Sheet {
         self.say("\n");
     }
 
-    /// A line that says why a text is refused.
+    /// Adds a line with the reason why a text is refused.
     pub fn add_fault(&mut self, fault: &Fault) {
         match fault {
             Fault::Refused(refusal) => self.add_refusal(refusal),

@@ -62,7 +62,7 @@ fn holds_any(stock: &Stock) -> bool {
         || stock.holds(Need { wide: 1, ..none })
 }
 
-/// Whether a stock of a member's need holds a cell before the member is placed, and after; and how many agents are placed.
+/// Whether a stock of a member's need holds a cell before the member is placed, and after; and the number of placed agents.
 fn add_placed(sheet: &mut Sheet, arena: &mut Arena, member: &Member)
     ensures { arena.new ≡ arena.old }
 {
@@ -85,10 +85,10 @@ fn add_placed(sheet: &mut Sheet, arena: &mut Arena, member: &Member)
     placed.spend(arena);
 }
 
-/// A thread may be given this.
+/// A value that may be given to a thread.
 fn is_sent<T: Send>(_sent: &T) {}
 
-/// How many agents are placed, and where the wires at the boundary ends lead.
+/// Adds the number of placed agents, and the other ends of the wires at the boundary ends.
 fn add_ends(sheet: &mut Sheet, placed: &PlacedTemplate) {
     sheet.fill("# of", &[placed.agents() as u64]);
     for end in 0..placed.template().boundary_ends() {
@@ -108,7 +108,7 @@ fn add_symbols(sheet: &mut Sheet, arena: &Arena, room: &Placed)
     sheet.say("\n");
 }
 
-/// The template is placed in the room, and spent: the room comes back.
+/// Places the template in the room, and spends it: the room comes back.
 fn spent(sheet: &mut Sheet, arena: &mut Arena, template: &Template, room: Placed) -> Option<Placed>
     requires room { length template.now.member.agents ≤ room.room }
     requires none { HasNoCell room.bag }
@@ -131,7 +131,7 @@ fn spent(sheet: &mut Sheet, arena: &mut Arena, template: &Template, room: Placed
     Some(back)
 }
 
-/// .. and settled: the room that comes back still has the numbers of its cells.
+/// .. and settles it: the room that comes back still has the numbers of its cells.
 fn settle(sheet: &mut Sheet, arena: &mut Arena, template: &Template, room: Placed)
     requires whole { NoneLeased arena.old }
     requires room { length template.now.member.agents ≤ room.room }
@@ -169,7 +169,7 @@ fn add_twice(sheet: &mut Sheet, arena: &mut Arena, template: &Template)
     add_need(sheet, free(arena));
 }
 
-/// All of it in one arena.
+/// All this in one arena.
 fn add_in(sheet: &mut Sheet, arena: &mut Arena, template: &Template)
     requires { NoneLeased arena.old }
     ensures { NoneLeased arena.new }
@@ -197,7 +197,7 @@ fn add_in_new(sheet: &mut Sheet, cells: u32, template: &Template) {
     }
 }
 
-/// The same of the template of two symbols, by their numbers.
+/// The same for the template of two symbols, by their numbers.
 fn add_of(sheet: &mut Sheet, program: &Checked, templates: &Templates, words: &[String])
     requires { AreTemplatesOf program.now templates.now }
 {

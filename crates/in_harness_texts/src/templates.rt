@@ -20,7 +20,7 @@ pub fn add_joint(sheet: &mut Sheet, joint: Joint) {
     }
 }
 
-/// The number of an agent's symbol, its class, and where its places lead, in a line.
+/// The number of an agent's symbol, its class, and the other ends at its places, in a line.
 fn add_agent(sheet: &mut Sheet, template: &Template, agent: u32)
     requires { agent < length template.now.member.agents }
 {
@@ -33,7 +33,7 @@ fn add_agent(sheet: &mut Sheet, template: &Template, agent: u32)
     sheet.say("\n");
 }
 
-/// Where the boundary ends lead, in a line.
+/// The other ends at the boundary ends, in a line.
 fn add_ends(sheet: &mut Sheet, template: &Template) {
     sheet.say("ends:");
     for end in 0..template.boundary_ends() {
@@ -52,7 +52,7 @@ fn add_pairs(sheet: &mut Sheet, template: &Template) {
     sheet.say("\n");
 }
 
-/// The symbols' numbers, the boundary ends, the need, the agents, where the ends lead, and the pairs.
+/// The symbols' numbers, the boundary ends, the need, the agents, the other ends, and the pairs.
 fn add_template(sheet: &mut Sheet, template: &Template) {
     let (first, second) = template.heads();
     let numbers = [
@@ -70,7 +70,7 @@ fn add_template(sheet: &mut Sheet, template: &Template) {
     add_pairs(sheet, template);
 }
 
-/// The template of two symbols, where they match.
+/// The template of two symbols, if they match.
 pub fn template_of<'a>(
     checked: &Checked,
     templates: &'a Templates,
@@ -108,7 +108,7 @@ fn add_all(sheet: &mut Sheet, program: &Checked, templates: &Templates)
     }
 }
 
-/// Threads may share this.
+/// A value that threads may share.
 fn is_shared<T: Sync>(_shared: &T) {}
 
 /// The templates of a program, and the largest need among them. Threads may share them.

@@ -25,7 +25,7 @@ pub fn add_tokens(sheet: &mut Sheet, text: &[u8]) {
     }
 }
 
-/// How many tokens there are.
+/// Adds the number of tokens.
 pub fn add_count(sheet: &mut Sheet, text: &[u8]) {
     match tokens(sheet.alloc, text) {
         Ok(tokens) => sheet.fill("# tokens\n", &[tokens.len() as u64]),
@@ -33,12 +33,12 @@ pub fn add_count(sheet: &mut Sheet, text: &[u8]) {
     }
 }
 
-/// Which part of a tree is written.
+/// The part of a tree that is written.
 #[derive(Clone, Copy)]
 pub enum Shown {
-    /// All of it.
+    /// The whole tree.
     Tree,
-    /// How many types, symbols, rules, free names and equations there are.
+    /// The numbers of types, symbols, rules, free names and equations.
     Sizes,
 }
 
@@ -83,7 +83,7 @@ fn add_use(sheet: &mut Sheet, text: &[u8], found: &NameUse) {
     sheet.fill(" of #\n", &[found.arguments as u64]);
 }
 
-/// The names of a rule or of the net's equations: with the numbers of their arguments they say which terms there are.
+/// Adds the names of a rule or of the net's equations: with the numbers of their arguments they determine the terms.
 fn add_uses(sheet: &mut Sheet, text: &[u8], uses: Result<Items<NameUse>, AllocError>) {
     match uses {
         Ok(uses) => {
@@ -160,7 +160,7 @@ fn add_sizes(sheet: &mut Sheet, source: &Source) {
     );
 }
 
-/// That part of a text's tree, or why the text is refused.
+/// Adds that part of a text's tree, or the reason why the text is refused.
 pub fn add_tree(sheet: &mut Sheet, text: &[u8], shown: Shown) {
     match parse(sheet.alloc, text) {
         Ok(source) => {

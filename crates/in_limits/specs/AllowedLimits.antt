@@ -1,4 +1,4 @@
--- Which limits there are.
+-- The possible limits.
 use Rattle.std.specs.Prelude.{◌≡◌, ◌≤◌, ℕ, Option, Some, None}
 use Rattle.in_limits.specs.declared.limits.Limits.{Limits}
 use Rattle.in_limits.specs.Limiting.{least_cells, most_cells, most_interactions, most_workers}
@@ -7,7 +7,7 @@ use Rattle.in_limits.specs.Limiting.{least_cells, most_cells, most_interactions,
 abbrev pub AreInRange : ℕ → ℕ → ℕ → Type 0
 AreInRange workers limit cells = (1 ≤ workers) × (workers ≤ most_workers) × (limit ≤ most_interactions) × (least_cells ≤ cells) × (cells ≤ most_cells)
 
--- these limits where each number is in range, and none elsewhere
+-- these limits if each number is in range, and none otherwise
 abbrev pub AreLimits : ℕ → ℕ → ℕ → Option Limits → Type 0
 AreLimits workers limit cells None = AreInRange workers limit cells → ⊥
 AreLimits workers limit cells (Some l) = AreInRange workers limit cells × (l.workers ≡ workers) × (l.limit ≡ limit) × (l.cells ≡ cells)

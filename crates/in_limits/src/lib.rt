@@ -1,4 +1,4 @@
-//! The limits of a run: its workers, its interactions and its cells. It knows no machine, so that the words of the command line can name them
+//! The limits of a run: its workers, its interactions and its cells. This crate knows no machine, so the words of the command line can name limits
 //! without one.
 #![tactic(auto)]
 

@@ -13,7 +13,7 @@ pub const MOST_WORKERS: u32 = 64;
 /// The most interactions that a run may be allowed.
 pub const MOST_INTERACTIONS: u64 = 1_000_000_000_000;
 
-/// How many workers a run has, how many interactions it may do, and how many cells of each class its machine has.
+/// The number of a run's workers, of the interactions that it may do, and of the cells of each class of its machine.
 #[derive(Clone, Copy, Debug, PartialEq, Eq)]
 pub struct Limits {
     workers: u32,
@@ -29,7 +29,7 @@ pub struct Limits {
 impl Limits {
     ghost use Rattle.in_limits.specs.AllowedLimits.{AreLimits};
 
-    /// These limits; nothing where one of them is out of range: 1 to 64 workers, 0 to 1,000,000,000,000 interactions and 16 to 1,048,576
+    /// These limits; `None` if one of them is out of range: 1 to 64 workers, 0 to 1,000,000,000,000 interactions and 16 to 1,048,576
     /// cells, which is this project's own choice.
     pub fn new(workers: u32, limit: u64, cells: u32) -> Option<Limits>
         ensures { AreLimits workers limit cells result }
@@ -47,7 +47,7 @@ impl Limits {
         }
     }
 
-    /// The workers.
+    /// The number of workers.
     pub fn workers(&self) -> u32
         ensures workers { result ≡ self.now.workers }
         ensures some { 1 ≤ result }
@@ -64,7 +64,7 @@ impl Limits {
         self.limit
     }
 
-    /// The cells of each class.
+    /// The number of cells of each class.
     pub fn cells(&self) -> u32
         ensures cells { result ≡ self.now.cells }
         ensures least { least_cells ≤ result }

@@ -6,7 +6,7 @@ use Rattle.in_reducer.specs.Runs.{Runs, at_start, then_step}
 use Rattle.in_machine.specs.Machines.{IsMachine}
 use Rattle.in_machine.proofs.StepsOn.{machine_on, steps_on}
 
--- where some interactions reach the one net, k more reach the other
+-- if j interactions reach the first net, k more reach the second
 abbrev pub ReachesOn : MachineParts → ℕ → MachineParts → Type 0
 ReachesOn m k n = (j : ℕ) → IsReachedBy (plain_of m) j → IsReachedBy (plain_of n) (k + j)
 

@@ -111,7 +111,7 @@ stands_on m o (suc j) h (then_step _ n _ _ before s) l =
           );
     }
 
--- what the next pair needed at first it needs when its turn comes
+-- the need of the next pair is the same at first and at its turn
 need_lasts : (m n : MachineParts) (j : ℕ) → StandsOn m n j → (x : Need) → NeedsAt m j x → NeedsAt n 0 x
 need_lasts m n j r x h =
     let here : slice_get m.queue (j + 0) ≡ Some h.pair = ap (slice_get m.queue) (let z : j + 0 ≡ j = omega arith in z) ∙ h.stands in
@@ -126,7 +126,7 @@ need_lasts m n j r x h =
       is_need = subst (λ (z : Program). IsNeedOf z.tables h.rule.member.cells x) (sym r.program) h.is_need;
     }
 
--- what the pairs that are gone needed together is all that is gone
+-- at most the cells that the pairs, now gone, needed together are gone
 left_free : (m n : MachineParts) (j : ℕ) → IsMachine m → Runs m j n → (sum : CellClass → ℕ) → NeedTogether m j sum → (c : CellClass) → count_of m.vacant c ≤ count_of n.vacant c + sum c
 left_free m n zero h (at_start _) sum together c = omega arith
 left_free m o (suc j) h (then_step _ n _ _ before s) _ (then_next _ sum need rest at) c =

@@ -1,4 +1,4 @@
--- A machine without active pairs is the one end of its program.
+-- A machine without active pairs is the only end of its program.
 use Rattle.std.proofs.Common.{◌≡◌, ℕ, zero, suc, nat_eq, List, [], ◌∷◌, map, length, count_by, is_some, unwrap_or, slice_get, refl, sym, ap, ◌∙◌}
 use Rattle.std.proofs.lemmas.Option.{slice_get-map}
 use mathlib.Core.Path.{fun_ext}

@@ -1,4 +1,4 @@
--- An interaction of a machine leaves a machine, however the new agents are numbered.
+-- An interaction of a machine leads to a machine, under any numbers of the new agents.
 use Rattle.std.proofs.Common.{◌≡◌, ℕ, suc, Some, ◌++◌, map, remove, slice_get}
 use Rattle.in_net.specs.Interactions.{IsRedex, redex_at}
 use Rattle.in_net.specs.Nets.{IsNet, net_of, signature_of}

@@ -32,7 +32,7 @@ QueuesAreQueues = (m : MachineParts) → IsMachine m → IsQueue (net_of (parts_
 abbrev pub RunsReach : Type 0
 RunsReach = (m n : MachineParts) (j k : ℕ) → IsMachine m → IsReachedBy (plain_of m) j → Runs m k n → IsReachedBy (plain_of n) (k + j)
 
--- an interaction of a machine leaves a machine
+-- an interaction of a machine leads to a machine
 abbrev pub StepsKeepMachines : Type 0
 StepsKeepMachines = (m o : MachineParts) (i : ℕ) → IsMachine m → StepsAt m i o → IsMachine o
 
@@ -40,7 +40,7 @@ StepsKeepMachines = (m o : MachineParts) (i : ℕ) → IsMachine m → StepsAt m
 abbrev pub MachinesAreReducers : Type 0
 MachinesAreReducers = (m : MachineParts) → IsMachine m → IsReducer m
 
--- a reducer that is the same as a machine is one
+-- a reducer that is the same as a machine is a machine
 abbrev pub SameAreMachines : Type 0
 SameAreMachines = (m n : MachineParts) → IsMachine m → AreSame m n → IsMachine n
 
@@ -56,7 +56,7 @@ StartsAreSame = (text : List ℕ) (p : Program) (cells : ℕ) (m n : MachinePart
 abbrev pub StartsAreMachines : Type 0
 StartsAreMachines = (text : List ℕ) (p : Program) (cells : ℕ) (m : MachineParts) → IsAccepted text p → cells ≤ most_cells → IsStart p cells m → IsMachine m
 
--- a machine without active pairs is the one end of its program: each run that ends, in any order, has as many interactions and the same text
+-- a machine without active pairs is the only end of its program: each run that ends, in any order, has as many interactions and the same text
 abbrev pub NormalEndsAreOne : Type 0
 NormalEndsAreOne = (m : MachineParts) (k : ℕ) → IsMachine m → IsReachedBy (plain_of m) k → m.queue ≡ [] → EndsOnce m.program k (text_of m)
 

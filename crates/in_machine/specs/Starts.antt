@@ -1,4 +1,4 @@
--- The start of a machine, and when none starts. This project's own choice.
+-- The start of a machine, and the reason if none starts. This project's own choice.
 use Rattle.std.specs.Prelude.{◌≡◌, ℕ, Result, Ok, Err}
 use Rattle.in_arena.specs.declared.content.CellClass.{CellClass}
 use Rattle.in_check.specs.Programs.{Program}

@@ -5,7 +5,7 @@ use Rattle.in_reducer.specs.Steps.{HasRoomAt}
 use Rattle.in_reducer.specs.Same.{AreSame, RunsUpToNumbers}
 use Rattle.in_machine.specs.Machines.{IsMachine}
 
--- no pair is left, or the cells that the first one needs aren't free
+-- no pair is left, or the cells for the first one aren't free
 abbrev pub TakesNoFirst : MachineParts → Type 0
 TakesNoFirst m = (m.queue ≡ []) ⊎ (HasRoomAt m 0 → ⊥)
 

@@ -1,4 +1,4 @@
--- The text of a machine's net: the text of `in_check`'s definitions, with the names of its program, its queue, and a depth of as many as it has agents.
+-- The text of a machine's net, by `in_check`'s definitions, with the names of its program, its queue, and its number of agents as the depth.
 use Rattle.std.specs.Prelude.{ℕ, List, [], count_by, is_some, nat_eq, unwrap_or}
 use Rattle.in_symbols.specs.Names.{name_in}
 use Rattle.in_net.specs.Nets.{net_of, signature_of}

@@ -11,6 +11,6 @@ pub data NeedTogether (m : MachineParts) : ℕ → (CellClass → ℕ) → Type 
   none : NeedTogether m zero (λ c. zero)
   then_next : (k : ℕ) (sum : CellClass → ℕ) (need : Need) → NeedTogether m k sum → NeedsAt m k need → NeedTogether m (suc k) (λ c. sum c + count_of need c)
 
--- these are free
+-- these cells are free
 abbrev pub HasRoomFor : MachineParts → ℕ → Type 0
 HasRoomFor m k = (sum : CellClass → ℕ) × NeedTogether m k sum × IsEnough sum (count_of m.vacant)

@@ -30,7 +30,7 @@ pub struct Machine<'a> {
     pub reducer: Reducer<'a>,
 }
 
-// Contracts see the net that it reduces. Its invariant is that the program reaches this net, which a reducer's is not.
+// Contracts see the net that it reduces. Its invariant is that the program reaches this net; a reducer's invariant doesn't say so.
 impl<'a> Model for Machine<'a> {
     ghost use Rattle.in_compile.specs.Templates.{AreTemplatesOf};
     ghost use Rattle.in_reducer.specs.Machines.{MachineParts};
@@ -44,7 +44,7 @@ impl<'a> Model for Machine<'a> {
 }
 
 impl<'a> Machine<'a> {
-    /// A machine with `cells` cells of each class, at the program's net. Its pairs are queued in the order of the places of their wires,
+    /// A machine of the program's net with `cells` cells of each class. Its pairs are queued in the order of the places of their wires,
     /// which is this project's own choice, as are the sizes of cells.
     ///
     /// Refused as `Full` if the net has more agents of a class than cells, tested in the order of the classes, or when out of memory. No
@@ -70,7 +70,7 @@ impl<'a> Machine<'a> {
 
     /// Does the interaction of the pair of that number, by the rule of its symbols: Lafont 1990's, as of `Plain::step` of `in_check`. The pair
     /// leaves the queue, and the new pairs come last, by the lowest-numbered boundary end on the path that made each, and then the right
-    /// member's own; the cells of the pair are free, and those of the new agents aren't. The cells that the pair needs must be free while it is
+    /// member's own; the cells of the pair become free, and those of the new agents live. The cells that the pair needs must be free while it is
     /// still there. It takes no memory.
     pub fn step(&mut self, number: u32)
         requires pair { number < length self.old.queue }
@@ -81,8 +81,8 @@ impl<'a> Machine<'a> {
         self.reducer.step(&self.templates, number);
     }
 
-    /// Does interactions of the first pair of the queue, one after another, at most `most`, first in, first out; fewer only if no pair is left, or
-    /// the cells that the first one needs aren't free. Returns their number. They are those of a machine that is this one up to the numbers of
+    /// Does interactions of the first pair of the queue, one after another, at most `most`, first in, first out. It does fewer only if no pair is
+    /// left, or the cells for the first one aren't free. Returns their number. They are those of a machine that is this one up to the numbers of
     /// agents: so an agent may continue under another number, and a new one may have the number of one that is gone. It takes no memory.
     pub fn take_first(&mut self, most: u64) -> u64
         ensures runs { RunsUpToNumbers self.old result self.new }

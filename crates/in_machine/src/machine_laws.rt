@@ -3,8 +3,8 @@
 ghost use Rattle.in_machine.specs.MachineLaws.{MachinesAreReducers, MachinesAsPromised, NormalEndsAreOne, QueuesAreQueues, QueuesMoveUp, RoomLasts, RunsReach, SameAreMachines, SameAreReached, StartsAreMachines, StartsAreSame, StepsKeepMachines};
 ghost use Rattle.in_machine.specs.Taking.{FirstsTakenAreOne};
 
-/// The net that a machine shows is as promised: typed, with one rule for each active pair, without a crossing circle or a vicious one, with an end
-/// to each interaction, leading on from each agent, and written whole.
+/// The net that a machine shows is as promised. It is typed, has one rule for each active pair, and has no crossing circle and no vicious one. Each
+/// interaction ends. Each agent leads on. The net is written whole.
 pub fn machines_as_promised()
     ensures { MachinesAsPromised }
 {}
@@ -19,7 +19,7 @@ pub fn runs_reach()
     ensures { RunsReach }
 {}
 
-/// An interaction of a machine leaves a machine, under any numbers of the new agents.
+/// An interaction of a machine leads to a machine, under any numbers of the new agents.
 pub fn steps_keep_machines()
     ensures { StepsKeepMachines }
 {}
@@ -49,12 +49,12 @@ pub fn starts_are_machines()
     ensures { StartsAreMachines }
 {}
 
-/// A machine without active pairs is the one end of its program: each run that ends, in any order, has as many interactions and the same text.
+/// A machine without active pairs is the only end of its program: each run that ends, in any order, has as many interactions and the same text.
 pub fn normal_ends_are_one()
     ensures { NormalEndsAreOne }
 {}
 
-/// If there is room for the first pairs of the queue together, each of them has room at its turn, first in, first out, beside any agents that were
+/// If there is room for the first pairs of the queue together, each of them has room at its turn, first in, first out, after any agents that were
 /// made before.
 pub fn room_lasts()
     ensures { RoomLasts }

@@ -11,8 +11,8 @@ use in_phases::{Room, Sharing, Worked, reduce_in_parts};
 use std::alloc::Global;
 use std::thread::Threads;
 
-/// A phase: the net is reduced in parts that share nothing, each in a thread of its own but the rest, which the caller reduces. Which interactions
-/// are done, and in which order, is open; they are at most `most` of the sharing, and at least `floor` cells of each class are free afterwards. The
+/// A phase: the net is reduced in parts that share nothing, each in its own thread except the rest, which the caller reduces. The interactions and
+/// their order are open; they are at most `most` of the sharing, and at least `floor` cells of each class are free afterwards. The
 /// net is one that the program reaches by as many interactions more.
 ///
 /// The sharing is into at least one part, and `floor` cells of each class are free before. The room is used again, and grows if it is too small. A

@@ -3,7 +3,7 @@ ghost use Rattle.std.specs.Prelude.{◌≡◌};
 use in_arena::CellClass;
 use std::alloc::AllocError;
 
-/// Why there is no machine: the program's net has more agents of a class than cells, or memory ran out.
+/// The reason why there is no machine: the program's net has more agents of a class than cells, or memory ran out.
 #[derive(Debug, Drop)]
 pub enum StartFault {
     Full {

@@ -44,7 +44,7 @@ module _ (E : El) {M : Type 1} {𝓤 : Ura M} (𝓛 : Logic 𝓤) (b : ℕ) wher
   abbrev Row : ℕ → List (Place E) → Fml
   Row = row (R E) b
 
-  -- the row from o on, but for its i-th cell
+  -- the row from o on, except its i-th cell
   abbrev pub Others : ℕ → List (Place E) → ℕ → Fml
   Others o [] i = ftrue
   Others o (c ∷ cs) zero = Row (o + s) cs
@@ -69,7 +69,7 @@ module _ (E : El) {M : Type 1} {𝓤 : Ura M} (𝓛 : Logic 𝓤) (b : ℕ) wher
   none_here o zero = id⊢ 𝓤 (emp 𝓤)
   none_here o (suc n) = qed 𝓛 [] ∵ use0 𝓛 (‵ (Row (o + s) (replicate n None))) (none_here (o + s) n) $ nothing ! $ fjoin ! $ done !
 
-  -- those that are chosen go to another owner
+  -- the chosen cells go to another owner
   pub rows_part : (p : ℕ → Bool) (o : ℕ) (cs : List (Place E)) → ent 𝓤 (sem 𝓛 (Row o cs)) (sep 𝓤 (sem 𝓛 (Row o (those_of p cs))) (sem 𝓛 (Row o (those_of (but p) cs))))
   rows_part p o [] = qed 𝓛 (‵ (Row o []) ∷ []) ∵ nothing ! $ done !
   rows_part p o (c ∷ cs) =
@@ -101,7 +101,7 @@ module _ (E : El) {M : Type 1} {𝓤 : Ura M} (𝓛 : Logic 𝓤) (b : ℕ) wher
       use1 𝓛 (‵ (froom (elτ E) b o) ⊛ ‵ (froom (ty_array (elτ E) n) b (o + s))) (𝓛.laws.room_uncons (elτ E) n b o) $ split ! $
       use1 𝓛 (‵ (Cell o (Some None))) (𝓛.laws.room-raw (elτ E) b o) $ move ! (1 ∷ []) $ use1 𝓛 (‵ (Row (o + s) (replicate n (Some None)))) (of_room n (o + s)) $ move ! (1 ∷ 0 ∷ []) $ fjoin ! $ done !
 
-  -- a cell here is room for a value, whatever is in it
+  -- a cell here is room for a value, with any content
   pub cell_room : (c : Option (el_x E)) (o : ℕ) → ent 𝓤 (sem 𝓛 (Cell o (Some c))) (H.room (elτ E) b o)
   cell_room None o = 𝓛.laws.raw-room (elτ E) b o
   cell_room (Some x) o =
@@ -117,7 +117,7 @@ module _ (E : El) {M : Type 1} {𝓤 : Ura M} (𝓛 : Logic 𝓤) (b : ℕ) wher
       qed 𝓛 (‵ (Row o (Some c ∷ cs)) ∷ []) ∵ fsplit ! $ use1 𝓛 (‵ (froom (elτ E) b o)) (cell_room c o) $ move ! (1 ∷ []) $
       use1 𝓛 (‵ (froom (ty_array (elτ E) (length cs)) b (o + s))) (to_room cs (o + s) here) $ move ! (1 ∷ 0 ∷ []) $ by ! (𝓛.laws.room_cons (elτ E) (length cs) b o)
 
-  -- what a `&` to a row shows of one cell
+  -- the part of one cell that a `&` to a row shows
   pub cell_seen : (κ : Lft) (o : ℕ) (cs : List (Place E)) (i at : ℕ) → i < length cs → at ≡ i * s + o → ent 𝓤 (sem 𝓛 (row_lent (R E) b o cs κ)) (sem 𝓛 (cell_lent (R E) b at (get_or cs i None) κ))
   cell_seen κ o [] i at lt e = absurd (omega arith)
   cell_seen κ o (c ∷ cs) zero at lt e =

@@ -1,4 +1,4 @@
--- Laws of parting: what each of the two owners has, and that together they have all.
+-- Laws of parting: the cells of each of the two owners, and that together they have all.
 use Rattle.std.proofs.Common.{◌≡◌, refl, ℕ, zero, suc, ◌<◌, List, [], ◌∷◌, length, set, get_or, replicate, ap, ◌∙◌, arith}
 use Rattle.std.specs.Prelude.{Bool, true, false, not, Option, Some, None}
 use Rattle.in_memory.specs.Places.{IsFilled, IsHere, either_of, together}
@@ -79,7 +79,7 @@ module _ {X : Type 0} where
   all_but_one (c ∷ cs) zero = ap (λ l. None ∷ l) (all_of cs)
   all_but_one (c ∷ cs) (suc i) = ap (λ l. c ∷ l) (all_but_one cs i)
 
-  -- ---- what is chosen is in the part
+  -- ---- chosen cells are in the part
 
   pub here_in_part : (p : ℕ → Bool) (cs : List (Option (Option X))) (i : ℕ) → p i ≡ true → IsHere cs i → IsHere (those_of p cs) i
   here_in_part p cs i chosen h = (h.0, get_or-those_of p cs i ∙ ap (λ b. held b (get_or cs i None)) chosen ∙ h.1)

@@ -20,7 +20,7 @@ module _ {X : Type 0} where
     pub filled_there : i < length cs → IsFilled after i
     filled_there inside = (x, get_or-set_same cs i (Some (Some x)) None inside)
 
-    -- what was here, or written, stays so
+    -- a cell that was here, or written, stays so
     pub here_stays : (j : ℕ) → i < length cs → IsHere cs j → IsHere after j
     here_stays j inside had =
         ⊎_elim (λ (e : j ≡ i). (Some x, ap (λ k. get_or after k None) e ∙ get_or-set_same cs i (Some (Some x)) None inside))

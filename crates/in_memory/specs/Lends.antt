@@ -1,4 +1,4 @@
--- What an owner's cells are once a `&mut` into one of them has ended.
+-- An owner's cells after a `&mut` into one of them has ended.
 use Rattle.std.specs.Prelude.{ℕ, List, slice_set, Option, Some}
 use Rattle.std.specs.Borrow.{Fml, RattleType, MutBor, Lends}
 use Rattle.in_memory.specs.declared.cells.Cells.{Cells}

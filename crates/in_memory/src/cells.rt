@@ -12,7 +12,7 @@ use std::alloc::{AllocError, Allocator};
 use std::marker::{Model, PhantomData, Send, Sync};
 use std::mem::{align_of, size_of};
 
-/// Where a row begins. It owns nothing, and any owner of cells of the row may have a copy.
+/// The beginning of a row. It owns nothing, and any owner of cells of the row may have a copy.
 pub struct Base<T> {
     pub ptr: *mut T,
 }
@@ -52,8 +52,8 @@ unsafe impl<T: Send> Send for Cells<T> {}
 
 unsafe impl<T: Sync> Sync for Cells<T> {}
 
-/// The right to give the block of a row of `len` cells back to `alloc`, and the duty: it is no `Drop` type, so who has it can't let it go,
-/// and `deallocate` alone takes it. It takes no space.
+/// The right and the duty to give the block of a row of `len` cells back to `alloc`: it is no `Drop` type, so its owner can't let it go,
+/// and only `deallocate` takes it. It takes no space.
 pub struct Deed<T, A: Allocator> {
     mark: PhantomData<*const (T, A)>,
     pub ghost at: { Ptr },
@@ -95,7 +95,7 @@ pub fn allocate<T, A: Allocator>(
     }
 }
 
-/// Gives the block of a row back, with the content of its cells. No cell is another owner's.
+/// Gives the block of a row back, with the content of its cells. No cell may be another owner's.
 pub fn deallocate<T, A: Allocator>(
     alloc: &A,
     base: Base<T>,
@@ -149,7 +149,7 @@ impl<T> Cells<T> {
         Cells { mark: PhantomData }
     }
 
-    /// Takes out the cells that are chosen, for an owner of their own: any set of cells, which the proof names. It takes no time.
+    /// Takes out the chosen cells, for another owner: any set of cells, which the proof names. It takes no time.
     #[inline(always)]
     pub fn part_of(&mut self) -> Cells<T>
         ghost chosen: { ℕ → Bool }
@@ -159,7 +159,7 @@ impl<T> Cells<T> {
         Cells { mark: PhantomData }
     }
 
-    /// The same, where a value chooses the cells: what a proof names is picked from the arguments of a call.
+    /// The same, for cells that a value chooses: the proof picks the named set from the arguments of a call.
     #[inline(always)]
     pub fn part_by<H>(&mut self, by: &H) -> Cells<T>
         ghost chosen: { ℕ → Bool }
@@ -170,7 +170,7 @@ impl<T> Cells<T> {
         self.part_of()
     }
 
-    /// Takes one cell out, for an owner of its own.
+    /// Takes one cell out, for another owner.
     #[inline(always)]
     pub fn part(&mut self, index: usize) -> Cells<T>
         ensures one { (result.at ≡ self.old.at) × (result.slots ≡ slice_set (replicate (length self.old.slots) None) index (get_or self.old.slots index None)) }

@@ -1,7 +1,7 @@
 // Laws on a row that is parted among owners.
 ghost use Rattle.in_memory.specs.Splitting.{PartsAreAll, WrittenInPartIsWritten};
 
-/// Cells that are parted between two owners and joined again are those of the first owner, whichever takes in the other.
+/// If cells are parted between two owners and joined again, by either one, they are those of the first owner.
 pub fn parts_are_all<T>()
     ensures { PartsAreAll T }
 {}

@@ -71,7 +71,7 @@ module _ (m : MachineParts) (k : ℕ) (t : Taken) (now after : MachineParts) (h 
   pub room_back : (c : CellClass) → count_of after.vacant c + agents_of now.program.tables c t.part.agents ≡ count_of now.vacant c
   room_back c = ap (λ (p : Program). count_of after.vacant c + agents_of p.tables c t.part.agents) glued_there.but_queue.two.program_rest ∙ glued_there.but_queue.vacant c
 
--- what has just been taken can come back at once
+-- a part that was just taken out can come back at once
 pub comes_at_once : (m cut now : MachineParts) (t : Taken) → IsReducer m → IsReducer cut → (cuts : ℕ) → IsCutTimes m cuts cut → t.cuts ≡ cuts → IsSplitBy cut t.cuts t.cells t.seam t.part now → CanComeBack m 0 t now
 comes_at_once m cut now t of of_cut cuts times same split = record {
   rest = now;
@@ -89,7 +89,7 @@ comes_at_once m cut now t of of_cut cuts times same split = record {
       );
 }
 
--- .. and what has been reduced since
+-- .. and so can a part that was reduced since
 pub comes_reduced : (m rest now part : MachineParts) (t : Taken) (i j floor : ℕ) → IsTakenOut m t.cuts t.cells t.seam t.part rest → ReducesTo rest i now → ReducesTo t.part j part → HasFree now (floor + t.cells)
     → CanComeBack m (i + j) (record { part = part; seam = t.seam; cuts = t.cuts; cells = t.cells }) now
 comes_reduced m rest now part t i j floor taken of_rest of_part free = record {

@@ -15,7 +15,7 @@ use Rattle.in_phases.proofs.Places.{agent_in_net, agent_of_net}
 use Rattle.in_phases.proofs.Gathered.{gathered_still}
 use Rattle.in_interaction.proofs.Public.{has_value}
 
--- what a cut leaves: the program, the agents' symbols, what is free
+-- a cut keeps the program, the agents' symbols and the free cells
 pub record Stays (m n : MachineParts) : Type 0 where
   pub program : n.program ≡ m.program
   pub on : (y s : ℕ) → (net_in m).symbol y ≡ Some s → (net_in n).symbol y ≡ Some s

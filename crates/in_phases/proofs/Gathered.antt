@@ -18,7 +18,7 @@ none_gathered m marks reached no_other = record {
   inside = reached;
 }
 
--- what is gathered marks no other
+-- only gathered agents are marked
 pub gathered_marks : (m : MachineParts) (agents : List CellNo) (marks : List Bool) → AreOfBranch m agents marks → NoOtherIsMarked agents marks
 gathered_marks m agents marks h y none at = let k = h.listed y at in none k.0 k.1
 
@@ -72,7 +72,7 @@ module _ (m : MachineParts) (agents : List CellNo) (marks : List Bool) (h : AreO
     inside = λ y there. (let low = h.inside y there in let e = length-set marks c.0 true in omega (arith, low, e));
   }
 
--- what is gathered depends on which agents there are, and on nothing else
+-- a branch depends only on which agents there are
 pub gathered_still : (m n : MachineParts) (agents : List CellNo) (marks : List Bool) → ((y : ℕ) → HasAgent m y → HasAgent n y) → ((y : ℕ) → HasAgent n y → HasAgent m y) → AreOfBranch m agents marks → AreOfBranch n agents marks
 gathered_still m n agents marks on back h = record {
   there = λ k c at. on c.0 (h.there k c at);

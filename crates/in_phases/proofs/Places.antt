@@ -1,4 +1,4 @@
--- Which points of a reducer's net there are, and where they lead.
+-- The points of a reducer's net, and their partners.
 use Rattle.std.proofs.Common.{◌≡◌, ◌≤◌, ◌<◌, ◌+◌, ℕ, Option, Some, None, IsSome, IsSomeAnd, option_map, refl, sym, ap, ◌∙◌, subst, is_some, arith}
 use Rattle.std.proofs.lemmas.Option.{same_Some}
 use Rattle.in_arena.specs.declared.content.End.{End}
@@ -77,7 +77,7 @@ module _ (m : MachineParts) where
             let low : i ≤ arity_of m.program.tables s.0 = subst (λ (o : Option ℕ). IsSomeAnd o (λ (z : ℕ). i ≤ arity_of m.program.tables z)) (ap (option_map (λ (s : SymbolNo). s.0)) k) (net.points (Port c i) q f) in
             omega (arith, same, low)
 
-    -- where a point leads there is something
+    -- the agent to which a point leads exists
     pub leads_somewhere : (p : Point ℕ) (e : End) → (net_in m).partner p ≡ Some (joining.point_of e) → LeadsSomewhere m e
     leads_somewhere p (end.Free k) f = tt
     leads_somewhere p (end.Cell c i) f = agent_of_net c.0 (by ((net_in m).symbol c.0) refl (net.points (Port c.0 i) p (net.back p (Port c.0 i) f)))

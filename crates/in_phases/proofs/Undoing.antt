@@ -6,7 +6,7 @@ use Rattle.in_reducer.specs.Parting.{ReducesTo}
 use Rattle.in_reducer.specs.PartingLaws.{IsCutTimes, uncut, then_cut}
 use Rattle.in_reducer.proofs.Public.{cuts_are_undone}
 
--- what was there is cut w times, and is reduced to this since
+-- the net was cut w times, and reduced to this one since
 pub record IsCutAndReduced (m : MachineParts) (w k : ℕ) (now : MachineParts) : Type 0 where
   pub cut : MachineParts
   pub times : IsCutTimes m w cut
@@ -25,7 +25,7 @@ can_undo m now w k h = go h.cut h.times h.reduced
         let u = cuts_are_undone n cut now c i k reducer at reduced in
         record { join = u.0; two = u.1; after = λ o joined. record { cut = n; times = before; reduced = u.2 o joined } }
 
--- where none is left, it is undone
+-- if no cut is left, all are undone
 pub all_undone : (m now : MachineParts) (k : ℕ) → IsCutAndReduced m 0 k now → ReducesTo m k now
 all_undone m now k h = go h.cut h.times h.reduced
   where

@@ -9,19 +9,19 @@ use Rattle.in_net.specs.Parts.{IsPointOf, symbol_in}
 use Rattle.in_phases.specs.declared.branch.Branch.{Branch}
 use Rattle.in_reducer.specs.Machines.{MachineParts, parts_of}
 
--- the agent exists, and has this place
+-- the agent exists
 abbrev pub HasAgent : MachineParts → ℕ → Type 0
 HasAgent m c = IsSome (symbol_in (parts_of m) c)
 
 abbrev pub HasPlace : MachineParts → ℕ → ℕ → Type 0
 HasPlace m c i = IsPointOf (parts_of m) (point.Port (record { 0 = c }) i)
 
--- an end leads only to an agent that exists
+-- if an end leads to an agent, the agent exists
 abbrev pub LeadsSomewhere : MachineParts → End → Type 0
 LeadsSomewhere m (Cell c i) = HasAgent m c.0
 LeadsSomewhere m (Free k) = Unit {0}
 
--- these are agents of the net, each listed once, and the marks are set at their numbers alone
+-- these are agents of the net, each listed once, and only their numbers are marked
 pub record AreOfBranch (m : MachineParts) (agents : List CellNo) (marks : List Bool) : Type 0 where
   pub there : (k : ℕ) (c : CellNo) → slice_get agents k ≡ Some c → HasAgent m c.0
   pub once : AreListedOnce agents

@@ -32,7 +32,7 @@ pub record IsTakenOut (m : MachineParts) (cuts size : ℕ) (seam : Seam) (part r
   pub of_cut : IsReducer cut
   pub split : IsSplitBy cut cuts size seam part rest
 
--- a part that was taken out has been reduced since, and so was the rest, by k interactions together; there is room for its agents
+-- the part that was taken out and the rest were reduced since, by k interactions together; there is room for the part's agents
 pub record CanComeBack (m : MachineParts) (k : ℕ) (t : Taken) (now : MachineParts) : Type 0 where
   pub rest : MachineParts
   pub part : MachineParts

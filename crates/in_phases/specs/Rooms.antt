@@ -2,6 +2,6 @@
 use Rattle.std.specs.Prelude.{◌≤◌, length}
 use Rattle.in_phases.specs.declared.room.Room.{Room}
 
--- the second has room for at least as many numbers as the first
+-- the second room has room for at least as many numbers as the first
 abbrev pub KeepsRoom : Room → Room → Type 0
 KeepsRoom r s = (length r.branch.marks.items ≤ length s.branch.marks.items) × (length r.names.items ≤ length s.names.items)

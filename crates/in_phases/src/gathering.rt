@@ -19,7 +19,7 @@ impl Branch {
         }
     }
 
-    /// Grows it for nets whose agents have numbers below this one; it never shrinks. Refused only when out of memory.
+    /// Grows the branch for nets whose agents have numbers below this one; it never shrinks. Refused only when out of memory.
     pub(crate) fn reach(&mut self, numbers: u32) -> Result<(), AllocError>
         ensures reached { OnOk result (numbers ≤ length self.new.marks.items) }
         ensures more { length self.old.marks.items ≤ length self.new.marks.items }

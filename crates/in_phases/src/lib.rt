@@ -1,8 +1,8 @@
-//! A net that several workers reduce in parts, which share nothing: parts are split off one after another, each is reduced by a thread of its
-//! own, newest pair first, with its own queue and its own cells, and they are glued on again in the opposite order.
+//! A net that several workers reduce in parts, which share nothing. Parts are split off one after another, each is reduced by its own thread,
+//! newest pair first, with its own queue and its own cells, and they are glued on again in the opposite order.
 //!
 //! `gathering` gathers the agents of a part in a `branch`: the trees behind some of the pairs. `cutting` cuts the wires that lead out of it, and
-//! undoes cuts; `phases` does all of it, a part at a time: it splits one off, continues with the rest while a thread reduces the part, and glues it
+//! undoes cuts; `phases` does all this, a part at a time: it splits a part off, continues with the rest while a thread reduces the part, and glues it
 //! on again. So each step is on two nets alone.
 #![tactic(auto)]
 

@@ -13,7 +13,7 @@ use in_reducer::Reducer;
 use std::alloc::Global;
 use std::thread::{Threads, join_mut};
 
-/// How a net is shared out: into at most `parts` parts, the rest among them; each part gets `share` free cells of each class besides those of
+/// The sharing of a net: into at most `parts` parts, the rest among them; each part gets `share` free cells of each class besides those of
 /// its agents; `floor` cells of each class stay free in the rest; and at most `most` interactions are done together.
 #[derive(Clone, Copy, Debug, PartialEq, Eq)]
 pub struct Sharing {
@@ -48,7 +48,7 @@ fn alone(reducer: &mut Reducer, templates: &Templates, sharing: Sharing) -> Work
     }
 }
 
-/// Reduces a part in a thread of its own, and at the same time the rest in parts. Returns the counts of both.
+/// Reduces a part in its own thread, and at the same time the rest in parts. Returns the counts of both.
 #[cycle(phases)]
 fn at_once<R: Threads>(
     rt: &R,
@@ -86,8 +86,8 @@ fn at_once<R: Threads>(
     )
 }
 
-/// Reduces a net in parts, each in a thread of its own but the rest: newest pairs first. It is never refused: if memory or cells run out, there are
-/// fewer parts, and if a thread can't be started, its part is reduced after the rest. Which agents a part has is open. The room is used again, and
+/// Reduces a net in parts, each in its own thread except the rest: newest pairs first. It is never refused: if memory or cells run out, there are
+/// fewer parts, and if a thread can't be started, its part is reduced after the rest. The agents of each part are open. The room is used again, and
 /// grows if it is too small. The sharing has at least one part, and the cells that have to stay free are free before.
 #[cycle(phases)]
 pub fn reduce_in_parts<R: Threads>(

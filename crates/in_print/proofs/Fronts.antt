@@ -8,7 +8,7 @@ pub append_known-twice : (known : Option (List ℕ)) (a b : List ℕ) → append
 append_known-twice None a b = refl
 append_known-twice (Some xs) a b = ap Some (append_assoc xs a b)
 
--- a write of a front of what is left
+-- a write of a front of the rest
 pub written : (i n : ℕ) (bytes : List ℕ) → take i bytes ++ take n (take (length bytes - i) (drop i bytes)) ≡ take (i + n) bytes
 written i n bytes = ap (λ z. take i bytes ++ take n z) (take_rest bytes i) ∙ sym (take-add i n bytes)
 

@@ -26,7 +26,7 @@ agree (end.Free i) (end.Free j) = equal_turned i j
 abbrev pub later : Option ℕ → Option ℕ → Option ℕ
 later a b = ord_max (option_cmp nat_cmp) a b
 
--- one number more, where there is one; else 1, where the wire is met here
+-- one number more, if there is one; otherwise 1, if the wire is met here
 abbrev more : Bool → Option ℕ → Option ℕ
 more t o = elim o [ None ↦ cond t (Some 1) None | Some k ↦ Some (suc k) ]
 

@@ -12,7 +12,7 @@ use Rattle.in_machine.specs.Texts.{words_of, text_of}
 abbrev pub parts_of_text : MachineParts → List (TextPart ℕ)
 parts_of_text m = text_parts (signature_of m.program.tables) (words_of m) (net_of (parts_of m)) (count_by is_some m.agents) m.queue
 
--- it holds each agent once, and each variable twice: so it is deep enough
+-- the text holds each agent once, and each variable twice: so it is deep enough
 abbrev pub TextsHoldAll : Type 0
 TextsHoldAll = (m : MachineParts) → IsMachine m → HoldsAll (net_of (parts_of m)) (parts_of_text m)
 

@@ -1,4 +1,4 @@
--- The term at a point, while it is written: the agents that hang on each other there, and the text of them that is still to be written. Words of the
+-- The term at a point, while it is written: the agents that hang on each other there, and their text that is still to be written. Words of the
 -- inner contracts.
 use Rattle.std.specs.Prelude.{◌≡◌, ℕ, zero, suc, ◌-◌, ◌<◌, ◌≤◌, List, [], ◌∷◌, ◌++◌, length, Option, Some, None}
 use Rattle.in_net.specs.Nets.{Point, Port}
@@ -42,7 +42,7 @@ IsInHand p fs (Some q) = q ≡ last_point p fs
 abbrev pub IsShallow : Setting → ℕ → Point ℕ → Type 0
 IsShallow s d p = (fs : List Frame) → LeadsDown s p fs → (length fs ≤ d) × ((y : ℕ) → s.net.partner (last_point p fs) ≡ Some (Port y 0) → length fs < d)
 
--- some of it was written, and less is still to be written
+-- some of the text was written, and less is still to be written
 pub record WritesOn (s : Setting) (d : ℕ) (p : Point ℕ) (old : TextSoFar) (fs : List Frame) (x : Option (Point ℕ)) (new : TextSoFar) (gs : List Frame) (y : Option (Point ℕ)) : Type 0 where
   pub text : with_parts s new (remaining s d gs y) ≡ with_parts s old (remaining s d fs x)
   pub fewer : length (remaining s d gs y) < length (remaining s d fs x)

@@ -56,7 +56,7 @@ fn begin(
     Ok(Some(End::Cell(cell, 1)))
 }
 
-/// Writes on after the term at a place of this agent, while the agents below wait on the stack. Returns the end of the term that follows, if another
+/// Continues after the term at a place of this agent, while the agents below wait on the stack. Returns the end of the term that follows, if another
 /// place has one.
 fn go_on(
     machine: &Machine,

@@ -1,4 +1,4 @@
--- What `run` tells with status 0 is of the one end of its program.
+-- The output of `run` with status 0 is that of the only end of its program.
 use Rattle.std.proofs.Common.{◌≡◌, inl, inr, ℕ, nat_eq, List, [], ◌++◌, map, length, Option, Ok, refl, sym, subst, ap, ◌∙◌}
 use Rattle.std.proofs.lemmas.List.{append_cancel_left}
 use Rattle.std.proofs.lemmas.Option.{same_Some}
@@ -47,7 +47,7 @@ ends_kept p q k written h e = record {
       ∙ ap (λ n. text (signature_of q.tables) (words_in (record { tables = q.tables; rules = p.rules; net = n; numbers = p.numbers; rule_certificates = p.rule_certificates; net_certificate = p.net_certificate })) nat_eq e.net (length e.agents) []) h.net;
 }
 
--- what a reply with status 0 is of; its lines begin with what is shown of the net's text
+-- the program of a reply with status 0; the lines begin with the shown part of the net's text
 record IsNormal (shown : List ℕ → List ℕ) (input lines : List ℕ) : Type 0 where
   program : Program
   valid : IsAccepted input program
@@ -105,11 +105,11 @@ of_each_end Derive input lines s r so e is = tt
 of_each_end (Run l) input lines s r so e is = λ zero. one_normal all_shown input lines (normal l input lines s r so e is zero)
 of_each_end (Count l) input lines s r so e is = λ zero. one_normal none_shown input lines (normal_count l input lines s r so e is zero)
 
--- what is said of a text is a reply
+-- the lines and the status of a report are a reply
 pub replied : (a : Action) (input lines : List ℕ) (s : Status) (r : Report) → IsReport a input r → lines ≡ lines_of input r → s ≡ status_of r → IsReply a input lines s
 replied a input lines s r so e is = record { report = r; so = so; lines_are = e; status_is = is; any_order = of_each_end a input lines s r so e is }
 
--- two replies of `run` to one text that end normally are the same, whatever their limits are
+-- two replies of `run` to one text that end normally are the same, with any limits
 pub normal_lines_are_one : NormalLinesAreOne
 normal_lines_are_one l m input lines more one other =
     let n = normal m input more (status 0) other.report other.so other.lines_are other.status_is refl in

@@ -1,4 +1,4 @@
--- The outcome of a program's run, with its net or without.
+-- The outcome of a program's run, with or without its net.
 use Rattle.std.proofs.Common.{ℕ, List, ◌++◌, Bool, true, false, Ok}
 use Rattle.in_arena.specs.declared.content.CellClass.{CellClass}
 use Rattle.in_check.specs.Programs.{Program}

@@ -1,4 +1,4 @@
--- What telling lines on a text does.
+-- The effects of writing lines on a text.
 use Rattle.std.proofs.Common.{◌≡◌, ◌<◌, ◌+◌, List, ◌++◌, [], ◌∷◌, length, take, ℕ, zero, suc, sym, subst, ap, ◌∙◌, refl, inl, inr, arith, length-append, Result, Ok, Err, IfOk, OnErr, Vec, Global}
 use Rattle.std.specs.Io.KnownBytes.{append_known}
 use Rattle.in_syntax.specs.Streams.{Device, Reader}
@@ -42,7 +42,7 @@ pub lines_told : {E : Type 0} (So : List ℕ → Status → Type 0) (w w' : Devi
 lines_told So w w' (Ok v) these s answer so is tell none = (v.items, s, inl (subst (λ l. So l s) (sym is) so), tell)
 lines_told So w w' (Err e) these s answer so is tell none = wanted So w w' answer none
 
--- what is so of the lines in another word
+-- a relation of the lines and the status that implies another one
 pub told_as : (So That : List ℕ → Status → Type 0) (w w' : Device) (answer : Status) → ((lines : List ℕ) (s : Status) → So lines s → That lines s) → TellsOne So w w' answer → TellsOne That w w' answer
 told_as So That w w' answer f (lines, s, inl so, tell) = (lines, s, inl (f lines s so), tell)
 told_as So That w w' answer f (lines, s, inr wants, tell) = (lines, s, inr wants, tell)

@@ -43,7 +43,7 @@ pub data Finding : Type 0 where
   stopped : MachineParts → ℕ → Stop → Finding
   full : CellClass → ℕ → ℕ → Finding
 
--- the finding is of the kind that this action asks for, and it is true
+-- the finding is of the kind that this action requests, and it is true
 abbrev pub IsFinding : Action → Program → Finding → Type 0
 IsFinding Check p counted = Unit {0}
 IsFinding Derive p derived = Unit {0}
@@ -78,7 +78,7 @@ pub data Report : Type 0 where
   accepted : Program → Finding → Report
   refused : Refusal → Report
 
--- the output is right
+-- the output is right for the action and the text
 abbrev pub IsReport : Action → List ℕ → Report → Type 0
 IsReport a text (accepted p f) = IsAccepted text p × IsFinding a p f
 IsReport a text (refused r) = IsRefused text r
@@ -109,7 +109,7 @@ pub record IsReply (a : Action) (text lines : List ℕ) (s : Status) : Type 0 wh
 abbrev pub WantsMemory : List ℕ → Status → Type 0
 WantsMemory lines s = (lines ≡ memory_line) × (s ≡ memory_status)
 
--- a possible output once these bytes are read: that on them, if they are enough, or that memory ran out
+-- a possible output after these bytes are read: the reply to them, if they are enough, or that memory ran out
 abbrev pub Says : Action → Bool → List ℕ → List ℕ → Status → Type 0
 Says a ended text lines s = (IsEnoughText ended text × IsReply a text lines s) ⊎ WantsMemory lines s
 
@@ -118,7 +118,7 @@ abbrev pub report_action : Bool → Action
 report_action true = Derive
 report_action false = Check
 
--- a run, with its net or without
+-- a run, with or without its net
 abbrev pub run_action : Bool → Limits → Action
 run_action true l = Run l
 run_action false l = Count l
@@ -146,15 +146,15 @@ TellsUsage w w' e e' Memory answer = Tells w w' memory_line memory_status answer
 
 -- ---- words of the inner contracts
 
--- such lines are written, with such a status; or that memory ran out
+-- lines and a status with this relation are written, or that memory ran out
 abbrev pub TellsOne : (List ℕ → Status → Type 0) → Device → Device → Status → Type 0
 TellsOne So w w' answer = (lines : List ℕ) × (s : Status) × (So lines s ⊎ WantsMemory lines s) × Tells w w' lines s answer
 
--- these lines and this status
+-- the lines and the status are these
 abbrev pub AreThese : List ℕ → Status → List ℕ → Status → Type 0
 AreThese these this lines s = (lines ≡ these) × (s ≡ this)
 
--- those of the finding on a program
+-- the lines and the status are those of the finding on a program
 abbrev pub AreFound : Action → Program → List ℕ → Status → Type 0
 AreFound a p lines s = (f : Finding) × IsFinding a p f × (lines ≡ finding_lines p f) × (s ≡ finding_status f)
 

@@ -141,7 +141,7 @@ fn tell_run_fault<W: TextOut>(alloc: Global, writer: &mut W, fault: &RunFault) -
     }
 }
 
-/// Writes the outcome of a run, with its net or without.
+/// Writes the outcome of a run, with or without its net.
 fn tell_end<W: TextOut>(alloc: Global, writer: &mut W, net: bool, outcome: &Outcome) -> Status
     requires { (W.device writer.old).failures < 2 ^ 64 - 1 }
     ensures { TellsOne (AreThese (net_shown net (text_of outcome.now.machine) ++ run_lines outcome.now.interactions outcome.now.stop) (stop_status outcome.now.stop))
@@ -193,7 +193,7 @@ fn tell_found<W: TextOut>(alloc: Global, writer: &mut W, derive: bool, checked: 
     }
 }
 
-/// Writes why a text is refused, or that memory ran out.
+/// Writes the reason why a text is refused, or that memory ran out.
 pub(crate) fn tell_fault<W: TextOut>(
     alloc: Global,
     writer: &mut W,
@@ -212,7 +212,7 @@ pub(crate) fn tell_fault<W: TextOut>(
     }
 }
 
-/// Writes the output of `check` on a text in memory, or that of `derive`, and returns the status: as `report` of a text that it reads.
+/// Writes the output of `check` on a text in memory, or that of `derive`, and returns the status, as `report` does on a text that it reads.
 pub fn report_text<W: TextOut>(alloc: Global, writer: &mut W, derive: bool, text: &[u8]) -> Status
     requires { (W.device writer.old).failures < 2 ^ 64 - 1 }
     ensures { TellsOne (IsReply (report_action derive) text.now) (W.device writer.old) (W.device writer.new) result }
@@ -314,8 +314,8 @@ pub fn act_watched<T: Threads, R: TextIn, W: TextOut, H: Watch>(
 }
 
 /// Does the action that the words name: `check` and `derive` as `report` does. For `run` the lines on an accepted program are the net that the
-/// run reaches, the count of its interactions and how it stopped, or the line of a net that doesn't fit the cells; without its net they are the same
-/// but for the net. All else is as for `report`.
+/// run reaches, the count of its interactions and its stop, or the line of a net that doesn't fit the cells; without its net the same lines
+/// except the net's. All else is as for `report`.
 pub fn act<T: Threads + Wait, R: TextIn, W: TextOut>(
     rt: &T,
     alloc: Global,
@@ -330,8 +330,8 @@ pub fn act<T: Threads + Wait, R: TextIn, W: TextOut>(
     act_watched(rt, alloc, action, reader, writer, &mut NoWatch)
 }
 
-/// Writes why the words name no action: help, or that memory ran out, to the output, and an error in the words to the error stream. The program
-/// writes the version, which it knows. A failure to write an error changes nothing.
+/// Writes the reason why the words name no action: help, or that memory ran out, to the output, and an error in the words to the error stream. The
+/// program writes the version, which it knows. A failure to write an error changes nothing.
 pub fn tell_usage<W: TextOut, E: TextOut>(usage: &Usage, output: &mut W, errors: &mut E) -> Status
     requires output { (W.device output.old).failures < 2 ^ 64 - 1 }
     requires errors { (E.device errors.old).failures < 2 ^ 64 - 1 }

@@ -38,7 +38,7 @@ fn failure(alloc: Global, device: Device, done: &str, why: Error) -> Result<Stri
     }
 }
 
-/// Writes which operation on a device failed, as `read`, and the reason. It writes nothing if memory runs out, and a failure to write is ignored.
+/// Writes which operation on a device failed, such as `read`, and the reason. Writes nothing if memory runs out. A failure to write is ignored.
 pub fn tell_failure<E: Write>(
     alloc: Global,
     device: Device,

@@ -15,7 +15,7 @@ use in_run::{Limits, StartFault, run_in_turn};
 use in_syntax::TextOut;
 use std::alloc::Global;
 
-/// Writes why there is no start: a net that doesn't fit the cells, or running out of memory.
+/// Writes the reason why there is no start: a net that doesn't fit the cells, or running out of memory.
 fn tell_no_start<W: TextOut>(alloc: Global, writer: &mut W, fault: StartFault) -> Status
     requires { (W.device writer.old).failures < 2 ^ 64 - 1 }
     ensures { TellsOne (λ lines s. (c : CellClass) × (need : ℕ) × (free : ℕ) × (fault ≡ Full c need free) × AreThese (start_line c need free) (status 4) lines s)
@@ -49,7 +49,7 @@ fn tell_run_in_turn<W: TextOut>(
     }
 }
 
-/// Writes the output of `run` with one worker on a text in memory, and returns the status: as `act` of a text that it reads. It starts no thread.
+/// Writes the output of `run` with one worker on a text in memory, and returns the status, as `act` does on a text that it reads. Starts no thread.
 pub fn run_text<W: TextOut>(alloc: Global, writer: &mut W, limits: Limits, text: &[u8]) -> Status
     requires { (W.device writer.old).failures < 2 ^ 64 - 1 }
     ensures { TellsOne (IsReply (Run limits) text.now) (W.device writer.old) (W.device writer.new) result }

@@ -2,8 +2,8 @@
 //!
 //! `reading` reads the text; it is checked, and all its lines are made in memory (`lines`, `steps`, `runs`) before one is written, so memory runs out
 //! before the first byte or never. A printed net is written by `write_net` once the lines after it are made. `acting` has the calls, `in_turn` the
-//! one that runs a text in memory without threads. The streams of the system (`streams`) are a reader and a writer that keep why a read or a write
-//! failed, for the messages of `failures`.
+//! call that runs a text in memory without threads. The streams of the system (`streams`) are a reader and a writer that keep the reason of a failed
+//! read or write, for the messages of `failures`.
 #![tactic(auto)]
 
 mod acting;

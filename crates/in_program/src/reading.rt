@@ -22,7 +22,7 @@ pub fn read_text<R: TextIn>(alloc: Global, reader: &mut R) -> Input
 {
     let mut text = Vec::new(alloc);
     let mut buffer = [0u8; 4096];
-    // Each turn but the last brings at least one byte, so these are enough.
+    // Each turn except the last brings at least one byte, so these are enough.
     for _turn in 0..MAX_TEXT_BYTES + 1 {
         match reader.read(&mut buffer) {
             Err(()) => return Input::Failed,

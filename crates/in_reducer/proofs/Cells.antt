@@ -1,4 +1,4 @@
--- The net that the cells show, and how many cells there are.
+-- The net that the cells show, and the number of cells.
 pub mod AsMany
 pub mod AtRest
 pub mod Counted

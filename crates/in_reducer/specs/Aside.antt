@@ -17,13 +17,13 @@ pub record IsNamingInPlace (n : Net ℕ) (x : Redex ℕ ℕ) (name : ℕ → ℕ
   pub fresh : (k s : ℕ) → x.member.symbol k ≡ Some s → (n.symbol (name k) ≡ None) ⊎ ((name k ≡ x.one) ⊎ (name k ≡ x.two))
   pub apart : (k l s t : ℕ) → x.member.symbol k ≡ Some s → x.member.symbol l ≡ Some t → name k ≡ name l → k ≡ l
 
--- .. but not the pair's numbers aside
+-- .. but they aren't the pair's numbers in the net with the pair aside
 pub record IsReusing (n : Net ℕ) (x : Redex ℕ ℕ) (f name : ℕ → ℕ) : Type 0 where
   pub in_place : IsNamingInPlace n x name
   pub aside : (k s : ℕ) → x.member.symbol k ≡ Some s → (name k ≢ f x.one) × (name k ≢ f x.two)
 
 module _ (n m : Net ℕ) (x : Redex ℕ ℕ) (f : ℕ → ℕ) where
-  -- a wire of the net with the pair aside, away from the pair, is one of the net itself, away from the pair there
+  -- a wire between points away from the pair, in the net with the pair aside, is one of the net itself, with both points away from the pair there
   abbrev pub WiresAreOfBefore : Type 0
   WiresAreOfBefore = (u v : Point ℕ) → (IsOfPair (moved f x) u → ⊥) → (IsOfPair (moved f x) v → ⊥) → m.partner u ≡ Some v → (n.partner u ≡ Some v) × (IsOfPair x u → ⊥) × (IsOfPair x v → ⊥)
 

@@ -18,7 +18,7 @@ pub record CanCut (m : MachineParts) (c i : ℕ) : Type 0 where
   pub wire : (net_in m).partner (Port c i) ≡ Some other
   pub waits : i ≡ 0 → (d : ℕ) → other ≢ Port d 0
 
--- the wire at this place of that agent is cut, and its two points are at new free ends, without a name; all else is as it was
+-- the wire at this place of that agent is cut: its two points are at new free ends without a name; all else is as it was
 pub record CutsAt (m : MachineParts) (c i : ℕ) (after : MachineParts) : Type 0 where
   pub program : after.program ≡ m.program
   pub cut : IsCutOnce (system_of m.program) (net_in m) (net_in after)

@@ -1,4 +1,4 @@
--- When a part can be glued on, and in which order the free ends of both come. That nets are reduced in parts is this project's own choice.
+-- The condition for gluing a part on, and the order of the free ends of both. That nets are reduced in parts is this project's own choice.
 use Rattle.std.specs.Prelude.{◌≡◌, ◌<◌, ◌≤◌, ℕ, List, [], ◌∷◌, ◌++◌, take, drop}
 use Rattle.in_arena.specs.declared.content.CellClass.{CellClass}
 use Rattle.in_arena.specs.declared.content.CellNo.{CellNo}
@@ -12,13 +12,13 @@ pub record CanAppend (m other : MachineParts) : Type 0 where
   pub program : other.program ≡ m.program
   pub room : (c : CellClass) → agents_of m.program.tables c other.agents ≤ count_of m.vacant c
 
--- by turns an element of the one list and one of the other
+-- an element of the one list and one of the other, by turns
 abbrev pub in_turn : {X : Type 0} → List X → List X → List X
 in_turn [] xs = []
 in_turn (y ∷ ys) [] = []
 in_turn (y ∷ ys) (x ∷ xs) = y ∷ x ∷ in_turn ys xs
 
--- the rest's elements from before the cuts, and then, for each cut, that of the part and that of the rest
+-- the rest's elements from before the cuts, and then, for each cut, the part's element and the rest's
 abbrev pub glued : {X : Type 0} → ℕ → List X → List X → List X
 glued own rest part = take own rest ++ in_turn part (drop own rest)
 

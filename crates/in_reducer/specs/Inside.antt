@@ -95,18 +95,18 @@ pub record IsKept (r : Body) : Type 0 where
 
 -- ---- while a right member is beside its pair
 
--- the same over this arena
+-- the body with this arena
 abbrev pub over : ArenaView → Body → Body
 over a r = record { checked = r.checked; arena = a; free = r.free; ends = r.ends; queue = r.queue; tools = r.tools }
 
--- over that arena it was a reducer, with room for this pair; now the right member of the pair's template is beside it
+-- with that arena the body was a reducer, with room for this pair; now the right member of the pair's template is beside it
 pub record StandsBeside (r : Body) (a : ArenaView) (i : ℕ) (p : TemplateParts) : Type 0 where
   pub net : KeepsNet (over a r)
   pub at : IsTemplateAt (reducer_view (over a r)) i p
   pub room : HasRoomAt (reducer_view (over a r)) i
   pub put : IsPut p.member r.tools.placed.cells a r.arena
 
--- the tools are those of before, but for the list of new pairs, which is empty and has the room that it had
+-- the tools are as before, except for the list of new pairs, which is empty and has the same room
 pub record AreAsBefore (old new : Tools) : Type 0 where
   pub placed : new.placed ≡ old.placed
   pub points : new.points ≡ old.points

@@ -32,7 +32,7 @@ named ns k = (slice_index_or ns k (record { 0 = 0 })).0
 abbrev pub interaction_of : PairSetting → List CellNo → Interaction
 interaction_of s ns = record { net = s.net; rule = s.rule; one = s.one; two = s.two; name = named ns }
 
--- the cells show the net, in which the pair is one, and the template is that of its rule
+-- the cells show the net, of which the pair is one, and the template is that of its rule
 pub record IsAbout (t : Tables) (s : PairSetting) (p : TemplateParts) (pair : Pair) (own : ℕ) (a : ArenaView) (ends : List End) : Type 0 where
   pub net : IsNet (signature_of t) (net_of s.net)
   pub over : IsOver t s.net
@@ -54,6 +54,6 @@ pub record IsAbout (t : Tables) (s : PairSetting) (p : TemplateParts) (pair : Pa
 abbrev pub IsInteracted : Tables → PairSetting → ℕ → List CellNo → ArenaView → List End → List (ℕ × ℕ) → List (ℕ × ℕ) → Type 0
 IsInteracted t s own ns a ends old new = IsDone t (interaction_of s ns) own a ends × AddsMade t (interaction_of s ns) old new
 
--- .. and beside it is the right member, in these cells, which showed none
+-- .. and beside it is the right member, in these cells, which had no agents
 abbrev pub HasBeside : Tables → PairSetting → TemplateParts → Pair → ℕ → List CellNo → ArenaView → List End → Type 0
 HasBeside t s p pair own ns b ends = (a : ArenaView) × IsAbout t s p pair own a ends × IsPut p.member ns a b

@@ -16,7 +16,7 @@ use Rattle.in_reducer.specs.Steps.{StepsAt}
 abbrev pub ReducersAsPromised : Type 0
 ReducersAsPromised = (m : MachineParts) → IsReducer m → IsAsPromised (system_of m.program) (net_of (parts_of m))
 
--- an interaction of a reducer leaves one, and is one interaction more of a run
+-- an interaction of a reducer leads to a reducer, and makes a run one interaction longer
 abbrev pub StepsKeepReducers : Type 0
 StepsKeepReducers = (m o : MachineParts) (i : ℕ) → IsReducer m → StepsAt m i o →
     IsReducer o × ((k : ℕ) (n : Net ℕ) → Run (system_of m.program) k n (net_of (parts_of m)) → Run (system_of m.program) (suc k) n (net_of (parts_of o)))

@@ -1,4 +1,4 @@
--- Cells for a net to come, and a program's net that is laid in them. No contract of a public call speaks of it. This project's own choice.
+-- Cells for a new net, and a program's net that is laid in them. No contract of a public call speaks of it. This project's own choice.
 use Rattle.std.specs.Prelude.{◌≡◌, ◌+◌, ◌*◌, ◌<◌, ◌≤◌, ℕ, List, [], length, map, replicate, take, Some, slice_get}
 use Rattle.in_arena.specs.Arenas.{free_of}
 use Rattle.in_arena.specs.Classes.{classes}
@@ -24,7 +24,7 @@ pub record IsFresh (size : ℕ) (f : Fresh) : Type 0 where
   pub queue : f.queue.items ≡ []
   pub queue_room : length classes * size + 2 * most_ends ≤ 2 * f.queue.room + 1
 
--- there is room for the member, which has no more joints than a net has free ends, and whose joints and pairs are of its own agents
+-- there is room for the member, which has no more boundary ends than a net has free ends; its joints and pairs are of its own agents
 pub record CanLay (m : MemberParts) (f : Fresh) : Type 0 where
   pub free : IsEnough (count_of m.need) (free_of f.arena)
   pub few : length m.joints ≤ max_free

@@ -3,7 +3,7 @@ use Rattle.std.specs.Prelude.{◌≡◌, ◌<◌, ℕ, length}
 use Rattle.in_arena.specs.Arenas.{ArenaView, state_at}
 use Rattle.in_arena.specs.States.{Leased, IsLeased}
 
--- the cells on lease are those of before without this bag's
+-- the cells on lease are those of before, without this bag's cells
 pub record AreSettled (bag a b : ArenaView) : Type 0 where
   pub memory : b.memory ≡ a.memory
   pub cells : b.cells ≡ a.cells

@@ -24,7 +24,7 @@ pub record MachineParts : Type 0 where
   pub queue : List (ℕ × ℕ)
   pub vacant : Need
 
--- the net that it shows; its wires are those of the agents' and free ends' partners
+-- the net that it shows; the partners of agents' ports and of free ends are its wires
 abbrev pub parts_of : MachineParts → Parts
 parts_of m = unlisted m.agents m.free
 

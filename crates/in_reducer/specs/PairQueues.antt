@@ -2,7 +2,7 @@
 use Rattle.std.specs.Prelude.{◌≤◌, ◌+◌, ◌*◌, ℕ, List, drop, length, vec_capacity}
 use Rattle.in_reducer.specs.declared.pair_queue.PairQueue.TheInside.{Inside}
 
--- the pairs that wait, the first one first, and for how many there is room
+-- the pairs that wait, the first one first, and the number of pairs for which there is room
 pub record QueueParts : Type 0 where
   pub items : List (ℕ × ℕ)
   pub room : ℕ
@@ -13,7 +13,7 @@ pub record QueueParts : Type 0 where
 abbrev pub queue_view : Inside → QueueParts
 queue_view q = record { items = drop q.first q.row.items; room = q.room }
 
--- the row ends at `end` at the latest, where there is room; there is room for twice the pairs, so that they can move to the beginning; and no more
+-- the row is no longer than `end`, and has room up to there; there is room for twice the pairs, so that they can move to the beginning; and no more
 -- pairs wait than there is room for
 pub record KeepsQueue (q : Inside) : Type 0 where
   pub first : q.first ≤ length q.row.items

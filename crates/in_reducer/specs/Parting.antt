@@ -18,16 +18,16 @@ names_of m = map (λ f. f.name) m.free
 
 -- ---- the free ends of a net in two parts
 
--- by turns one of the part (1) and one of the rest (0), from these on, a given number of times
+-- a given number of times, one of the part (1) and one of the rest (0), by turns, from these numbers on
 abbrev pub by_turns : ℕ → ℕ → ℕ → List (ℕ × ℕ)
 by_turns own j zero = []
 by_turns own j (suc w) = (1, j) ∷ (0, own + j) ∷ by_turns own (suc j) w
 
--- of a net that had `own` free ends before `cuts` wires were cut: the first end of each cut is one of the part, the second one of the rest
+-- in a net that had `own` free ends before `cuts` wires were cut, the first end of each cut is one of the part, and the second one of the rest
 abbrev pub ends_of_two : ℕ → ℕ → List (ℕ × ℕ)
 ends_of_two own cuts = ends_of 0 0 own ++ by_turns own 0 cuts
 
--- the number in it of this free end of the rest (part 0) or the part (part 1)
+-- the number in the net of this free end of the rest (part 0) or the part (part 1)
 abbrev pub place_of_two : ℕ → ℕ → ℕ → ℕ
 place_of_two own zero e = cond (nat_lt e own) e (own + suc ((e - own) + (e - own)))
 place_of_two own (suc i) e = own + (e + e)
@@ -62,12 +62,12 @@ pub record CanSplit (m : MachineParts) (agents : List CellNo) (own cuts : ℕ) :
   pub closed : (k i : ℕ) (c : CellNo) (q : Point ℕ) → slice_get agents k ≡ Some c → (net_in m).partner (Port c.0 i) ≡ Some q → IsInPart agents own cuts q
   pub ends : (j : ℕ) (q : Point ℕ) → j < cuts → (net_in m).partner (Free (own + (j + j))) ≡ Some q → IsInPart agents own cuts q
 
--- the rest has none of these agents, and all others of the net
+-- the rest has none of these agents, and all other agents of the net
 pub record HasOthers (m : MachineParts) (agents : List CellNo) (rest : MachineParts) : Type 0 where
   pub gone : (k : ℕ) (c : CellNo) → slice_get agents k ≡ Some c → (net_in rest).symbol c.0 ≡ None
   pub others : (y : ℕ) → ((k : ℕ) → slice_get agents k ≡ Some (record { 0 = y }) → ⊥) → (net_in rest).symbol y ≡ (net_in m).symbol y
 
--- these agents are the part, which has `size` cells of each class, and their old cells are free in the rest; queues are open
+-- these agents are the part, which has `size` cells of each class, and their old cells are free in the rest; the order of the queues is open
 pub record IsSplitButQueues (m : MachineParts) (agents : List CellNo) (own cuts size : ℕ) (rest part : MachineParts) : Type 0 where
   pub of_rest : HasOthers m agents rest
   pub two : IsOfTwo m rest part own cuts
@@ -98,7 +98,7 @@ pub record IsGluedOn (rest part : MachineParts) (own cuts : ℕ) (m : MachinePar
 
 -- ---- reduced
 
--- k interactions lead from the net of the one to that of the other, under any numbers of their agents; program, names of free ends and numbers of
+-- k interactions lead from the net of the first to that of the second, under any numbers of their agents; program, names of free ends and numbers of
 -- cells stay
 pub record ReducesTo (m : MachineParts) (k : ℕ) (after : MachineParts) : Type 0 where
   pub program : after.program ≡ m.program

@@ -22,14 +22,14 @@ StepsReduce = (m o : MachineParts) (i : ℕ) → IsReducer m → StepsAt m i o �
 abbrev pub ReductionsGoOn : Type 0
 ReductionsGoOn = (l m n : MachineParts) (j k : ℕ) → ReducesTo l j m → ReducesTo m k n → ReducesTo l (j + k) n
 
--- a part that is split off, reduced by itself while the rest is, and glued on again: the whole is reduced by both counts together
+-- if a part is split off, both are reduced by themselves, and it is glued on again, the whole is reduced by the sum of both counts
 abbrev pub PartsReduceTheWhole : Type 0
 PartsReduceTheWhole = (m rest part rest_after part_after after : MachineParts) (agents : List CellNo) (own cuts cells j k : ℕ) → IsReducer m → IsReducer rest → IsReducer part →
     IsSplitButQueues m agents own cuts cells rest part → ReducesTo rest j rest_after → ReducesTo part k part_after → IsGluedButQueue rest_after part_after own cuts after → ReducesTo m (j + k) after
 
 -- ---- determined results
 
--- the one queue is the other in some order: each pair of the one has a place in the other, with the same pair there, no two have one place,
+-- the second queue is the first in some order: each pair of the first has a place in the second, with the same pair there, no two have one place,
 -- and no place is left over
 pub record IsReordered (IsSame : ℕ × ℕ → ℕ × ℕ → Type 0) (queue queue_too : List (ℕ × ℕ)) : Type 0 where
   pub place : ℕ → ℕ
@@ -37,7 +37,7 @@ pub record IsReordered (IsSame : ℕ × ℕ → ℕ × ℕ → Type 0) (queue qu
   pub once : (j k : ℕ) → j < length queue → k < length queue → place j ≡ place k → j ≡ k
   pub all : (j : ℕ) → j < length queue_too → (k : ℕ) × (k < length queue) × (place k ≡ j)
 
--- the same two agents, in either order. (Of two constructors, or two destructors, the one with the lower number is first; a sound net has
+-- the same two agents, in either order. (Of two constructors, or two destructors, the agent with the lower number is first; a sound net has
 -- no such pair)
 abbrev pub AreSameTwo : ℕ × ℕ → ℕ × ℕ → Type 0
 AreSameTwo q r = (r ≡ q) ⊎ (r ≡ (q.1, q.0))

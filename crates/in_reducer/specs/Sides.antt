@@ -1,4 +1,4 @@
--- The sides of the boundary ends of an active pair, which are set before these are joined.
+-- The sides of the boundary ends of an active pair, which are set before the ends are joined.
 use Rattle.std.specs.Prelude.{◌≡◌, ◌≢◌, ◌+◌, ◌-◌, ◌<◌, ℕ, suc, cond, nat_eq, nat_lt, List, length, take, Option, Some, option_map, slice_get, slice_index_or}
 use Rattle.in_arena.specs.Arenas.{ArenaView, state_at}
 use Rattle.in_arena.specs.States.{end_at}
@@ -13,7 +13,7 @@ use Rattle.in_reducer.specs.declared.sides.Pair.{Pair}
 abbrev pub port_at : Pair → ℕ → CellNo × ℕ
 port_at p e = cond (nat_lt e p.first_ends) (p.one, suc e) (p.other, suc (e - p.first_ends))
 
--- the end that is written there
+-- the end at that place of that cell
 abbrev pub end_there : ArenaView → CellNo × ℕ → Option End
 end_there a q = end_at (state_at a q.0.0) q.1
 
@@ -22,7 +22,7 @@ abbrev pub outer_of : Pair → ℕ → End → End
 outer_of p from (Cell c i) = cond (nat_eq c.0 p.one.0) (Free (from + (i - 1))) (cond (nat_eq c.0 p.other.0) (Free (from + p.first_ends + (i - 1))) (Cell c i))
 outer_of p from (Free k) = Free k
 
--- the end for a joint of the right member, if its agents have these cells; a boundary end is its inner side
+-- the end for a joint of the right member, if its agents have these cells; for a boundary end it is its inner side
 abbrev pub inner_of : List CellNo → ℕ → Joint → End
 inner_of ns from (ToAgent k i) = Cell (slice_index_or ns k (record { 0 = 0 })) i
 inner_of ns from (ToBoundary e) = Free (from + e)

@@ -14,12 +14,12 @@ use Rattle.in_reducer.specs.Reserved.{IsReserved}
 
 -- ---- lists
 
--- `many` elements, each that of its place in the other list, or its image under this map
+-- `many` elements, each the image under this map of the element at its place in the other list
 pub record ArePicked {X Y : Type 0} (f : X → Y) (place : ℕ → ℕ) (many : ℕ) (all : List X) (picked : List Y) : Type 0 where
   pub count : length picked ≡ many
   pub each : (e : ℕ) → e < many → slice_get picked e ≡ option_map f (slice_get all (place e))
 
--- .. and after them is room for the sides of boundary ends
+-- .. followed by room for the sides of boundary ends
 pub record ArePickedWithRoom {X Y : Type 0} (f : X → Y) (place : ℕ → ℕ) (many : ℕ) (all : List X) (list : List Y) : Type 0 where
   pub picked : List Y
   pub room : List Y

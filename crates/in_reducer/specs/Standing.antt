@@ -23,7 +23,7 @@ agent_in (Live word ends) = Some (record { symbol = record { 0 = word }; ends = 
 abbrev pub agents_in : ArenaView → List (Option Cell)
 agents_in a = map agent_in a.states
 
--- free ends with these names and types, which lead in turn to the first of these ends
+-- free ends with these names and types, which lead to the first of these ends, one to each
 abbrev pub leading_to : List FreeEnd → List End → List FreeEnd
 leading_to [] es = []
 leading_to (f ∷ fs) [] = []

@@ -7,7 +7,7 @@ use Rattle.in_check.specs.Runs.{IsRenamed}
 use Rattle.in_interaction.specs.Queues.{both, IsFirstQueue}
 use Rattle.in_reducer.specs.Machines.{MachineParts, HasCells, parts_of}
 
--- a machine with `cells` cells of each class that shows the program's net, its agents under any numbers, its active pairs in the order of
+-- a machine with `cells` cells of each class that shows the program's net, with any numbers of its agents, and with its active pairs in the order of
 -- their wires
 pub record IsStart (p : Program) (cells : ℕ) (m : MachineParts) : Type 0 where
   pub program : m.program ≡ p

@@ -1,4 +1,4 @@
--- Symbols of pairs that are read ahead of their interactions, and cells that are left free, or are known to be free. Both are this project's own choice.
+-- Symbols of pairs that are read ahead, and cells that are left free or are known to be free. Both are this project's own choice.
 use Rattle.std.specs.Prelude.{◌≡◌, ◌⊎◌, ◌+◌, ◌-◌, ◌≤◌, ◌<◌, ℕ, [], length, Some, slice_get}
 use Rattle.in_arena.specs.declared.content.CellClass.{CellClass}
 use Rattle.in_symbols.specs.declared.symbols.SymbolNo.{SymbolNo}
@@ -14,13 +14,13 @@ use Rattle.in_reducer.specs.Templates.{HasHeadsAt}
 abbrev pub together : ℕ
 together = 8
 
--- the elements from number `next` on are the symbols of the first pairs, in turn
+-- the elements from number `next` on are the symbols of the first pairs, one after another
 pub record AreAhead (m : MachineParts) (a : Ahead) : Type 0 where
   pub next : a.next ≤ together
   pub long : length a.heads ≡ together
   pub heads : (k : ℕ) (h : SymbolNo × SymbolNo) → slice_get a.heads (a.next + k) ≡ Some h → HasHeadsAt m k h
 
--- .. of the pairs behind the first one
+-- .. or of the pairs behind the first one
 pub record AreBehind (m : MachineParts) (a : Ahead) : Type 0 where
   pub next : a.next ≤ together
   pub long : length a.heads ≡ together

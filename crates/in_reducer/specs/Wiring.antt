@@ -1,4 +1,4 @@
--- An interaction in place, over cells: new agents are begun in cells of their own, beside the pair, and the wires of the right member are
+-- An interaction in place, over cells: new agents are begun in free cells, beside the pair, and the wires of the right member are
 -- written one after another, each at its two sides. Lafont 1990: the right member takes the place of the active pair on the same boundary
 -- ends. That an interaction is done in this way, if no wire leads back to its pair, is this project's own choice.
 use Rattle.std.specs.Prelude.{◌≡◌, ◌≢◌, ◌⊎◌, IsTrue, ◌↔◌, ◌≤◌, ◌<◌, ◌+◌, ◌-◌, ◌++◌, ℕ, suc, Bool, cond, List, [], ◌∷◌, length, map, take, slice_get, slice_index_or, Some, None}
@@ -37,7 +37,7 @@ use Rattle.in_reducer.specs.Interacting.{PairSetting, IsAbout, interaction_of}
 
 -- ---- the new agents
 
--- each agent has a cell of its own, of its class, which held no agent; it is live there with its symbol and its places, whose ends are open. All
+-- each agent has its own cell, of its class, which held no agent; it is live there with its symbol and its places, whose ends are open. All
 -- other cells are as they were
 pub record HasBegun (m : MemberParts) (ns : List CellNo) (old new : ArenaView) : Type 0 where
   pub count : length ns ≡ length m.agents
@@ -56,7 +56,7 @@ pub record CanBegin (m : MemberParts) (a : ArenaView) (points : List End) : Type
   pub few : length m.agents ≤ max_member_agents
   pub long : most_points ≤ length points
 
--- after the points of 32 boundary ends come those of the agents, which have these cells: their principal ports
+-- the agents have these cells, and their points come after those of 32 boundary ends: the principal ports
 abbrev pub AreAtAgents : List CellNo → List End → Type 0
 AreAtAgents ns points = (k : ℕ) → k < length ns → slice_get points (32 + k) ≡ Some (Cell (slice_index_or ns k (record { 0 = 0 })) 0)
 
@@ -70,7 +70,7 @@ HasBegunBelow m old x now points = (ns : List CellNo) × AreBegunBelow m old x n
 abbrev pub IsSideOf : Tables → Interaction → Point ℕ → Point ℕ → Type 0
 IsSideOf t x = IsSideAt (signature_of t) (before x) (redex_of x) x.name
 
--- .. and such an end of any of its wires
+-- .. and of any wire of the right member
 abbrev pub IsSideAfter : Tables → Interaction → Point ℕ → Type 0
 IsSideAfter t x = IsSide (signature_of t) (before x) (redex_of x) x.name
 
@@ -88,21 +88,21 @@ pub record AreFirstWired (t : Tables) (x : Interaction) (own : ℕ) (wires : Lis
 
 -- ---- the pairs that they make
 
--- the pairs that the first k of these wires make were added, in turn; a wire is named by its lowest boundary end
+-- the pairs that the first k of these wires make were added, one after another; a wire is named by its lowest boundary end
 abbrev pub HasQueued : Tables → Interaction → List (ℕ × Point ℕ) → ℕ → List (ℕ × ℕ) → List (ℕ × ℕ) → Type 0
 HasQueued t x over k old new = (qs : List (AgentNo × AgentNo)) × MakeInTurn t x.net x.rule x.one x.two x.name (take k over) qs × (new ≡ old ++ map numbers_of qs)
 
 -- ---- reading the sides
 
--- the wires of a member, by their points: those with boundary ends first
+-- the wires of a member, by their points, those with boundary ends first
 abbrev pub wires_of : MemberParts → List (Point ℕ × Point ℕ)
 wires_of m = in_two_parts (map over_point (over_of m)) (map both_points (within_of m))
 
--- the end itself at place 0; else that place of the cell whose principal port the end is
+-- for place 0 the end itself; otherwise that place of the cell whose principal port the end is
 abbrev pub IsAtPlace : End → ℕ → End → Type 0
 IsAtPlace x place y = ((place ≡ 0) × (y ≡ x)) ⊎ ((c : CellNo) × (x ≡ Cell c 0) × (y ≡ Cell c place))
 
--- both are live, and their auxiliary ports are these boundary ends, those of the first one first; and there are points for them
+-- both agents are live, and their auxiliary ports are these boundary ends, those of the first one first; there are points for the ends
 pub record CanRead (a : ArenaView) (p : Pair) (many : ℕ) (points : List End) : Type 0 where
   pub one : IsLive (state_at a p.one.0)
   pub other : IsLive (state_at a p.other.0)
@@ -125,7 +125,7 @@ pub record HasPortsIn (a : ArenaView) (c : CellNo) (first to : ℕ) (old new : L
   pub others : (k : ℕ) → (k < first) ⊎ (to ≤ k) → slice_get new k ≡ slice_get old k
   pub long : length new ≡ length old
 
--- the pair of two principal ports is added, the second one's agent first if the first one is an input. Nothing is added if one of them is no
+-- the pair of two principal ports is added; the second one's agent is first if the first one is an input. Nothing is added if one of them is no
 -- principal port
 abbrev pub AddsInOrder : Bool → End → End → List (ℕ × ℕ) → List (ℕ × ℕ) → Type 0
 AddsInOrder input x y old new =
@@ -161,7 +161,7 @@ pub record CanWireUp (t : Tables) (p : TemplateParts) (pair : Pair) (a : ArenaVi
 abbrev pub retired : Pair → ArenaView → ArenaView
 retired p a = changed (changed a p.one.0 Vacant) p.other.0 Vacant
 
--- both are live
+-- both agents of the pair are live
 abbrev pub AreLive : Pair → ArenaView → Type 0
 AreLive p a = IsLive (state_at a p.one.0) × IsLive (state_at (changed a p.one.0 Vacant) p.other.0)
 
@@ -187,7 +187,7 @@ pub record IsSetAside (t : Tables) (s : PairSetting) (a : ArenaView) (n : Parts)
   pub one : length a.states ≤ f s.one.0
   pub two : length a.states ≤ f s.two.0
 
--- the same interaction there
+-- the same interaction, of the net with the pair aside
 abbrev pub aside_of : PairSetting → Parts → (ℕ → ℕ) → PairSetting
 aside_of s n f = record { net = n; rule = s.rule; one = record { 0 = f s.one.0 }; two = record { 0 = f s.two.0 } }
 

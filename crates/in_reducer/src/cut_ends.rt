@@ -3,8 +3,8 @@ ghost use Rattle.std.specs.Prelude.{◌≡◌, ◌≤◌, ◌<◌, ◌+◌};
 ghost use Rattle.in_reducer.specs.Inside.{most_free};
 ghost use Rattle.in_reducer.specs.Parting.{place_of_two};
 
-/// The free ends of a net in which `count` wires are cut: the `own` ones of before, and after them the first and the second end of each cut. A
-/// part that is split off there has the first ends, and the rest all others.
+/// The free ends of a net in which `count` wires are cut: the `own` ones before the cuts, and after them the first and the second end of each cut. A
+/// part that is split off there has the first ends, and the rest has all others.
 #[derive(Clone, Copy)]
 pub(crate) struct Cuts {
     pub(crate) own: u32,
@@ -20,7 +20,7 @@ impl Cuts {
         self.own + 2 * self.count
     }
 
-    /// .. and of the rest's.
+    /// The number of the rest's free ends.
     pub(crate) fn rest_ends(self) -> u32
         ensures { result ≡ self.own + self.count }
     {
@@ -40,7 +40,7 @@ impl Cuts {
         }
     }
 
-    /// .. and of one of the part.
+    /// The number in the net of a free end of the part.
     pub(crate) fn in_part(self, number: u32) -> u32
         requires { number < self.count }
         ensures place { result ≡ place_of_two self.own 1 number }

@@ -21,7 +21,7 @@ fn opposite_of(kind: PortType) -> PortType
     }
 }
 
-/// Takes room for two free ends more. Both lists keep their elements.
+/// Takes room for two more free ends. Both lists keep their elements.
 fn make_room(free: &mut Vec<OwnEnd>, ends: &mut Vec<EndWord>) -> Result<(), AllocError>
     ensures free { free.new.items ≡ free.old.items }
     ensures ends { ends.new.items ≡ ends.old.items }
@@ -34,7 +34,7 @@ fn make_room(free: &mut Vec<OwnEnd>, ends: &mut Vec<EndWord>) -> Result<(), Allo
 
 impl<'a> Reducer<'a> {
     /// Cuts the wire at a place of an agent: it must exist, and its wire be no active pair. The two points are then at new free ends, which come last
-    /// and have no names, but types that fit. There are at most 65,536 free ends. Refused only when out of memory, and then the reducer is as it was.
+    /// and have no names, but fitting types. There are at most 65,536 free ends. Refused only when out of memory, and then the reducer is as it was.
     pub fn cut(&mut self, cell: CellNo, place: u8) -> Result<(), AllocError>
         requires can { CanCut self.old cell.0 place }
         requires few { length self.old.free + 2 ≤ most_free }

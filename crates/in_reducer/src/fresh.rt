@@ -1,4 +1,4 @@
-// Cells for a net to come.
+// Cells for a new net.
 ghost use Rattle.std.specs.Prelude.{◌≡◌, ◌≤◌, IfOk};
 ghost use Rattle.in_arena.specs.Arenas.{NoneLeased};
 ghost use Rattle.in_reducer.specs.Inside.{AreTools};

@@ -47,7 +47,7 @@ fn list_rest_numbers(cuts: Cuts, numbers: &mut Vec<u32>)
     }
 }
 
-/// .. and of those of the part. No memory is taken.
+/// The numbers in the whole of the free ends of the part. No memory is taken.
 fn list_part_numbers(cuts: Cuts, numbers: &mut Vec<u32>)
     requires { IsReserved cuts.count numbers.old }
     ensures many { length numbers.new.items ≡ cuts.count }
@@ -58,8 +58,8 @@ fn list_part_numbers(cuts: Cuts, numbers: &mut Vec<u32>)
     }
 }
 
-/// Adds the live cells of a class, in the order of their numbers, to those of the classes before. Cells that were never used aren't read. It takes
-/// no memory.
+/// Adds the live cells of a class, in the order of their numbers, to those of the classes before. Cells from `used` on, which are free, aren't
+/// read. It takes no memory.
 fn list_class(arena: &Arena, class: CellClass, cells: &mut Vec<CellNo>)
     requires leased { NoneLeased arena.now × HasAllCells arena.now }
     requires small { arena.now.cells ≤ most_cells }
@@ -104,7 +104,7 @@ fn add_free_in_turn(part: &[OwnEnd], rest: &[OwnEnd], free: &mut Vec<OwnEnd>)
     }
 }
 
-/// The free ends of both. No memory is taken.
+/// The free ends of both, in the order of the glued net. No memory is taken.
 fn glue_free(rest: &[OwnEnd], part: &[OwnEnd], free: &mut Vec<OwnEnd>)
     requires fewer { length part.now ≤ length rest.now }
     requires free { IsReserved (length part.now + length rest.now) free.old }
@@ -138,7 +138,7 @@ impl<'a> Reducer<'a> {
     /// Glues on a part that has as many free ends as there were cuts when it was split off. These alternate with the rest's ends of the cuts, so the
     /// two ends of a cut are side by side again, the last ones last, and `join_last` undoes the cuts. Each class must have as many free cells as the
     /// part has agents. The new numbers of the part's cells are written in `names`, which has a place for each number in an arena of as many cells as
-    /// the seam is for. It takes no memory: the seam has all else.
+    /// the seam is for. It takes no memory: the seam has all other room.
     pub fn glue_on(&mut self, part: &Reducer, seam: Seam, names: &mut [CellNo])
         requires can { CanAppend self.old part.now }
         requires fewer { length part.now.free ≤ length self.old.free }

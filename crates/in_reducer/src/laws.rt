@@ -4,8 +4,8 @@ ghost use Rattle.in_reducer.specs.Cutting.{JointsUndoCuts};
 ghost use Rattle.in_reducer.specs.Laws.{ReducersAsPromised, StepsKeepReducers, StartsAreReducers};
 ghost use Rattle.in_reducer.specs.PartingLaws.{CutsAreUndone, GluingsAreAlike, PartsReduceTheWhole, ReductionsGoOn, SplitsAreAlike, StaysReduce, StepsReduce};
 
-/// The net that a reducer shows is as promised: typed, with one rule for each active pair, without a crossing circle or a vicious one, with an end
-/// to each interaction, leading on from each agent, and written whole.
+/// The net that a reducer shows is as promised. It is typed, has one rule for each active pair, and has no crossing circle and no vicious one. Each
+/// interaction ends. Each agent leads on. The net is written whole.
 pub fn reducers_as_promised()
     ensures { ReducersAsPromised }
 {}
@@ -36,12 +36,12 @@ pub fn steps_reduce()
     ensures { StepsReduce }
 {}
 
-/// A net that is reduced twice is reduced by both counts together.
+/// A net that is reduced twice is reduced by the sum of both counts.
 pub fn reductions_go_on()
     ensures { ReductionsGoOn }
 {}
 
-/// If a part is split off, both are reduced by themselves, and the part is glued on again, the whole is reduced by both counts together.
+/// If a part is split off, both are reduced by themselves, and the part is glued on again, the whole is reduced by the sum of both counts.
 pub fn parts_reduce_the_whole()
     ensures { PartsReduceTheWhole }
 {}

@@ -9,19 +9,19 @@
 //!
 //! `starting` places the program's net, `looking` reads it, `stepping` does one interaction: the template of the pair is found by the two
 //! symbols. If neither symbol is marked, no wire leads back to the pair: then the right member's agents are begun in free cells, each wire of
-//! the right member is written at its two sides, and the new pairs are queued (`wiring`). Else the right member is put into free cells, `sides`
+//! the right member is written at its two sides, and the new pairs are queued (`wiring`). Otherwise the right member is put into free cells, `sides`
 //! writes the ends at both sides of each boundary end behind the free ends in the list, `interacting` joins them one by one by `in_cells`, and
-//! `queueing` adds the new pairs. Then the pair's cells are free. The room for all this (`tools`: a list of cells, a list of pairs, the points at
+//! `queueing` adds the new pairs. Then the pair's cells are freed. The room for all this (`tools`: a list of cells, a list of pairs, the points at
 //! which wires are joined; the queue; the list of ends) is taken at the start, so that an interaction takes no memory and can't be refused.
-//! Pairs wait in a row (`pair_queue`), of which only a first part is used while they are few.
+//! Pairs wait in a row (`pair_queue`). While they are few, only a first part of the row is used.
 //!
 //! No cell is on lease between two calls, so that the arena can be dropped. A round (`in_rounds`) lends cells to workers, and reduces the reducer's
 //! parts (`body`) meanwhile: for contracts a leased cell counts as free (`at_rest` in `specs/Standing.antt`), so the view doesn't depend on which
 //! cells are out. `stitching` does an interaction whose right member a worker placed: its cells are settled, and the second half of a step (`finish`)
 //! joins them to the present partners of the pair's ports.
 //!
-//! **Parts**: `cutting` cuts a wire, and `rejoining` joins the last two free ends again. `splitting` splits agents off that lead to each other
-//! and to cuts alone, as a reducer by itself; `gluing` glues such a part on again, in the room that a `seam` has. `numbered` has ends under
+//! **Parts**: `cutting` cuts a wire, and `rejoining` joins the last two free ends again. `splitting` splits off agents that lead only to each other
+//! and to cuts, as a reducer by itself; `gluing` glues such a part on again, in the room that a `seam` has. `numbered` has ends under
 //! other numbers.
 #![tactic(auto)]
 

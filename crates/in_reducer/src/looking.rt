@@ -69,7 +69,7 @@ impl<'a> Reducer<'a> {
         self.body.arena.all_cells()
     }
 
-    /// A number above those of all agents: the cells from there on were never used.
+    /// A number above those of all agents.
     pub fn bound(&self) -> u32
         ensures above { AreNumbersBelow self.now result }
         ensures few { result ≤ length self.now.agents }

@@ -12,7 +12,7 @@ pub fn same_are_reducers()
     ensures { SameAreReducers }
 {}
 
-/// A start under any other numbers is one.
+/// A start under any other numbers is a start.
 pub fn starts_can_be_renamed()
     ensures { StartsCanBeRenamed }
 {}
@@ -22,7 +22,7 @@ pub fn reducers_can_be_renamed()
     ensures { ReducersCanBeRenamed }
 {}
 
-/// The same interaction of two reducers that are the same up to the numbers of their agents leads to two that are.
+/// The same interaction of two reducers that are the same up to the numbers of their agents leads to two reducers that are the same in this way.
 pub fn steps_keep_same()
     ensures { StepsKeepSame }
 {}
@@ -32,37 +32,37 @@ pub fn runs_keep_same()
     ensures { RunsKeepSame }
 {}
 
-/// An interaction up to the numbers of agents leads to one reducer, up to the numbers of its agents.
+/// The result of an interaction up to the numbers of agents is determined up to these numbers.
 pub fn steps_up_to_numbers_are_same()
     ensures { StepsUpToNumbersAreSame }
 {}
 
-/// And so does a run up to the numbers of agents.
+/// So is the result of a run up to the numbers of agents.
 pub fn runs_up_to_numbers_are_same()
     ensures { RunsUpToNumbersAreSame }
 {}
 
-/// The result of an interaction, under any other numbers, is the result of one from its reducer under some numbers.
+/// The result of an interaction, under any other numbers, is the result of an interaction of the reducer under some numbers.
 pub fn steps_can_be_renamed()
     ensures { StepsCanBeRenamed }
 {}
 
-/// .. and so does a run: k interactions up to the numbers of agents are k interactions from a start under other numbers.
+/// .. and so for a run: k interactions up to the numbers of agents are k interactions from a start under other numbers.
 pub fn runs_can_be_renamed()
     ensures { RunsCanBeRenamed }
 {}
 
-/// Runs up to numbers, one after the other, are one.
+/// Two runs up to numbers, one after the other, are one run.
 pub fn runs_up_to_numbers_go_on()
     ensures { RunsUpToNumbersGoOn }
 {}
 
-/// A run up to numbers, and then an interaction up to numbers, is one: so taking the first pairs one after another keeps it.
+/// A run up to numbers, followed by an interaction up to numbers, is one run: so it stays one while the first pairs are taken one after another.
 pub fn runs_up_to_numbers_take_steps()
     ensures { RunsUpToNumbersTakeSteps }
 {}
 
-/// Two agents of a reducer can get any two numbers that it doesn't have, and all others stay: so the cells of a pair can be used again.
+/// Two agents of a reducer can get any two numbers that it doesn't have, while all others keep theirs: so the cells of a pair can be used again.
 pub fn pairs_can_stand_aside()
     ensures { PairsCanStandAside }
 {}

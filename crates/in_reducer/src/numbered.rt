@@ -1,4 +1,4 @@
-// Ends in cells that keep their numbers, where free ends get other ones.
+// Ends in cells that keep their numbers, while free ends get other numbers.
 ghost use Rattle.std.specs.Prelude.{◌≡◌, ◌<◌, ℕ, length};
 ghost use Rattle.in_arena.specs.declared.content.End.TheVariants.{Free};
 ghost use Rattle.in_cells.specs.Copying.{moved_end, number_in};

@@ -4,11 +4,11 @@ ghost use Rattle.std.specs.Prelude.{◌≡◌, ◌≤◌, ◌<◌, ◌+◌, ◌*
 use std::alloc::{AllocError, Global};
 use std::marker::Model;
 
-/// How many pairs a row has room for at least, before they move to its beginning: it stays in the cache then. This project's own choice.
+/// The least number of pairs for which a row has room before they move to its beginning: so the row stays in the cache. This project's own choice.
 const LEAST: usize = 256;
 
-/// Pairs that wait, the first one first. All room is taken once. While few pairs wait only a first part of it is used, so that the cache has it: the
-/// pairs are those of the row from number `first` on, and move to its beginning where the row would be longer than `end`.
+/// Pairs that wait, the first one first. All room is taken once. While few pairs wait, only a first part is used, so that it stays in the cache.
+/// The pairs are those of the row from number `first` on. They move to its beginning when the row would get longer than `end`.
 #[derive(Drop)]
 pub(crate) struct PairQueue {
     row: Vec<(u32, u32)>,
@@ -27,7 +27,7 @@ impl Model for PairQueue {
     ghost invariant = { KeepsQueue };
 }
 
-/// Moves the pairs from number `first` on to the beginning of the row, and adds one. Returns where the row is to end from then on: so many pairs can
+/// Moves the pairs from number `first` on to the beginning of the row, and adds one. Returns the new end of the row: as many pairs can
 /// be added before the next move as there are now. No memory is taken.
 #[cold]
 #[inline(never)]
@@ -48,7 +48,7 @@ fn add_moved(row: &mut Vec<(u32, u32)>, first: usize, room: usize, pair: (u32, u
 }
 
 impl PairQueue {
-    /// None waits yet, and there is room for so many. Refused only when out of memory.
+    /// A queue without pairs, with room for `room` pairs. It is refused only when out of memory.
     pub(crate) fn with_room(alloc: Global, room: usize) -> Result<PairQueue, AllocError>
         requires { room < 2 ^ 32 }
         ensures { IfOk result (λ q. q ≡ record { items = []; room = room }) }
@@ -62,7 +62,7 @@ impl PairQueue {
         })
     }
 
-    /// How many pairs wait.
+    /// The number of pairs that wait.
     #[inline(always)]
     pub(crate) fn len(&self) -> usize
         ensures { result ≡ length self.now.items }
@@ -95,7 +95,7 @@ impl PairQueue {
         self.first = 0;
     }
 
-    /// The first pair leaves.
+    /// Removes the first pair and returns it.
     #[inline(always)]
     pub(crate) fn pop_front(&mut self) -> (u32, u32)
         requires { 0 < length self.old.items }
@@ -108,7 +108,7 @@ impl PairQueue {
         pair
     }
 
-    /// The pair of that number leaves.
+    /// Removes the pair of that number.
     pub(crate) fn remove(&mut self, number: usize)
         requires { number < length self.old.items }
         ensures items { self.new.items ≡ remove self.old.items number }

@@ -6,7 +6,7 @@ ghost use Rattle.in_reducer.specs.Interacting.{named};
 use crate::pair_queue::PairQueue;
 use in_compile::{Member, Placed};
 
-/// The pair of that number leaves.
+/// Removes the pair of that number.
 #[inline(always)]
 pub(crate) fn take_out(queue: &mut PairQueue, number: usize)
     requires { number < length queue.old.items }
@@ -20,7 +20,7 @@ pub(crate) fn take_out(queue: &mut PairQueue, number: usize)
     }
 }
 
-/// All pairs of this list, the last one first, which it loses.
+/// Moves all pairs of this list to the end of the queue, the last one first.
 pub(crate) fn queue_made(made: &mut Vec<(u32, u32)>, queue: &mut PairQueue)
     requires room { length queue.old.items + vec_len made.old ≤ queue.old.room }
     ensures items { queue.new.items ≡ queue.old.items ++ reverse made.old.items }
@@ -34,7 +34,7 @@ pub(crate) fn queue_made(made: &mut Vec<(u32, u32)>, queue: &mut PairQueue)
     made.clear();
 }
 
-/// The active pairs that a member's agents are, by the cells that these have.
+/// Queues the active pairs among a member's agents, by the cells of these.
 pub(crate) fn queue_own(member: &Member, placed: &Placed, queue: &mut PairQueue)
     requires there { (k : ℕ) (q : ℕ × ℕ) → slice_get member.now.pairs k ≡ Some q → (q.0 < length placed.now.cells) × (q.1 < length placed.now.cells) }
     requires room { length queue.old.items + length member.now.pairs ≤ queue.old.room }

@@ -7,8 +7,8 @@ use crate::reducer::Reducer;
 use in_cells::join_last;
 
 impl<'a> Reducer<'a> {
-    /// Joins the last two free ends: their partners lead to each other from then on, and the two are gone. If both partners are principal ports,
-    /// their agents are a new pair, which comes last. The net after it must be sound. It is if the two come from a cut, and only interactions were
+    /// Joins the last two free ends: their partners then lead to each other, and the two free ends are gone. If both partners are principal ports,
+    /// their agents are a new pair, which comes last. The resulting net must be sound. It is if the two come from a cut, and only interactions were
     /// done since: the caller shows that (`in_order`). It takes no memory.
     pub fn join_last(&mut self)
         requires two { 2 ≤ length self.old.free }

@@ -10,7 +10,7 @@ use crate::limits::MOST_ENDS;
 use in_arena::{CellClass, CellNo, EndWord};
 use std::alloc::{AllocError, Global};
 
-/// All memory for gluing a part on, besides the list of new numbers that is lent to it, so gluing can't be refused: for a net of at most `most` free
+/// All memory for gluing a part on, except the list of new numbers that is lent to it, so gluing can't be refused: for a net of at most `most` free
 /// ends afterwards, and a part with at most `cells` cells of each class.
 #[derive(Drop)]
 pub struct Seam {

@@ -41,7 +41,7 @@ impl Pair {
         }
     }
 
-    /// If an end is a port of the pair: the outer side of that boundary end, where the sides are numbered from `from` on. Any other end stays.
+    /// The outer side of a boundary end, if the end is the pair's port there; the sides are numbered from `from` on. Any other end stays.
     #[inline(always)]
     fn outer(self, from: u32, end: End) -> End
         requires from { from < 2 ^ 31 }

@@ -29,7 +29,7 @@ use in_cells::{copy, moved_end, number_anew, retire_all};
 use in_compile::Templates;
 use std::alloc::{AllocError, Global};
 
-/// The numbers that free ends of the whole get in the rest or in the part, and lists for the free ends there and for their other ends.
+/// The numbers of the whole's free ends in the rest or in the part, and lists for the free ends there and for their other ends.
 #[derive(Drop)]
 struct EndLists {
     numbers: Vec<u32>,
@@ -37,7 +37,7 @@ struct EndLists {
     ends: Vec<EndWord>,
 }
 
-/// .. in the rest, and in the part.
+/// .. for the rest, and for the part.
 #[derive(Drop)]
 struct SplitLists {
     rest: EndLists,
@@ -60,7 +60,7 @@ struct Whole<'b> {
     ghost all_ends: { length ends.now ≡ cuts.own + (cuts.count + cuts.count) },
 }
 
-/// The numbers of the free ends in the rest: those that were there before the cuts keep theirs, and the second ends of the cuts follow. (The numbers
+/// The numbers of the free ends in the rest: those from before the cuts keep theirs, and the second ends of the cuts follow. (The numbers
 /// of the first ends don't matter.)
 fn rest_numbers(alloc: Global, cuts: Cuts) -> Result<Vec<u32>, AllocError>
     ensures { IfOk result (λ v. AreNumbersOfTwo cuts.own cuts.count 0 (cuts.own + cuts.count) v.items) }
@@ -74,7 +74,7 @@ fn rest_numbers(alloc: Global, cuts: Cuts) -> Result<Vec<u32>, AllocError>
     Ok(numbers)
 }
 
-/// The numbers of the free ends in the part, which has the first ends of the cuts alone.
+/// The numbers of the free ends in the part, which has only the first ends of the cuts.
 fn part_numbers(alloc: Global, cuts: Cuts) -> Result<Vec<u32>, AllocError>
     ensures { IfOk result (λ v. AreNumbersOfTwo cuts.own cuts.count 1 cuts.count v.items) }
 {
@@ -102,7 +102,7 @@ fn lists_for(alloc: Global, numbers: Vec<u32>, many: u32) -> Result<EndLists, Al
     })
 }
 
-/// Lists for both.
+/// Lists for the rest and the part.
 fn split_lists(alloc: Global, cuts: Cuts) -> Result<SplitLists, AllocError>
     ensures { IfOk result (AreListsFor cuts.own cuts.count) }
 {
@@ -177,7 +177,7 @@ fn split_queue(arena: &Arena, names: &[CellNo], queue: &mut PairQueue, part: &mu
 impl<'a> Reducer<'a> {
     /// Splits these agents off, as a reducer by itself with `cells` cells of each class, which shares nothing with the rest. They and the first ends
     /// of `cuts` cuts, which came after `own` free ends, must lead only to each other, so both agents of a pair go or stay. The part has the first
-    /// ends of the cuts, in their order, and the rest the others. The new numbers of the agents are written in `names`, which is long enough for the
+    /// ends of the cuts, in their order, and the rest the others. It writes the new numbers of the agents in `names`, which is long enough for the
     /// number of each agent. Refused only when out of memory, and then the reducer is as it was.
     pub fn split_off(
         &mut self,

@@ -1,4 +1,4 @@
-// A reducer at its program's net.
+// A reducer of its program's initial net.
 ghost use Rattle.std.specs.Prelude.{◌≡◌, ◌≤◌, ℕ, map, Some, IfOk, OnErr, slice_get};
 ghost use Rattle.in_arena.specs.declared.content.CellClass.{CellClass as Class};
 ghost use Rattle.in_arena.specs.Arenas.{free_of};
@@ -66,7 +66,7 @@ fn lay(alloc: Global, start: &Member, fresh: &mut Fresh) -> Result<Vec<EndWord>,
 }
 
 impl<'a> Reducer<'a> {
-    /// A reducer with `cells` cells of each class, at the program's net, which must fit: no class has more agents than cells.
+    /// A reducer of the program's net with `cells` cells of each class. The net must fit: no class has more agents than cells.
     /// Its pairs are queued in the order of the places of their wires, which is this project's own choice, as are the sizes of cells. The
     /// templates are those of the program. Refused only when out of memory; no other call takes memory.
     pub fn new(

@@ -30,7 +30,7 @@ impl<'a> Body<'a> {
         SymbolNo(self.arena.symbol(cell))
     }
 
-    /// The symbols of the pair of that number, in its order.
+    /// The symbols of the pair of that number, in the pair's order.
     pub fn heads(&self, number: u32) -> (SymbolNo, SymbolNo)
         requires net { KeepsNet self.now }
         requires pair { number < length self.now.queue.items }
@@ -105,7 +105,7 @@ impl<'a> Reducer<'a> {
         self.template_by(templates, number, self.body.heads(number))
     }
 
-    /// How many cells of each class the interaction of the pair of that number needs: the agents of its rule's right member. They have to be free
+    /// The number of cells of each class for the interaction of the pair of that number: the agents of its rule's right member. They have to be free
     /// before the pair is retired. The templates are those of the program.
     pub fn need_of(&self, templates: &Templates, number: u32) -> Need
         requires templates { AreTemplatesOf self.now.program templates.now }
@@ -146,7 +146,7 @@ impl<'a> Reducer<'a> {
         body.finish(template, number);
     }
 
-    /// The interaction of the pair of that number, as `step` says, where neither symbol of the pair is marked: the wires of the right member are
+    /// The interaction of the pair of that number, as by `step`, if neither symbol of the pair is marked: the wires of the right member are
     /// written in place.
     #[inline(always)]
     fn step_in_place(&mut self, template: &Template, number: u32)
@@ -179,7 +179,7 @@ impl<'a> Reducer<'a> {
         );
     }
 
-    /// The interaction of the pair of that number, as `step` says.
+    /// The interaction of the pair of that number, as by `step`.
     #[inline(always)]
     pub(crate) fn step_by(&mut self, template: &Template, number: u32)
         requires at { IsTemplateAt self.old number template.now }
@@ -195,7 +195,7 @@ impl<'a> Reducer<'a> {
 
     /// The interaction of the pair of that number, by the rule of its symbols: Lafont 1990's, which replaces the pair by the right member. The pair
     /// leaves the queue, and the new pairs come last: first those over boundary ends, by the lowest-numbered one on the path that made each, then
-    /// the right member's own. The cells of the pair are free, and those of the new agents aren't. The cells that the pair needs have to be free
+    /// the right member's own. The cells of the pair become free, and those of the new agents live. The cells that the pair needs have to be free
     /// before it is retired. The templates are those of the program. It takes no memory.
     pub fn step(&mut self, templates: &Templates, number: u32)
         requires templates { AreTemplatesOf self.old.program templates.now }
@@ -208,7 +208,7 @@ impl<'a> Reducer<'a> {
     }
 
     /// The interaction of the first pair, this one, up to numbers, if neither symbol of the pair is marked. The pair's cells are freed before the agents of
-    /// the right member are placed, which then reuse them where they can.
+    /// the right member are placed, which then reuse them if they can.
     #[inline(always)]
     fn step_anew(&mut self, template: &Template, first: (CellNo, CellNo))
         requires first { slice_get self.old.queue 0 ≡ Some (first.0.0, first.1.0) }

@@ -11,7 +11,7 @@ use in_compile::PlacedTemplate;
 use std::mem;
 
 impl<'a> Body<'a> {
-    /// Does the interaction of the first pair. Its template is placed in cells on lease from the arena: these are live from then on, and joined to
+    /// Does the interaction of the first pair. Its template is placed in cells on lease from the arena: these become live, and are joined to
     /// the present partners of the pair's ports. Other cells may be on lease, and stay so. It takes no memory.
     pub fn stitch(&mut self, done: PlacedTemplate)
         requires all { KeepsAll self.old }

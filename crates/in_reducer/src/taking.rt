@@ -18,11 +18,11 @@ use in_base::use_promise;
 use in_compile::{Need, Template, Templates};
 use in_symbols::SymbolNo;
 
-/// The symbols of how many pairs are read together, so that their cells are fetched at once: more than eight gain nothing. This project's own
+/// The number of pairs whose symbols are read together, so that their cells are fetched at once: more than eight gain nothing. This project's own
 /// choice.
 const TOGETHER: usize = 8;
 
-/// How often so many cells, which are needed, are in those that are free: without end where none is needed.
+/// The number of times that `need` cells are in `free` ones: `u64::MAX` if none is needed.
 fn times_in(need: u32, free: u32) -> u64
     ensures { result * need ≤ free }
 {
@@ -33,7 +33,7 @@ fn times_in(need: u32, free: u32) -> u64
     }
 }
 
-/// The symbols of pairs of the queue, read ahead: those from number `next` on are of the queue's first pairs.
+/// The symbols of pairs of the queue, read ahead: those from number `next` on are the symbols of the queue's first pairs.
 #[derive(Drop)]
 struct Ahead {
     heads: [(SymbolNo, SymbolNo); TOGETHER],
@@ -41,7 +41,7 @@ struct Ahead {
 }
 
 impl Ahead {
-    /// None is read.
+    /// No symbols are read.
     fn none() -> Ahead
         ensures { (result.next ≡ together) × (length result.heads ≡ together) }
     {
@@ -51,7 +51,7 @@ impl Ahead {
         }
     }
 
-    /// The symbols of the first pair, which were read: the others are of the pairs behind it then.
+    /// The symbols of the first pair, which were read. The others then are those of the pairs behind it.
     #[inline(always)]
     fn take(&mut self) -> (SymbolNo, SymbolNo)
         requires { self.old.next < together }
@@ -64,7 +64,7 @@ impl Ahead {
 }
 
 impl<'a> Reducer<'a> {
-    /// Reads the symbols of the first `TOGETHER` pairs. There are at least as many.
+    /// Reads the symbols of the first `TOGETHER` pairs. There must be at least as many.
     #[inline(always)]
     fn read_heads(&self, heads: &mut [(SymbolNo, SymbolNo); TOGETHER])
         requires { together ≤ length self.now.queue }
@@ -76,7 +76,7 @@ impl<'a> Reducer<'a> {
         }
     }
 
-    /// The symbols of the first pair. Where enough pairs wait, those of the pairs behind it are read ahead with them, if none is left that was read.
+    /// The symbols of the first pair. If none are left that were read, and enough pairs wait, the symbols of the pairs behind it are read with them.
     #[inline(always)]
     fn first_heads(&self, pair: (CellNo, CellNo), ahead: &mut Ahead) -> (SymbolNo, SymbolNo)
         requires ahead { AreAhead self.now ahead.old }
@@ -96,7 +96,7 @@ impl<'a> Reducer<'a> {
         (self.symbol(pair.0), self.symbol(pair.1))
     }
 
-    /// The interaction of the first pair, up to numbers. There is a pair, and the cells that it needs are free. The templates are those of the program.
+    /// The interaction of the first pair, up to numbers. There must be a pair, and its cells must be free. The templates are those of the program.
     /// It takes no memory.
     #[inline(always)]
     fn step_first(&mut self, templates: &Templates, ahead: &mut Ahead)
@@ -112,7 +112,7 @@ impl<'a> Reducer<'a> {
         self.step_here(template, pair);
     }
 
-    /// How many interactions have the cells that they need, whichever of the templates they are of: as often as the largest need of a template is in
+    /// A number of interactions that have the cells that they need, for any of the templates: the number of times that the largest need is in
     /// the free cells.
     fn room_for_any(&self, templates: &Templates) -> u64
         requires { AreTemplatesOf self.now.program templates.now }
@@ -126,8 +126,8 @@ impl<'a> Reducer<'a> {
             .min(times_in(need.wide, free.wide))
     }
 
-    /// How many of the next interactions have the cells that they need, as far as that can be said without doing them: at most `most`. None only if no pair
-    /// is left, or the cells that the first one needs aren't free. So what is free isn't tested at each interaction. The templates are those of the program.
+    /// A number of next interactions, at most `most`, that surely have the cells that they need. It is 0 only if no pair
+    /// is left, or the cells for the first one aren't free. So free cells aren't counted at each interaction. The templates are those of the program.
     #[inline(never)]
     fn sure_steps(&self, templates: &Templates, most: u64) -> u64
         requires { AreTemplatesOf self.now.program templates.now }
@@ -145,8 +145,8 @@ impl<'a> Reducer<'a> {
         1
     }
 
-    /// Interactions of the first pair of the queue, one after another, up to numbers, `sure` of them, which have the cells that they need. Fewer only if no
-    /// pair is left. Returns how many there were. The templates are those of the program. It takes no memory.
+    /// Does `sure` interactions of the first pair of the queue, one after another, up to numbers. Their cells must be free. It does fewer only if no
+    /// pair is left. Returns their number. The templates are those of the program. It takes no memory.
     fn take_sure(&mut self, templates: &Templates, sure: u64) -> u64
         requires { AreTemplatesOf self.old.program templates.now × HasRoomOn sure self.old }
         ensures runs { RunsUpToNumbers self.old result self.new }
@@ -166,8 +166,8 @@ impl<'a> Reducer<'a> {
         sure
     }
 
-    /// Interactions of the first pair of the queue, one after another, at most `most`, first in, first out. Fewer only if no pair is left, or the
-    /// cells that the first one needs aren't free. Returns how many there were. They are those of a reducer that is this one up to the numbers of
+    /// Does interactions of the first pair of the queue, one after another, at most `most`, first in, first out. It does fewer only if no pair is
+    /// left, or the cells for the first one aren't free. Returns their number. They are those of a reducer that is this one up to the numbers of
     /// agents: a new agent may have the number of one that is gone. The templates are those of the program. It takes no memory.
     pub fn take_first(&mut self, templates: &Templates, most: u64) -> u64
         requires { AreTemplatesOf self.old.program templates.now }
@@ -191,7 +191,7 @@ impl<'a> Reducer<'a> {
         count
     }
 
-    /// Whether the cells that the template of the pair of that number needs are free, and `floor` more of each class.
+    /// Whether the cells for the template of the pair of that number are free, and `floor` more of each class.
     #[inline(always)]
     fn fits_besides(&self, template: &Template, number: u32, floor: u32) -> bool
         requires { IsTemplateAt self.now number template.now }
@@ -201,8 +201,8 @@ impl<'a> Reducer<'a> {
         Need::free_in(&self.body.arena).has_besides(template.need(), floor)
     }
 
-    /// The interaction of the last pair, as by `step`, if the cells that it needs are free and `floor` more of each class. Returns whether it was
-    /// done. There is a pair.
+    /// Does the interaction of the last pair, as by `step`, if its cells are free and `floor` more of each class. Returns whether it was
+    /// done. There must be a pair.
     #[inline(always)]
     fn step_last(&mut self, templates: &Templates, floor: u32) -> bool
         requires templates { AreTemplatesOf self.old.program templates.now }
@@ -219,9 +219,9 @@ impl<'a> Reducer<'a> {
         true
     }
 
-    /// Interactions of the last pair of the queue, one after another, at most `most`, the newest pair first: the newest agents are still in the
-    /// cache, and a net that is reduced from there stays small. Fewer only if no pair is left, or the cells that the last one needs aren't free with
-    /// `floor` cells of each class besides. Returns how many there were. The templates are those of the program. It takes no memory.
+    /// Does interactions of the last pair of the queue, one after another, at most `most`, the newest pair first: the newest agents are still in the
+    /// cache, and a net that is reduced from there stays small. It does fewer only if no pair is left, or the cells for the last one aren't free with
+    /// `floor` cells of each class besides. Returns their number. The templates are those of the program. It takes no memory.
     pub fn take_newest(&mut self, templates: &Templates, floor: u32, most: u64) -> u64
         requires { AreTemplatesOf self.old.program templates.now }
         ensures reduces { ReducesTo self.old result self.new }

@@ -22,10 +22,10 @@ use in_cells::exchange;
 use in_compile::{Member, Template};
 use in_net::MAX_MEMBER_AGENTS;
 
-/// How many points a right member has at most: a boundary end each, and an agent each.
+/// The most points of a right member: one for each boundary end and each agent.
 pub(crate) const POINTS: usize = MOST_ENDS + MAX_MEMBER_AGENTS;
 
-/// Begins a cell for each agent from this one on, whose principal port is its point.
+/// Begins a cell for each agent from this one on. The cell's principal port is the agent's point.
 fn begin_from(member: &Member, from: u32, arena: &mut Arena, points: &mut [EndWord])
     requires begun { (a : ArenaView) × CanBegin member.now a points.old × HasBegunBelow member.now a from arena.old points.old }
     requires few { from ≤ length member.now.agents }
@@ -40,7 +40,7 @@ fn begin_from(member: &Member, from: u32, arena: &mut Arena, points: &mut [EndWo
     }
 }
 
-/// The same. Most right members have at most two agents, so that often none is left.
+/// The same. Most right members have at most two agents, so often none is left.
 #[inline(always)]
 fn begin_rest(member: &Member, from: u32, arena: &mut Arena, points: &mut [EndWord])
     requires begun { (a : ArenaView) × CanBegin member.now a points.old × HasBegunBelow member.now a from arena.old points.old }
@@ -55,7 +55,7 @@ fn begin_rest(member: &Member, from: u32, arena: &mut Arena, points: &mut [EndWo
     begin_from(member, from, arena, points);
 }
 
-/// Begins a cell for each agent, whose principal port is its point.
+/// Begins a cell for each agent. The cell's principal port is the agent's point.
 #[inline(always)]
 fn begin_agents(member: &Member, arena: &mut Arena, points: &mut [EndWord])
     requires { CanBegin member.now arena.old points.old }
@@ -100,7 +100,7 @@ fn read_ports(arena: &Arena, pair: Pair, many: u8, points: &mut [EndWord])
     read_agent(arena, pair.other, pair.first_ends, many, points);
 }
 
-/// The side of a wire that is read at this point, at this place.
+/// The side of a wire at this point and place.
 #[inline(always)]
 fn side(points: &[EndWord], slot: u8, place: u8) -> EndWord
     requires { (x : End) × (y : End) × (slice_get points.now slot ≡ Some x) × IsAtPlace x place y }
@@ -109,7 +109,7 @@ fn side(points: &[EndWord], slot: u8, place: u8) -> EndWord
     points[slot as usize].at(place)
 }
 
-/// Queues the pair that a wire with this lowest boundary end makes, if both its sides are principal ports. Where the boundary end is an output, its
+/// Queues the pair that a wire with this lowest boundary end makes, if both its sides are principal ports. If the boundary end is an output, its
 /// side is an input, and the agent of the other side comes first.
 #[inline(always)]
 fn queue_pair(template: &Template, end: u8, outer: EndWord, inner: EndWord, queue: &mut PairQueue)
@@ -199,7 +199,7 @@ pub(crate) fn wire_up(
     write_within(template, points, arena, ends);
 }
 
-/// Begins a cell for each agent once the pair's cells are free: the first two agents have these where they are of their classes.
+/// Begins a cell for each agent once the pair's cells are free: the first two agents get these if they are of their classes.
 #[inline(always)]
 fn begin_in(member: &Member, pair: Pair, arena: &mut Arena, points: &mut [EndWord])
     requires { AreLive pair arena.old × CanBegin member.now arena.old points.old }
@@ -227,7 +227,7 @@ fn begin_in(member: &Member, pair: Pair, arena: &mut Arena, points: &mut [EndWor
     begin_rest(member, 2, arena, points);
 }
 
-/// Retires a pair to which no wire leads back, places the right member's agents, which reuse its cells where they can, and writes the wires, as
+/// Retires a pair to which no wire leads back, places the right member's agents, which reuse its cells if they can, and writes the wires, as
 /// `wire_up` does.
 #[inline(always)]
 pub(crate) fn wire_anew(
@@ -251,7 +251,7 @@ pub(crate) fn wire_anew(
     write_within(template, points, arena, ends);
 }
 
-/// The cell of the agent of that number, whose principal port is its point.
+/// The cell of the agent of that number. The cell's principal port is the agent's point.
 #[inline(always)]
 fn agent_at(points: &[EndWord], agent: u32) -> CellNo
     requires { (c : Number) × (slice_get points.now (most_ends + agent) ≡ Some (Cell c 0)) }
@@ -264,7 +264,7 @@ fn agent_at(points: &[EndWord], agent: u32) -> CellNo
     cell
 }
 
-/// Queues the active pairs that a member's agents are, whose principal ports are at their points.
+/// Queues the active pairs among a member's agents, whose principal ports are at their points.
 #[inline(always)]
 pub(crate) fn queue_begun(member: &Member, points: &[EndWord], queue: &mut PairQueue)
     requires there { (ns : List Number) × AreAtAgents ns points.now × AreOwnPairs ns member.now }

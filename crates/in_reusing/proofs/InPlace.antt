@@ -60,7 +60,7 @@ module _ (sig : Signature) (n m : Net ℕ) (x : Redex ℕ ℕ) (f name : ℕ →
       let w = (sides_are_apart sig m z name can_m).side q.0 (can.inside.points q.0 p (can.inside.back p q.0 q.1)) in
       (w.0, (p, q.0, q.1, at, w.1))
 
-  -- ---- what stays
+  -- ---- points that stay
 
   stays_out : (u v : Point ℕ) → (IsOfPair z u → ⊥) → (IsSide sig m z name u → ⊥) → m.partner u ≡ Some v → IsOfPair z v → ⊥
   stays_out u v away none wire of =
@@ -77,7 +77,7 @@ module _ (sig : Signature) (n m : Net ℕ) (x : Redex ℕ ℕ) (f name : ℕ →
     (λ e. (let w : ◌≡◌ {A = Option ℕ} None (Some s) = sym can.beside.1 ∙ ap n.symbol (sym e) ∙ h in cc)),
   )
 
-  -- ---- a net that is so overwritten
+  -- ---- a net that is overwritten in this way
 
   out_n : (u v : Point ℕ) → (IsOfPair x u → ⊥) → (IsOfPair z u → ⊥) → (IsSide sig m z name u → ⊥) → n.partner u ≡ Some v → IsOfPair x v → ⊥
   out_n u v away away_m none wire of =
@@ -132,7 +132,7 @@ module _ (sig : Signature) (n m : Net ℕ) (x : Redex ℕ ℕ) (f name : ℕ →
           let same : w.0 ≡ y = sym (aside.stays w.0 not_one not_two) ∙ w.1 in
           ((λ e. not_one (same ∙ e)), (λ e. not_two (same ∙ e)), ap n.symbol (sym same) ∙ w.2)
 
-  -- ---- what is so overwritten
+  -- ---- the net that is overwritten
 
   module _ (after : Net ℕ) (over : IsOverwrittenInPlace sig n x name after) where
     kept_m : (u v : Point ℕ) → (IsOfPair z u → ⊥) → (IsSide sig m z name u → ⊥) → m.partner u ≡ Some v → after.partner u ≡ Some v

@@ -26,7 +26,7 @@ pub record CanReuse (sig : Signature) (n : Net ℕ) (x : Redex ℕ ℕ) (f name 
   pub reusing : IsReusing n x f name
   pub beside : (n.symbol (f x.one) ≡ None) × (n.symbol (f x.two) ≡ None)
 
--- it is an interaction of the net in which the pair alone has other numbers
+-- overwriting in place is an interaction of the net in which the pair alone has other numbers
 abbrev pub InPlaceIsAStep : Type 0
 InPlaceIsAStep = (sig : Signature) (n m : Net ℕ) (x : Redex ℕ ℕ) (f name : ℕ → ℕ) (after : Net ℕ) → CanReuse sig n x f name → IsAside n m x f → IsOverwrittenInPlace sig n x name after →
     IsStep sig m (moved f x) name after

@@ -43,7 +43,7 @@ module _ (share : Need) (a a' a'' : ArenaView) (s : StockParts) (all : HasAllCel
   pub change : Changes a' a'' s
   change n = change_by n (one_or_same a' adds.0.cells Leased n) (one_or_same (empty_bag a) adds.0.cells Vacant n)
 
--- it has all cells that are on lease, where none was
+-- the stock has all leased cells, if none was leased before
 module _ (need : Need) (a a' : ArenaView) (s : StockParts) (all : HasAllCells a) (whole : NoneLeased a) (adds : AddsTo need a (empty_stock a need) a' s) where
   has_by : (n : ℕ) → Change a a' s n → n < length a'.states → IsLeased (state_at a' n) → holders n (s.bag ∷ []) ≡ 1
   has_by n (Lends free leased one) inside is = one

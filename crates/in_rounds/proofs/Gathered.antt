@@ -127,7 +127,7 @@ module _ (plan : PlanParts) (lent others results : List Hand) (mine : Hand) (spl
       (subst (λ bs. All (AreOfOne a') (in_hands results ++ bs)) (sym no_bags_kept) (subst (All (AreOfOne a')) (sym (append-nil (in_hands results))) (hands_of_one plan (mine ∷ others) results a' all none_first mine_first)))
       (λ n. let e = same_count n in omega (arith, e))
 
--- ---- what is lent out in the end
+-- ---- the cells lent out in the end
 
 module _ (bs cs ds : List ArenaView) (a a' a'' : ArenaView) (out : AreLentOut bs a a') (same : (n : ℕ) → holders n cs ≡ holders n bs) (back : Returns cs ds a' a'') (left : AreBagsOf ds a'') where
   one_by : (n : ℕ) → holders n ds ≡ 1 → holders n bs ≡ 1
@@ -147,7 +147,7 @@ module _ (bs cs ds : List ArenaView) (a a' a'' : ArenaView) (out : AreLentOut bs
     others = λ n e. others_by n (fewer_or_same (holders n ds) (holders n cs) (back.fewer n)) e;
   }
 
--- .. and where no cell was on lease before, all that are now are in these bags
+-- .. and if no cell was on lease before, all leased cells are in these bags
 pub lent_have_all : (bs : List ArenaView) (a a' : ArenaView) → NoneLeased a → AreLentOut bs a a' → HaveAllLeased bs a'
 lent_have_all bs a a' whole out = record { bags = out.bags; all = λ n inside leased. go n inside leased (fewer_or_same (holders n bs) 1 (out.bags.once n)) }
   where

@@ -1,4 +1,4 @@
--- Bags that cells are in, and the cells of them that are given back.
+-- Bags that have cells, and the cells of them that are given back.
 use Rattle.std.proofs.Common.{◌≡◌, ◌⊎◌, inl, inr, ◌≤◌, ◌<◌, ◌+◌, ℕ, cond, List, [], ◌∷◌, ◌++◌, length, All, refl, sym, ap, subst, ◌∙◌, arith}
 use Rattle.std.proofs.lemmas.List.Elements.{All-append, All-cons, All-head, All-tail}
 use Rattle.std.proofs.lemmas.List.Sums.{sum_by-append}
@@ -8,7 +8,7 @@ use Rattle.in_arena.specs.States.{State, Vacant, Leased, Live, IsLeased}
 use Rattle.in_compile.specs.Stocks.{Regains}
 use Rattle.in_rounds.specs.Holding.{is_own, holders, AreBagsOf, HaveAllLeased, Returns}
 
--- ---- how many bags have a cell
+-- ---- the number of bags that have a cell
 
 pub holders-append : (n : ℕ) (bs cs : List ArenaView) → holders n (bs ++ cs) ≡ holders n bs + holders n cs
 holders-append n bs cs = sum_by-append (λ c. cond (is_own (state_at c n)) 1 0) bs cs
@@ -117,7 +117,7 @@ first_are_bags bs cs b a of =
     (All-append (AreOfOne a) bs cs (all_left (AreOfOne a) bs (b ∷ []) front) (all_right (AreOfOne a) (bs ++ b ∷ []) cs one)))
     (λ n. let e = holders-first n bs cs b in omega (arith, e))
 
--- ---- what is given back
+-- ---- cells that are given back
 
 pub none_returned : (bs cs : List ArenaView) (a : ArenaView) → ((n : ℕ) → holders n cs ≡ holders n bs) → Returns bs cs a a
 none_returned bs cs a same = record {
@@ -139,7 +139,7 @@ returns_by bs cs bs' cs' a a' before after r = record {
   others = λ n same. let e = before n in let f = after n in r.others n (omega (arith, e, f, same));
 }
 
--- bags beside, which stay
+-- other bags stay
 pub returns_beside : (ds bs cs : List ArenaView) (a a' : ArenaView) → Returns bs cs a a' → Returns (ds ++ bs) (ds ++ cs) a a'
 returns_beside ds bs cs a a' r = record {
   memory = r.memory;
@@ -203,14 +203,14 @@ left_are_bags bs cs a a' of one r = record {
   once = λ n. let f = r.fewer n in let o = of.once n in omega (arith, f, o);
 }
 
--- .. also beside others
+-- .. also with other bags
 pub beside_are_bags : (ds bs cs : List ArenaView) (a a' : ArenaView) → AreBagsOf (ds ++ bs) a → Returns bs cs a a' → AreBagsOf cs a' → AreBagsOf (ds ++ cs) a'
 beside_are_bags ds bs cs a a' of r left =
     left_are_bags (ds ++ bs) (ds ++ cs) a a' of
     (All-append (AreOfOne a) ds cs (all_left (AreOfOne a) ds bs (bags_are_of_one (ds ++ bs) a of)) (of_one_by a' a cs (sym r.memory) (sym r.cells) (bags_are_of_one cs a' left)))
     (returns_beside ds bs cs a a' r)
 
--- .. and where each leased cell was in one, each still is
+-- .. and if each leased cell was in one of them, each still is
 pub left_have_all : (bs cs : List ArenaView) (a a' : ArenaView) → HaveAllLeased bs a → All (AreOfOne a) cs → Returns bs cs a a' → HaveAllLeased cs a'
 left_have_all bs cs a a' have one r = record {
   bags = left_are_bags bs cs a a' have.bags one r;

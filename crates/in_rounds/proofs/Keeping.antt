@@ -20,7 +20,7 @@ bags_of-append (Fresh ∷ xs) ys = bags_of-append xs ys
 bags_of-append (Kept d ∷ xs) ys = ap (λ bs. d.placed.placed.bag ∷ bs) (bags_of-append xs ys)
 bags_of-append (Taken ∷ xs) ys = bags_of-append xs ys
 
--- what is put where nothing was put yet
+-- a result that is put for a job without one
 pub put_holders : (n : ℕ) (slots : List JobState) (j : ℕ) (d : DoneParts) → slice_get slots j ≡ Some Fresh → holders n (bags_of (set slots j (Kept d))) ≡ holders n (d.placed.placed.bag ∷ []) + holders n (bags_of slots)
 put_holders n [] j d at = cc
 put_holders n (Fresh ∷ slots) zero d at = holders-cons n d.placed.placed.bag (bags_of slots)
@@ -44,7 +44,7 @@ put_all P (Kept e ∷ slots) (suc j) d one all =
     All-cons P e.placed.placed.bag (bags_of (set slots j (Kept d))) (All-head P e.placed.placed.bag (bags_of slots) all) (put_all P slots j d one (All-tail P e.placed.placed.bag (bags_of slots) all))
 put_all P (Taken ∷ slots) (suc j) d one all = put_all P slots j d one all
 
--- what is taken
+-- a result that is taken
 pub take_holders : (n : ℕ) (slots : List JobState) (j : ℕ) (d : DoneParts) → slice_get slots j ≡ Some (Kept d) → holders n (bags_of slots) ≡ holders n (d.placed.placed.bag ∷ []) + holders n (bags_of (set slots j Taken))
 take_holders n [] j d at = cc
 take_holders n (Fresh ∷ slots) zero d at = absurd (let f : Some Fresh ≡ Some (Kept d) = at in cc)
@@ -73,7 +73,7 @@ take_all P (Kept e ∷ slots) (suc j) d at all =
     (rest.0, All-cons P e.placed.placed.bag (bags_of (set slots j Taken)) (All-head P e.placed.placed.bag (bags_of slots) all) rest.1)
 take_all P (Taken ∷ slots) (suc j) d at all = take_all P slots j d at all
 
--- where each cell that is on lease was kept or in hand, it still is once it is taken
+-- if each leased cell was kept or in hand, it still is after a result is taken
 pub taken_have_all : (d : DoneParts) (g h : GatherParts) (job : ℕ) (a : ArenaView) → HaveAllLeased (bags_of g.slots) a → TakesDone g job (Some d) h → HaveAllLeased (d.placed.placed.bag ∷ bags_of h.slots) a
 taken_have_all d g h job a have takes =
     let bag = d.placed.placed.bag in

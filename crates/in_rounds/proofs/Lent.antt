@@ -1,4 +1,4 @@
--- Cells that are lent to one worker more.
+-- Cells that are lent to one more worker.
 use Rattle.std.proofs.Common.{◌≡◌, ◌≤◌, ◌<◌, ◌+◌, ◌*◌, ℕ, zero, suc, List, [], ◌∷◌, ◌++◌, length, All, refl, sym, ap, ◌∙◌, subst, arith}
 use Rattle.std.proofs.lemmas.List.{append_assoc}
 use Rattle.std.proofs.lemmas.List.Elements.{All-append, All-cons, All-nil, All-weaker}
@@ -31,7 +31,7 @@ in_hands-append (p ∷ ps) qs = ap (λ bs. in_hand p ++ bs) (in_hands-append ps 
 pub none_lent : (a : ArenaView) → AreLentOut [] a a
 none_lent a = record { memory = refl; cells = refl; count = refl; bags = no_bags a; free = λ n one. absurd (let e : 0 ≡ 1 = one in omega (arith, e)); others = λ n none. refl }
 
--- an empty stock is one of its arena whatever is lent, and has room for its share
+-- an empty stock is one of its arena for any lent cells, and has room for its share
 pub empty_stock_of : (a a' : ArenaView) (room : Need) → a'.memory ≡ a.memory → a'.cells ≡ a.cells → IsStockOf (empty_stock a room) a'
 empty_stock_of a a' room memory cells = record { memory = sym memory; cells = sym cells; leased = λ n in_it. absurd (in_it (subst IsLeased (sym (none_in_empty a n)) tt)) }
 
@@ -48,7 +48,7 @@ module _ (bs : List ArenaView) (share : Need) (a a' a'' : ArenaView) (s : StockP
   changes : Changes a' a'' s
   changes n = change share a a' a'' s all lent.count adds n
 
-  -- what is free is in no bag
+  -- a free cell is in no bag
   no_holder : (n : ℕ) → state_at a' n ≡ Vacant → (0 < holders n bs) → ⊥
   no_holder n free some = subst IsLeased (sym (leased_of bs a' n lent.bags some) ∙ free) tt
 
@@ -121,7 +121,7 @@ module _ (plan : PlanParts) (board : BoardView) (share : Need) (ps : List Hand) 
     list = is.ready.list;
   }
 
--- what is left is enough for the others
+-- the rest is enough for the others
 pub share_left : (m k : ℕ) (share : Need) (a a' : ArenaView) → m ≡ k + 1 → IsShare m share (free_of a) → ((c : CellClass) → free_of a' c + count_of share c ≡ free_of a c) → IsShare k share (free_of a')
 share_left m k share a a' e enough left c =
     let all = subst (λ z. z * count_of share c ≤ free_of a c) e (enough c) in let rest = left c in less k (count_of share c) (free_of a c) (free_of a' c) all rest

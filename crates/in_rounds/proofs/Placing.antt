@@ -46,13 +46,13 @@ module _ (need : Need) (s s' : StockParts) (p : PlacedParts) (takes : TakesCells
 pub one_of_one : (a b c : ArenaView) → AreOfOne a b → AreOfOne b c → AreOfOne a c
 one_of_one a b c ab bc = (bc.0 ∙ ab.0, bc.1 ∙ ab.1)
 
--- ---- what a template needs
+-- ---- the need of a template
 
 -- a template that is found is one of the templates
 pub template_in : (ts : TemplatesParts) (c d : ℕ) (t : TemplateParts) → template_at ts c d ≡ Some t → (k : ℕ) × (slice_get ts.templates k ≡ Some t)
 template_in ts c d t e = option_and_then_some (λ (k : RuleNo). slice_get ts.templates k.0) (rule_at ts.numbers c d) t e (λ k is at. (k.0, at))
 
--- the stock holds what any template needs
+-- the stock holds the need of any template
 pub holds_any : (ts : TemplatesParts) (largest : Need) (s : StockParts) (c d : ℕ) (t : TemplateParts) → IsLargestNeed ts.templates largest → IsEnough (count_of largest) (held s) → template_at ts c d ≡ Some t → IsEnough (count_of t.member.need) (held s)
 holds_any ts largest s c d t most enough at class =
     let k = template_in ts c d t at in let m = (most class).0 k.0 t k.1 in let e = enough class in omega (arith, m, e)

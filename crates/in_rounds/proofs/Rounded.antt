@@ -1,4 +1,4 @@
--- Rounds: all jobs of one are done where there is room for them together.
+-- Rounds: all jobs of a round are done if there is room for them together.
 use Rattle.std.proofs.Common.{◌≡◌, ◌⊎◌, inl, inr, ◌<◌, ◌≤◌, ◌+◌, ◌-◌, ℕ, arith}
 use Rattle.in_machine.specs.Machines.{IsMachine}
 use Rattle.in_machine.specs.Together.{HasRoomFor}

@@ -6,12 +6,12 @@ use Rattle.in_base.proofs.Options.{snoc_parts}
 use Rattle.in_rounds.specs.declared.threads.Begun.{Begun}
 use Rattle.in_rounds.specs.declared.threads.Begun.TheVariants.{There, Here}
 
--- what has begun of a part: a thread that hands back what this work makes of it, or what came of it here
+-- the begun work on a part: a thread that returns this work's result of the part, or the result made here
 abbrev pub IsBegun : {P W : Type 0} → (W → P → P → Type 0) → W → P → Begun P W → Type 0
 IsBegun is_worked w p (There handle) = (handle.promise.work.value ≡ w) × (handle.promise.part.value ≡ p)
 IsBegun is_worked w p (Here q) = is_worked w p q
 
--- the first of the one list goes with the last of the other, and so on
+-- the first of the first list goes with the last of the second, and so on
 abbrev pub Mirrors : {P W : Type 0} → (W → P → P → Type 0) → W → List P → List (Begun P W) → Type 0
 Mirrors is_worked w [] begun = begun ≡ []
 Mirrors {P} {W} is_worked w (p ∷ ps) begun = (b : Begun P W) × (rest : List (Begun P W)) × (begun ≡ rest ++ b ∷ []) × IsBegun is_worked w p b × Mirrors is_worked w ps rest

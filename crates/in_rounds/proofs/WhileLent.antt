@@ -40,7 +40,7 @@ is_leased Vacant h = absurd h
 is_leased Leased h = refl
 is_leased (Live w es) h = absurd h
 
--- a cell stays as it was, or was on lease and is free, or the other way round
+-- a cell stays as it was, or one of both states is leased and the other free
 abbrev pub IsAlike : State → State → Type 0
 IsAlike x y = (y ≡ x) ⊎ (((x ≡ Leased) × (y ≡ Vacant)) ⊎ ((x ≡ Vacant) × (y ≡ Leased)))
 
@@ -164,7 +164,7 @@ module _ (bs : List ArenaView) (a b : ArenaView) (lent : AreLentOut bs a b) wher
 
 -- ---- taken
 
--- what holds of each bag holds of that of what is kept
+-- a property of each bag is one of a kept result's bag
 pub kept_has : (P : ArenaView → Type 0) (slots : List JobState) (j : ℕ) (d : DoneParts) → slice_get slots j ≡ Some (Kept d) → All P (bags_of slots) → P d.placed.placed.bag
 kept_has P [] j d at all = cc
 kept_has P (Fresh ∷ slots) zero d at all = absurd (let f : Some Fresh ≡ Some (Kept d) = at in cc)
@@ -187,7 +187,7 @@ left_have P (Kept e ∷ slots) (suc j) all =
     All-cons P e.placed.placed.bag (bags_of (set slots j Taken)) (All-head P e.placed.placed.bag (bags_of slots) all) (left_have P slots j (All-tail P e.placed.placed.bag (bags_of slots) all))
 left_have P (Taken ∷ slots) (suc j) all = left_have P slots j all
 
--- what is left of the slots after one was taken
+-- the rest of the slots after a result was taken
 pub left_at : (slots : List JobState) (j k : ℕ) (d : DoneParts) → slice_get (set slots j Taken) k ≡ Some (Kept d) → slice_get slots k ≡ Some (Kept d)
 left_at [] j k d at = at
 left_at (s ∷ slots) zero zero d at = absurd (let f : Some Taken ≡ Some (Kept d) = at in cc)

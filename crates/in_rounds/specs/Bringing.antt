@@ -8,7 +8,7 @@ use Rattle.in_rounds.specs.declared.gather.JobState.TheVariants.{Kept}
 use Rattle.in_rounds.specs.Works.{bags}
 use Rattle.in_rounds.specs.declared.hand.Hand.{Hand}
 
--- the cells of a hand, in its stock and in its results; of all hands
+-- the bags of a hand: its stock's and its results'; and those of all hands
 abbrev pub in_hand : Hand → List ArenaView
 in_hand p = p.stock.bag ∷ bags p.done.items
 

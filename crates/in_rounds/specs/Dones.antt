@@ -4,7 +4,7 @@ use Rattle.in_symbols.specs.declared.symbols.SymbolNo.{SymbolNo}
 use Rattle.in_compile.specs.PlacedTemplates.{PlacedTemplateParts, IsOfTemplate}
 use Rattle.in_compile.specs.Templates.{TemplatesParts, template_at}
 
--- the number of the job, the symbols of its pair, the templates of which it has one, and the placed member
+-- the number of the job, the symbols of its pair, the templates that have one for it, and the placed member
 pub record DoneParts : Type 0 where
   pub job : ℕ
   pub heads : SymbolNo × SymbolNo

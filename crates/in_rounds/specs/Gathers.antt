@@ -26,7 +26,7 @@ bags_of (Fresh ∷ slots) = bags_of slots
 bags_of (Kept d ∷ slots) = d.placed.placed.bag ∷ bags_of slots
 bags_of (Taken ∷ slots) = bags_of slots
 
--- the list has a job of its number with its symbols
+-- the list has a job of the result's number with its symbols
 abbrev pub HasJob : GatherParts → DoneParts → Type 0
 HasJob g d = slice_get g.jobs d.job ≡ Some d.heads
 
@@ -48,7 +48,7 @@ abbrev pub IsPutRefused : GatherParts → DoneParts → Why → Type 0
 IsPutRefused g d Stranger = HasJob g d → ⊥
 IsPutRefused g d Double = HasJob g d × WasPut g d.job
 
--- a result is kept if the list has its job and none of that job was put before; else it comes back, and nothing changes
+-- a result is kept if the list has its job and no result of that job was put before; otherwise it comes back, and nothing changes
 abbrev pub Puts : GatherParts → DoneParts → Result (Unit {0}) (DoneParts × Why) → GatherParts → Type 0
 Puts old d (Ok _) new = HasJob old d × IsFreshJob old d.job × (new ≡ with_slot old d.job (Kept d))
 Puts old d (Err e) new = (e.0 ≡ d) × IsPutRefused old d e.1 × (new ≡ old)

@@ -1,10 +1,10 @@
--- Cells that are out of an arena in several bags: which of them each bag has, and giving some back. This project's own choice.
+-- Cells that are out of an arena in several bags: the cells of each bag, and giving some back. This project's own choice.
 use Rattle.std.specs.Prelude.{◌≡◌, ◌≤◌, ◌<◌, ℕ, Bool, true, false, List, length, count_by, All}
 use Rattle.in_arena.specs.Arenas.{ArenaView, state_at}
 use Rattle.in_arena.specs.Bags.{IsBagOf}
 use Rattle.in_arena.specs.States.{State, Vacant, Leased, Live, IsLeased}
 
--- a cell is in a bag unless the bag has it as another owner's
+-- a bag has a cell unless the cell is another owner's
 abbrev pub is_own : State → Bool
 is_own Vacant = true
 is_own Leased = false

@@ -33,7 +33,7 @@ TakesAreOne = (g h i : GatherParts) (job : ℕ) (r s : Option DoneParts) → Tak
 
 -- ---- rounds
 
--- taking the first pairs in turn, one at least, until there are no more jobs or no room for the next one, is a round
+-- taking the first pairs in turn, at least one, until there are no more jobs or no room for the next one, is a round
 abbrev pub RoundsEnd : Type 0
 RoundsEnd = (m n : MachineParts) (budget k : ℕ) → IsMachine m → IsFront m budget n k → IsRound m budget n k
 

@@ -1,4 +1,4 @@
--- The cells that the workers of a round are lent, and the owner's rest.
+-- The cells that are lent to the workers of a round, and the owner's rest.
 use Rattle.std.specs.Prelude.{◌≡◌, ◌≤◌, ◌*◌, ℕ, List, [], length}
 use Rattle.in_arena.specs.Arenas.{ArenaView, state_at}
 use Rattle.in_arena.specs.States.{Vacant}

@@ -10,14 +10,14 @@ use Rattle.in_reducer.specs.Steps.{HasRoomAt}
 abbrev pub jobs_of : MachineParts → ℕ → ℕ
 jobs_of m budget = min (length m.queue) budget
 
--- the first pairs of the queue in turn, one at least, until there are no more jobs, or no room for the next one
+-- the first pairs of the queue in turn, at least one, until there are no more jobs, or no room for the next one
 pub record IsFront (m : MachineParts) (budget : ℕ) (after : MachineParts) (k : ℕ) : Type 0 where
   pub run : Runs m k after
   pub some : 1 ≤ k
   pub most : k ≤ jobs_of m budget
   pub ends : (k ≡ jobs_of m budget) ⊎ (HasRoomAt after 0 → ⊥)
 
--- the interactions of a round: of the first k pairs of the queue in turn, until no job was left, or no room for the next one; and so of all jobs, if
+-- the interactions of a round: of the first k pairs of the queue in turn, until no job was left, or no room for the next one; k is all jobs if
 -- there is room for them together
 pub record IsRound (m : MachineParts) (budget : ℕ) (after : MachineParts) (k : ℕ) : Type 0 where
   pub front : IsFront m budget after k

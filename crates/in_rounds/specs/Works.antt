@@ -43,7 +43,7 @@ pub record IsReady (plan : PlanParts) (board : BoardView) (p : Hand) : Type 0 wh
 abbrev pub StopsWorking : PlanParts → Hand → Type 0
 StopsWorking plan p = (p.seat.done ≡ true) ⊎ (((largest : Need) × IsLargestNeed plan.templates.templates largest × (IsEnough (count_of largest) (held p.stock) → ⊥)) ⊎ (vec_len p.rooms ≡ 0))
 
--- it did these jobs besides, which its seat claimed; their cells and those of its stock are together those that it had
+-- it did more jobs, which its seat claimed; their cells and those of its stock are together those that it had
 pub record Works (plan : PlanParts) (old new : Hand) : Type 0 where
   pub more : List DoneParts
   pub list : new.done.items ≡ old.done.items ++ more

@@ -9,7 +9,7 @@ use crate::hand::Hand;
 use in_arena::Arena;
 use in_compile::Templates;
 
-/// Frees the stock of a hand, and gathers its results. Cells of a result that can't be gathered are given back.
+/// Frees the stock of a hand, and gathers its results. Cells of a result that can't be gathered are freed.
 fn bring<'t>(hand: Hand<'t>, templates: &Templates, gather: &mut Gather<'t>, arena: &mut Arena)
     requires bags { AreBagsOf (in_hand hand ++ bags_of gather.old.slots) arena.old }
     requires made { IsHandMadeWith templates.now hand × AreMadeWith templates.now gather.old.slots }

@@ -1,4 +1,4 @@
-// A job that a worker did.
+// The result of a job that a worker did.
 ghost use Rattle.std.specs.Prelude.{◌≡◌, ◌≤◌, length, IsSome, Some};
 ghost use Rattle.in_arena.specs.Bags.{IsBagOf, AreOfOne};
 ghost use Rattle.in_arena.specs.States.{Vacant};
@@ -105,7 +105,7 @@ impl<'t> Done<'t> {
         placed
     }
 
-    /// Gives its cells back: they are free. It must be of this arena. It takes no memory.
+    /// Frees its cells. It must be of this arena. It takes no memory.
     pub fn spend(self, arena: &mut Arena)
         requires { IsBagOf self.placed.placed.bag arena.old }
         ensures { Regains (λ _. Vacant) arena.old self.entry.placed.placed.bag arena.new }

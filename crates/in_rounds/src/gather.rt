@@ -12,14 +12,14 @@ use std::alloc::{AllocError, Global};
 use std::marker::Model;
 use std::mem;
 
-/// Why a `Done` isn't kept: one of its job was put before, or the list has no job of its number with its symbols.
+/// The reason why a `Done` isn't kept: a result of its job was put before, or the list has no job of its number with its symbols.
 #[derive(Clone, Copy, Debug, PartialEq, Eq)]
 pub enum Why {
     Double,
     Stranger,
 }
 
-/// The state of a job: no result was put yet; the result is kept; or it was put and taken.
+/// The state of a job: no result was put yet, the result is kept, or the result was put and taken.
 #[derive(Drop)]
 pub(crate) enum JobState<'t> {
     Fresh,
@@ -27,7 +27,7 @@ pub(crate) enum JobState<'t> {
     Taken,
 }
 
-/// Keeps the result of each job of a list, by the job's number: which jobs a round has, and in which order, is this project's own choice.
+/// Keeps the result of each job of a list, by the job's number. The jobs of a round and their order are this project's own choice.
 ///
 /// Spend it: the cells of its results are leased until then.
 #[derive(Drop)]
@@ -95,7 +95,7 @@ fn is_fresh(slots: &[JobState], job: u32) -> bool
     }
 }
 
-/// Gives back the cells of all slots.
+/// Frees the cells of all slots.
 fn spend_all(mut slots: Vec<JobState>, arena: &mut Arena)
     requires { AreBagsOf (bags_of slots.items) arena.old }
     ensures { Returns (bags_of slots.entry.items) [] arena.old arena.new }
@@ -118,7 +118,7 @@ impl<'t> Gather<'t> {
         Ok(Gather { jobs, slots })
     }
 
-    /// Keeps a result for its job. Refused, and handed back, if the list has no job of its number with its symbols (`Stranger`, tested
+    /// Keeps a result for its job. It is refused, and handed back, if the list has no job of its number with its symbols (`Stranger`, tested
     /// first), or if a result of that job was put before (`Double`), also if it was taken.
     pub fn put(&mut self, done: Done<'t>) -> Result<(), (Done<'t>, Why)>
         ensures { Puts self.old done.entry result self.new }
@@ -153,7 +153,7 @@ impl<'t> Gather<'t> {
         }
     }
 
-    /// Gives back the cells of all results that were put and not taken: they are free. They must be of this arena. It takes no memory.
+    /// Frees the cells of all results that were put and not taken. They must be of this arena. It takes no memory.
     pub fn spend(self, arena: &mut Arena)
         requires { AreBagsOf (bags_of self.slots) arena.old }
         ensures { Returns (bags_of self.entry.slots) [] arena.old arena.new }

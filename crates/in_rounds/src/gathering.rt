@@ -63,7 +63,7 @@ fn place_jobs<'t, R: Threads + Wait, G: Gate + Sync>(
 
 /// Lets `workers` workers, 1 to 64, of which the caller is one, claim the plan's jobs and place their templates in cells of the arena, each
 /// with its share of the free ones; and gathers the results. Returns the number of started threads. Each worker claims while its stock holds the most
-/// that a job can need, and passes the gate after each claim. Unused cells are free again.
+/// that a job can need, and passes the gate after each claim. Unused cells are freed.
 ///
 /// All memory except that for starting a thread is taken before the first cell is lent. Refused only when out of memory, and then the arena is as it
 /// was. If a thread can't be started, the caller does its part. It waits for its threads.

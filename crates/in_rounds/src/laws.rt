@@ -12,17 +12,17 @@ pub fn taking_loses_none()
     ensures { TakingLosesNone }
 {}
 
-/// The kept results and the new one determine what `put` returns and keeps.
+/// The kept results and the new one determine the result of `put` and the results kept after it.
 pub fn puts_are_one()
     ensures { PutsAreOne }
 {}
 
-/// The kept results and the job determine what `take` returns and keeps.
+/// The kept results and the job determine the result of `take` and the results kept after it.
 pub fn takes_are_one()
     ensures { TakesAreOne }
 {}
 
-/// Taking the first pairs in turn, one at least, until there are no more jobs or no room for the next one, is a round.
+/// Taking the first pairs in turn, at least one, until there are no more jobs or no room for the next one, is a round.
 pub fn rounds_end()
     ensures { RoundsEnd }
 {}

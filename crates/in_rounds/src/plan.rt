@@ -6,7 +6,7 @@ use in_compile::Templates;
 use in_symbols::SymbolNo;
 use std::marker::Model;
 
-/// The jobs of a round, each by the two symbols of its active pair, the constructor first; and the templates, which have one for each.
+/// The jobs of a round, each by the two symbols of its active pair, the constructor first; and the templates, one for each job among them.
 #[derive(Drop)]
 pub struct Plan<'t> {
     pub(crate) templates: &'t Templates,

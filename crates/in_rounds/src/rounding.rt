@@ -48,7 +48,7 @@ fn jobs(
 }
 
 /// Does the jobs after the first `done`, each at the first pair of the queue, as `step` does, and ends at the first one whose cells aren't free.
-/// Returns the number of jobs done then.
+/// Returns the number of jobs that are then done.
 fn step_on(reducer: &mut Reducer, templates: &Templates, jobs: u32, done: u32) -> u32
     requires templates { AreTemplatesOf reducer.old.program templates.now }
     requires done { done ≤ jobs }
@@ -69,9 +69,9 @@ fn step_on(reducer: &mut Reducer, templates: &Templates, jobs: u32, done: u32) -
 
 /// A round: interactions of the first pairs of the queue, as many as the budget allows. Several workers, one of them the caller, place their
 /// templates at once; each worker passes the gate after it has claimed a job. The interactions are done one after another, first in, first out, by
-/// each pair's partners at its turn, up to that of the last job, or until the cells that the next pair needs aren't free.
+/// each pair's partners at its turn, up to that of the last job, or until the cells for the next pair aren't free.
 ///
-/// There must be a pair, and the cells that the first one needs must be free; the budget is at least 1, the workers are 1 to 64, and the templates
+/// There must be a pair, and its cells must be free; the budget is at least 1, the workers are 1 to 64, and the templates
 /// are those of the program. All memory except that for starting a thread is taken before a cell is lent. Refused only when out of memory, and then
 /// the reducer is as before. A thread that can't be started is no fault. It waits for its threads.
 pub(crate) fn reducer_round<R: Threads + Wait, G: Gate + Sync>(

@@ -14,13 +14,13 @@ use std::sync::Wait;
 use std::thread::Threads;
 
 /// A round of `workers` workers, 1 to 64, of which the caller is one: the interactions of the first pairs of the queue, at most `budget` of
-/// them, which is at least 1. There must be a pair, and the cells that the first one needs must be free.
+/// them, which is at least 1. There must be a pair, and the cells for the first one must be free.
 ///
-/// Each worker claims jobs, which are the first pairs by number, and places their templates, while its stock holds the most that one can need
+/// Each worker claims jobs, which are the first pairs by number, and places their templates, while its stock holds the most that a job can need
 /// and it has room; after each claim it passes the gate. Then the caller does the interactions in turn, first in, first out, as `Machine::step`
 /// does: those whose templates were placed and the next ones, until there are no more jobs or the next pair's need isn't free. So a round does at
-/// least one interaction, and those of all jobs if the cells that they need together are free. Which worker does which job, and how many cells each
-/// is lent, is open.
+/// least one interaction, and those of all jobs if the cells that they need together are free. The jobs of each worker, and the number of cells that
+/// each is lent, are open.
 ///
 /// All memory except that for starting a thread is taken before the first claim. Refused only when out of memory, and then the machine is as it was.
 /// If a thread can't be started, the caller does its part. It waits for its threads.

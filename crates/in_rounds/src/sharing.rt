@@ -6,7 +6,7 @@ ghost use Rattle.in_rounds.specs.Lending.{IsShare};
 
 use in_compile::Need;
 
-/// As many cells as `jobs` jobs can need, at most all.
+/// The number of cells that `jobs` jobs can need, at most `there`.
 fn at_most(there: u32, largest: u32, jobs: u32) -> u32
     requires { 1 ≤ jobs }
     ensures most { result ≤ there }

@@ -26,7 +26,7 @@ fn is_for_first(body: &Body, done: &Done) -> bool
     constructor == first && destructor == second
 }
 
-/// Gives back the cells of a job that was placed.
+/// Frees the cells of a job that was placed.
 fn put_back(body: &mut Body, done: Done)
     requires all { KeepsAll body.old }
     requires of { IsBagOf done.placed.placed.bag body.old.arena }
@@ -39,7 +39,7 @@ fn put_back(body: &mut Body, done: Done)
     done.spend(&mut body.arena);
 }
 
-/// Stitches in the results of the jobs in turn, from the first one on, each at the first pair of the queue, and ends at the first job without a
+/// Stitches in the results of the jobs in turn, from the first one on, each at the first pair of the queue. It ends at the first job without a
 /// result. Returns the number of stitched jobs.
 pub(crate) fn stitch_all<'t>(
     body: &mut Body,
@@ -73,7 +73,7 @@ pub(crate) fn stitch_all<'t>(
     jobs
 }
 
-/// Gives back the cells of the results left in the gather. Then no cell is on lease.
+/// Frees the cells of the results left in the gather. Then no cell is on lease.
 pub(crate) fn give_back<'t>(body: &mut Body, gather: Gather<'t>)
     requires all { KeepsAll body.old }
     requires lent { HaveAllLeased (bags_of gather.slots) body.old.arena }

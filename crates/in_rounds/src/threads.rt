@@ -1,4 +1,4 @@
-// Work on several parts, each in a thread of its own.
+// Work on several parts, each in its own thread.
 ghost use Rattle.std.specs.Prelude.{◌≡◌, ◌≤◌, ◌<◌, ◌+◌, ◌∷◌, [], All, vec_len, vec_capacity};
 ghost use Rattle.std.specs.List.{AllZip};
 
@@ -7,7 +7,7 @@ use std::sync::Wait;
 use std::thread;
 use std::thread::{Promise, PromisedHandle, Threads};
 
-/// The work on a part: if the part is ready, its result is worked.
+/// The work on a part: if the part is ready, the work makes a result of it.
 pub(crate) trait Work<P> {
     ghost is_ready: { Self → P → Type 0 };
 
@@ -18,7 +18,7 @@ pub(crate) trait Work<P> {
         ensures { is_worked self.now part result };
 }
 
-/// The result is the one that this work makes of this part.
+/// The result that this work makes of this part.
 #[derive(Drop)]
 pub(crate) struct Kept<P, W> {
     work: Snapshot<W>,
@@ -36,7 +36,7 @@ pub(crate) enum Begun<P, W: Work<P>> {
     Here(P),
 }
 
-/// Works on one part here, and on each other one in a thread of its own, or here if no thread can be started. Returns the number of threads. The two
+/// Works on one part here, and on each other one in its own thread, or here if no thread can be started. Returns the number of threads. The two
 /// lists have the required room, so no memory is taken once work has begun.
 pub(crate) fn all<P: Send + Drop, W: Work<P> + Sync, R: Threads + Wait>(
     rt: &R,

@@ -11,7 +11,7 @@ use crate::threads::Work;
 use in_claims::{Board, Gate, Seat};
 use in_compile::{Need, Placed, Stock};
 
-/// Whether a worker continues: its seat is not done, its stock holds enough for any job, and there is room for one job more.
+/// Whether a worker continues: its seat is not done, its stock holds enough for any job, and there is room for one more job.
 fn goes_on(seat: &Seat, stock: &Stock, rooms: &Vec<Placed>, largest: Need) -> bool
     ensures yes { result ≡ true → (seat.now.done ≡ false) × IsEnough (count_of largest) (held stock.now) × (0 < vec_len rooms.now) }
     ensures ends { result ≡ false → (seat.now.done ≡ true) ⊎ ((IsEnough (count_of largest) (held stock.now) → ⊥) ⊎ (vec_len rooms.now ≡ 0)) }

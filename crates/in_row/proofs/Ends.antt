@@ -7,7 +7,7 @@ use Rattle.in_row.specs.Ends.{CellSize, Small, Large, Wide, Layout, IsLayout, Is
 
 -- ---- places
 
--- each place below 17 has a word of its own, which isn't the first one
+-- each place below 17 has its own word, which isn't the first one
 pub place_offset : (p : ℕ) → p < 17 → place_of (offset p) ≡ p
 place_offset zero lt = refl
 place_offset (suc zero) lt = refl
@@ -129,7 +129,7 @@ module _ (l : Layout) (is : IsLayout l) where
     word_known =
         ap (λ d. (y + o - begin_of l d) % size_of d) (size_known c k y o cell lt) ∙ ap (λ n. n % s) distance ∙ mod-mul-add k s o lt
 
-  -- an end is what its word tells
+  -- the word of an end decodes to the end
   pub decode-encode : (e : RowEnd) → IsEndIn l e → decode l (encode e) ≡ e
   decode-encode e here =
       let c = here.0 in let k = here.1 in let cell = here.2 in let lt = here.3 in let o = offset e.place in let inside = offset_inside c e.place lt in
@@ -138,7 +138,7 @@ module _ (l : Layout) (is : IsLayout l) where
       let places : place_of (word_in l (e.cell + o)) ≡ e.place = ap place_of (word_known c k e.cell o cell inside) ∙ place_offset e.place (omega (arith, lt, few)) in
       λ j. record { cell = cells j; place = places j }
 
-  -- .. and a word that is an end's is that of the end that it tells
+  -- .. and a word of an end is the word of the decoded end
   pub encode-decode : (w : ℕ) → IsEndWord l w → encode (decode l w) ≡ w
   encode-decode w here = ap (λ k. encode (decode l k)) here.2 ∙ ap encode (decode-encode here.0 here.1) ∙ sym here.2
 
@@ -169,7 +169,7 @@ module _ (l : Layout) (is : IsLayout l) where
   cell_fours Large k y cell = ap (λ n. n % 4) cell.0 ∙ low_of l.large (k * 12) is.fours.1 ∙ multiple (k * 12) (k * 3) (omega arith)
   cell_fours Wide k y cell = ap (λ n. n % 4) cell.0 ∙ low_of l.wide (k * 24) is.fours.2 ∙ multiple (k * 24) (k * 6) (omega arith)
 
-  -- a word of an end ends in two ones where it is a principal port's
+  -- a word of an end ends in two ones if it is a principal port's
   pub principal_is_told : (e : RowEnd) → IsEndIn l e → (encode e % 4 ≡ 3 → e.place ≡ 0) × (e.place ≡ 0 → encode e % 4 ≡ 3)
   principal_is_told e here =
       let low : encode e % 4 ≡ offset e.place % 4 = low_of e.cell (offset e.place) (cell_fours here.0 here.1 e.cell here.2) in

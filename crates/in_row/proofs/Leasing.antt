@@ -28,7 +28,7 @@ pub same_tail : (c d : ℕ) (cs ds : List ℕ) → c ∷ cs ≡ d ∷ ds → cs 
 unfolding tail_of
 same_tail c d cs ds e = ap tail_of e
 
--- the list has a cell where it isn't at its end
+-- the list has a cell if it isn't at its end
 pub listed_cell : (ws : Slots) (next last : ℕ) (fs : List ℕ) → IsFreeChain ws next last fs → next ≢ last → (k : ℕ) × (get_or ws next None ≡ Some (Some k))
 listed_cell ws next last [] chain ne = absurd (ne chain)
 listed_cell ws next last (f ∷ fs) chain ne = (chain.2, ap (λ n. get_or ws n None) chain.0 ∙ chain.3)

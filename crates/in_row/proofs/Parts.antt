@@ -19,7 +19,7 @@ module _ (p : ℕ → Bool) (ws : Slots) where
   pub has_only : HasOnly p (those_of p ws)
   has_only k e = get_or-those_of p ws k ∙ ap (λ b. held b (get_or ws k None)) e
 
--- what the two owners show
+-- the nets that the two owners show
 pub parted : (l : Layout) (p : ℕ → Bool) (ws : Slots) → ShowParts l p ws (those_of p ws) (those_of (but p) ws)
 parted l p ws = record {
   part_ends = λ e h. ap (option_map (decode l)) (shows p ws (encode e) h);
@@ -32,7 +32,7 @@ parted l p ws = record {
   rest_no_cells = λ y h. hides (but p) ws y (ap not h);
 }
 
--- what the owner of both shows, after each was changed by itself
+-- the net that the owner of both shows, after each part was changed by itself
 pub glued : (l : Layout) (p : ℕ → Bool) (rest part : Slots) → length rest ≡ length part → HasOnly p part → HasOnly (but p) rest → ShowParts l p (together rest part) part rest
 glued l p rest part long only_part only_rest = record {
   part_ends = λ e h. ap (option_map (decode l)) (in_part (encode e) h);

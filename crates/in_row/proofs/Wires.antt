@@ -19,7 +19,7 @@ word_same ws i j x e lt = ap (λ k. written (get_or (put ws i x) k None)) e ∙ 
 word_other : (ws : Slots) (i j x : ℕ) → (j ≡ i → ⊥) → word_at (put ws i x) j ≡ word_at ws j
 word_other ws i j x ne = ap written (get_or-set_other ws i j (Some (Some x)) None ne)
 
--- what two stores make of the words
+-- the words after two stores
 abbrev both : Slots → ℕ → ℕ → Slots
 both ws plus minus = put (put ws plus minus) minus plus
 
@@ -27,7 +27,7 @@ module _ (ws : Slots) (plus minus : ℕ) (one : IsHere ws plus) (two : IsHere ws
   pub second_inside : minus < length (put ws plus minus)
   second_inside = subst (λ k. minus < k) (sym (length-set ws plus (Some (Some minus)))) (here_inside ws minus two)
 
-  -- what was here stays here
+  -- a word that was here stays here
   pub still_here : (k : ℕ) → IsHere ws k → IsHere (both ws plus minus) k
   still_here k h = here_stays (put ws plus minus) minus plus k second_inside (here_stays ws plus minus k (here_inside ws plus one) h)
 

@@ -1,4 +1,4 @@
--- Which words are chosen for an owner of their own.
+-- Choices of words for another owner.
 use Rattle.std.specs.Prelude.{ℕ, ◌/◌, Bool, false, ◌&&◌, ◌||◌, ltb, leb, eqb, List, [], ◌∷◌, get_or}
 
 -- the numbers from `from` to below `to`

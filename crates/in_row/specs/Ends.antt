@@ -1,4 +1,4 @@
--- Where the cells of each size lie in a row of words, and which word is which end. This project's own choice.
+-- The places of the cells of each size in a row of words, and the words of ends. This project's own choice.
 --
 -- A cell's first word has its state: free, a symbol's agent, or a free end of the net. Its principal port, place 0, is word 3, and place p is
 -- word p + p / 3, so that principal ports alone have numbers that end in two ones. A free end is a small cell with one place, place 1.
@@ -9,7 +9,7 @@ pub data CellSize : Type 0 where
   Large : CellSize
   Wide : CellSize
 
--- how many words a cell has, and how many places at most
+-- the number of words of a cell, and the most places
 abbrev pub size_of : CellSize → ℕ
 size_of Small = 4
 size_of Large = 12
@@ -20,7 +20,7 @@ width_of Small = 3
 width_of Large = 9
 width_of Wide = 17
 
--- where the cells of each size begin, and where the last ones end
+-- the first words of the first cells of each size, and the end of the last ones
 pub record Layout : Type 0 where
   pub small : ℕ
   pub large : ℕ
@@ -64,7 +64,7 @@ size_at l w = cond (ltb w l.large) Small (cond (ltb w l.wide) Large Wide)
 abbrev pub cell_in : ℕ → ℕ → ℕ → ℕ
 cell_in from size w = from + (w - from) / size * size
 
--- the cell of a word, and which of its words it is
+-- the cell of a word, and the number of the word in its cell
 abbrev pub cell_at : Layout → ℕ → ℕ
 cell_at l w = cell_in (begin_of l (size_at l w)) (size_of (size_at l w)) w
 
@@ -92,7 +92,7 @@ IsEndWord l w = (e : RowEnd) × IsEndIn l e × (w ≡ encode e)
 
 -- ---- the laws
 
--- an end is the one that its word tells, and a word of an end is that of the end that it tells
+-- the word of an end decodes to the end, and a word of an end is the word of the decoded end
 abbrev pub EndsHaveWords : Type 0
 EndsHaveWords = (l : Layout) → IsLayout l → ((e : RowEnd) → IsEndIn l e → decode l (encode e) ≡ e) × ((w : ℕ) → IsEndWord l w → encode (decode l w) ≡ w)
 

@@ -4,7 +4,7 @@ use Rattle.std.specs.List.{AllByRecursion}
 use Rattle.in_row.specs.Shown.{Slots}
 use Rattle.in_row.specs.declared.free_cells.FreeCells.{FreeCells}
 
--- the cells of the list from this one on, each of which names the next one, up to the one that ends it
+-- the cells of the list from this one on, each of which names the next one, before the cell that ends the list
 abbrev pub IsFreeChain : Slots → ℕ → ℕ → List ℕ → Type 0
 IsFreeChain ws next last [] = next ≡ last
 IsFreeChain ws next last (f ∷ fs) = (next ≡ f) × (f ≢ last) × (k : ℕ) × (get_or ws f None ≡ Some (Some k)) × IsFreeChain ws k last fs
@@ -33,11 +33,11 @@ CanLease size ws s = (cell : ℕ) × (rest : List ℕ) × AreFree size ws s (cel
 abbrev pub LeasesFirst : ℕ → Slots → FreeCells → ℕ → FreeCells → Type 0
 LeasesFirst size ws s leased t = (cell : ℕ) (rest : List ℕ) → AreFree size ws s (cell ∷ rest) → (leased ≡ cell) × AreFree size ws t rest
 
--- a cell that wasn't free, and ends no list, is the first one, and the others stay free
+-- a cell that wasn't free, and ends no list, becomes the first one, and the others stay free
 abbrev pub GivesBack : Slots → FreeCells → ℕ → Slots → FreeCells → Type 0
 GivesBack ws s c vs t = (size : ℕ) (free : List ℕ) → AreFree size ws s free → IsNotAmong c free → c ≢ s.last → AreFree size vs t (c ∷ free)
 
--- first the other's listed cells, and the one that ended its list; then the own
+-- the first cells are the other owner's listed ones and the one that ended its list; then come the own ones
 abbrev pub Appends : Slots → FreeCells → FreeCells → Slots → FreeCells → Type 0
 Appends ws s o vs t =
     (size : ℕ) (free listed : List ℕ) → AreFree size ws s free → IsFreeChain ws o.next o.last listed → IsNotAmong o.last free → o.last ≢ s.last → IsNotAmong s.last listed
@@ -45,6 +45,6 @@ Appends ws s o vs t =
 
 -- ---- the law
 
--- they stay free, in their order, while another word is written
+-- free cells stay free, in their order, while another word is written
 abbrev pub FreeCellsStay : Type 0
 FreeCellsStay = (size : ℕ) (ws : Slots) (s : FreeCells) (free : List ℕ) (c x : ℕ) → IsNotAmong c free → AreFree size ws s free → AreFree size (slice_set ws c (Some (Some x))) s free

@@ -1,4 +1,4 @@
--- What two owners show, one of which has the words that are chosen: a part of a net and the rest.
+-- The shown nets of two owners, one of which has the chosen words: a part of a net and the rest.
 use Rattle.std.specs.Prelude.{◌≡◌, ℕ, Bool, true, false, length, slice_set, get_or, Some, None}
 use Rattle.in_memory.specs.Places.{together}
 use Rattle.in_memory.specs.Splitting.{those_of, but}
@@ -20,7 +20,7 @@ pub record ShowParts (l : Layout) (p : ℕ → Bool) (whole part rest : Slots) :
   pub rest_cells : (y : ℕ) → p y ≡ false → first_word rest y ≡ first_word whole y
   pub rest_no_cells : (y : ℕ) → p y ≡ true → first_word rest y ≡ None
 
--- the owner has no words but chosen ones
+-- the owner has only chosen words
 abbrev pub HasOnly : (ℕ → Bool) → Slots → Type 0
 HasOnly p ws = (k : ℕ) → p k ≡ false → get_or ws k None ≡ None
 

@@ -5,7 +5,7 @@ use Rattle.in_row.specs.Shown.{Slots}
 use Rattle.in_row.specs.declared.row.RowPart.{RowPart}
 use Rattle.in_row.specs.declared.row.RowDeed.{RowDeed}
 
--- an owner of these words of the same row
+-- this owner has these words of the same row
 abbrev pub OwnsWords : RowPart → Slots → RowPart → Type 0
 OwnsWords p slots new = (new.base.ptr ≡ p.base.ptr) × (new.words.at ≡ p.words.at) × (new.words.slots ≡ slots)
 

@@ -1,4 +1,4 @@
--- What an owner of words shows of a net: the content of the first word of each cell, and where each end leads to.
+-- The part of a net that an owner of words shows: the content of the first word of each cell, and the end to which each end leads.
 use Rattle.std.specs.Prelude.{ℕ, List, get_or, Option, Some, None, option_map}
 use Rattle.in_row.specs.Ends.{Layout, RowEnd, encode, decode}
 

@@ -1,4 +1,4 @@
--- What linking two ends, cutting a wire and mending it do to what is shown of a net.
+-- The changes of the shown net when two ends are linked, and a wire is cut or mended.
 use Rattle.std.specs.Prelude.{◌≡◌, ℕ, Some}
 use Rattle.in_row.specs.Ends.{Layout, IsLayout, CellSize, RowEnd, IsCellAt, IsEndIn, encode}
 use Rattle.in_row.specs.Shown.{Slots, first_word, leads}
@@ -11,7 +11,7 @@ FirstWordsStay l old new = (c : CellSize) (k z : ℕ) → IsCellAt l c k z → f
 abbrev pub OthersLeadOn : Layout → RowEnd → RowEnd → Slots → Slots → Type 0
 OthersLeadOn l x y old new = (e : RowEnd) → IsEndIn l e → (e ≡ x → ⊥) → (e ≡ y → ⊥) → leads l new e ≡ leads l old e
 
--- of two ends each leads to the other one, and all else is as it was
+-- two ends lead to each other, and all else is as it was
 pub record AreWired (l : Layout) (x y : RowEnd) (old new : Slots) : Type 0 where
   pub first : leads l new x ≡ Some y
   pub second : leads l new y ≡ Some x
@@ -27,14 +27,14 @@ pub record IsWireCut (l : Layout) (x y a b : RowEnd) (old new : Slots) : Type 0 
   pub ends : (e : RowEnd) → IsEndIn l e → (e ≡ x → ⊥) → (e ≡ y → ⊥) → (e ≡ a → ⊥) → (e ≡ b → ⊥) → leads l new e ≡ leads l old e
   pub cells : FirstWordsStay l old new
 
--- the wires of two free ends are joined: what leads to a and what leads to b lead to each other
+-- the wires of two free ends are joined: the ends that lead to a and to b lead to each other
 pub record IsWireMended (l : Layout) (a b x y : RowEnd) (old new : Slots) : Type 0 where
   pub from : (leads l old a ≡ Some x) × (leads l old b ≡ Some y)
   pub joined : (leads l new x ≡ Some y) × (leads l new y ≡ Some x)
   pub ends : OthersLeadOn l x y old new
   pub cells : FirstWordsStay l old new
 
--- ---- whatever ends the words are, in whatever row
+-- ---- for any ends of the words, in any row
 
 abbrev pub LinksEnds : Slots → ℕ → ℕ → Slots → Type 0
 LinksEnds old plus minus new = (l : Layout) → IsLayout l → (x y : RowEnd) → IsEndIn l x → IsEndIn l y → plus ≡ encode x → minus ≡ encode y → AreWired l x y old new

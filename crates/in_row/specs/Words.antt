@@ -1,4 +1,4 @@
--- Words of a row, beside the place where it begins.
+-- Words of a row, and the beginning of the row.
 use Rattle.std.specs.Prelude.{◌≡◌, ℕ, get_or, slice_set, Some, None}
 use Rattle.in_memory.specs.Places.{IsHere}
 use Rattle.in_memory.specs.declared.cells.Base.{Base}
@@ -13,7 +13,7 @@ IsBaseOf base words = base.ptr ≡ words.at
 abbrev pub HasWords : Cells ℕ → Slots → Cells ℕ → Type 0
 HasWords old slots new = (new.at ≡ old.at) × (new.slots ≡ slots)
 
--- two words have the numbers of words that are here
+-- two words hold the numbers of words that are here
 abbrev pub CanMend : Slots → ℕ → ℕ → Type 0
 CanMend ws a b = (x : ℕ) × (y : ℕ) × (get_or ws a None ≡ Some (Some x)) × (get_or ws b None ≡ Some (Some y)) × IsHere ws x × IsHere ws y
 

@@ -7,8 +7,8 @@ ghost use Rattle.in_row.specs.Leasing.{AreFree, CanLease, LeasesFirst, GivesBack
 
 use in_memory::{Base, Cells};
 
-/// Which cells of a class an owner has free: those of a list through their first words, from `next` on, and after them a run of cells that were
-/// never used, from `fresh` to `end`. The list ends with `last`, which is a cell of the owner's own and not one of the free ones: so two lists are
+/// The free cells of an owner, of one class: those of a list through their first words, from `next` on, and after them a run of cells that were
+/// never used, from `fresh` to `end`. The list ends with `last`, which is the owner's own cell and not one of the free ones: so two lists are
 /// appended by one write. Each is the number of a cell's first word.
 #[derive(Clone, Copy, Drop)]
 pub struct FreeCells {
@@ -48,7 +48,7 @@ impl FreeCells {
         }
     }
 
-    /// Gives a cell back, which is the first free one from then on: one store.
+    /// Gives a cell back, as the first free one: one store.
     #[inline(always)]
     pub fn give_back(&mut self, base: Base<u32>, words: &mut Cells<u32>, cell: u32)
         requires { IsBaseOf base words.old × IsHere words.old.slots cell }

@@ -3,7 +3,7 @@ ghost use Rattle.in_row.specs.Ends.{EndsHaveWords, WordsAreApart, PrincipalPorts
 ghost use Rattle.in_row.specs.Parts.{PartsShowTheirOwn, GluedShowsBoth, WritesStayWithin};
 ghost use Rattle.in_row.specs.Leasing.{FreeCellsStay};
 
-/// An end is the one that its word encodes, and a word of an end is that of the end that it encodes.
+/// The word of an end encodes this end, and an end's word that is decoded and encoded is the same word.
 pub fn ends_have_words()
     ensures { EndsHaveWords }
 {}
@@ -18,18 +18,18 @@ pub fn principal_ports_are_told()
     ensures { PrincipalPortsAreTold }
 {}
 
-/// Of two owners among whom words were parted, each shows the ends and cells at its own words as the one owner did, and no others; and it has no
-/// other words.
+/// If an owner's words were parted between two owners, each of these shows the ends and cells at its own words as the one owner did. It has
+/// no other words, and shows no other ends and cells.
 pub fn parts_show_their_own()
     ensures { PartsShowTheirOwn }
 {}
 
-/// Two owners have changed their own words alone, and one owner gets both parts: at each end and cell it shows the same as the owner that had it.
+/// If two owners have changed only their own words, and one owner gets both parts, it shows the same at each end and cell as the owner that had it.
 pub fn glued_shows_both()
     ensures { GluedShowsBoth }
 {}
 
-/// A write of a word of its own gives an owner no other words.
+/// A write of its own word gives an owner no other words.
 pub fn writes_stay_within()
     ensures { WritesStayWithin }
 {}

@@ -1,4 +1,4 @@
-//! One row of 32-bit words for a net in cells, which several owners may each have a part of.
+//! One row of 32-bit words for a net in cells. Several owners may each have a part of it.
 //!
 //! An end of a wire is the number of a word. This word has the number of the word of the wire's other end. A cell is some words side by side: its
 //! first word has its state, and each of its places has a word. Principal ports alone have numbers that end in two ones, so the numbers of a wire's

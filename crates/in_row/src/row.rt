@@ -10,21 +10,21 @@ use in_memory::{Base, Cells, Deed, allocate, deallocate};
 use std::alloc::{AllocError, Global};
 use std_alloc::room::may_hold;
 
-/// An owner of some words of a row, which may be moved to another thread: where the row begins, and which words are its own.
+/// An owner of some words of a row, which may be moved to another thread: the beginning of the row, and the owner's words.
 #[derive(Drop)]
 pub struct RowPart {
     pub base: Base<u32>,
     pub words: Cells<u32>,
 }
 
-/// The right to give a row's memory back, and the duty: `close_row` alone takes it.
+/// The right and the duty to give a row's memory back: only `close_row` takes it.
 pub struct RowDeed {
     deed: Deed<u32, Global>,
     alloc: Global,
     len: usize,
 }
 
-/// A row of `len` words, none of which was written: they take no memory until they are. Refused only when out of memory.
+/// A row of `len` words, none of which was written: a word takes no memory before it is. Refused only when out of memory.
 pub fn open_row(alloc: Global, len: u32) -> Result<(RowPart, RowDeed), AllocError>
     ensures { IfOk result (λ r. IsBaseOf r.0.base r.0.words × (r.0.words.slots ≡ replicate len (Some None)) × IsDeedOf r.1 r.0) }
 {
@@ -41,7 +41,7 @@ pub fn open_row(alloc: Global, len: u32) -> Result<(RowPart, RowDeed), AllocErro
     Ok((part, deed))
 }
 
-/// Gives a row's memory back, by the owner of all its words.
+/// Gives a row's memory back, from the owner of all its words.
 pub fn close_row(part: RowPart, deed: RowDeed)
     requires { IsDeedOf deed part × IsBaseOf part.base part.words × AreAllHere part.words.slots }
 {
@@ -51,7 +51,7 @@ pub fn close_row(part: RowPart, deed: RowDeed)
 }
 
 impl RowPart {
-    /// Takes out any set of words, which the proof names, for an owner of their own. It takes no time, nor do the others here.
+    /// Takes out any set of words, which the proof names, for another owner. It takes no time, nor do the other calls here.
     #[inline(always)]
     pub fn part_of(&mut self) -> RowPart
         ghost chosen: { ℕ → Bool }

@@ -7,7 +7,7 @@ ghost use Rattle.in_row.specs.Wires.{LinksEnds, CutsBetween, MendsWire};
 
 use in_memory::{Base, Cells};
 
-/// The word of a place within its cell: 3 for place 0, which is that of the principal port, and p + p / 3 for place p.
+/// The word of a place within its cell: 3 for place 0, the principal port, and p + p / 3 for place p.
 #[inline(always)]
 pub fn offset_of(place: u8) -> u32
     ensures { result ≡ offset place }
@@ -20,7 +20,7 @@ pub fn offset_of(place: u8) -> u32
     }
 }
 
-/// Whether both numbers end in two ones: of two ends, whether both are principal ports.
+/// Whether both numbers end in two ones: if they are ends, whether both are principal ports.
 #[inline(always)]
 pub fn are_principal(one: u32, other: u32) -> bool
     ensures { IsTrue result ↔ (one % 4 ≡ 3) × (other % 4 ≡ 3) }
@@ -46,7 +46,7 @@ pub fn write(base: Base<u32>, words: &mut Cells<u32>, at: u32, word: u32)
     words.write(base, at as usize, word);
 }
 
-/// Makes two ends lead to each other, whatever stood in their words: two stores.
+/// Makes two ends lead to each other, whether their words were written before or not: two stores.
 #[inline(always)]
 pub fn link(base: Base<u32>, words: &mut Cells<u32>, plus: u32, minus: u32)
     requires { IsBaseOf base words.old × IsHere words.old.slots plus × IsHere words.old.slots minus }
@@ -57,7 +57,7 @@ pub fn link(base: Base<u32>, words: &mut Cells<u32>, plus: u32, minus: u32)
     write(base, words, minus, plus);
 }
 
-/// Cuts a wire between two ends: `inner` leads to the free end `one` from then on, and `outer` to the free end `other`.
+/// Cuts a wire between two ends: `inner` then leads to the free end `one`, and `outer` to the free end `other`.
 #[inline(always)]
 pub fn cut_wire(
     base: Base<u32>,
@@ -75,7 +75,7 @@ pub fn cut_wire(
     link(base, words, outer, other);
 }
 
-/// Joins the wires of two free ends: their partners lead to each other from then on. Returns these two, which may be an active pair's.
+/// Joins the wires of two free ends: their partners then lead to each other. Returns these two, which may be an active pair's.
 #[inline(always)]
 pub fn mend_wire(base: Base<u32>, words: &mut Cells<u32>, one: u32, other: u32) -> (u32, u32)
     requires { IsBaseOf base words.old × CanMend words.old.slots one other }

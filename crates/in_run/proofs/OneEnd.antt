@@ -1,4 +1,4 @@
--- A run that stops normally is at the one end of its program.
+-- A run that stops normally is at the only end of its program.
 use Rattle.std.proofs.Common.{◌≡◌, ℕ, [], subst}
 use Rattle.in_limits.specs.declared.limits.Limits.{Limits}
 use Rattle.in_run.specs.declared.stops.Stop.{Stop}

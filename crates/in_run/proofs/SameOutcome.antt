@@ -1,4 +1,4 @@
--- How runs of machines stop that are the same up to the numbers of their agents.
+-- The stops of runs of machines that are the same up to the numbers of their agents.
 use Rattle.std.proofs.Common.{◌≡◌, ◌≢◌, ◌⊎◌, inl, inr, ◌<◌, ℕ, Option, Some, None, List, [], ◌∷◌, map, slice_get, refl, sym, ap, subst, ◌∙◌, arith}
 use Rattle.in_arena.specs.declared.content.CellClass.{CellClass}
 use Rattle.in_interaction.specs.Queues.{both}
@@ -26,7 +26,7 @@ module _ (m : MachineParts) (h : IsMachine m) where
       let l = room c in
       omega (arith, e, s, l)
 
-  -- where a run stops no step of it is next
+  -- where a run stops, no step of it is next
   not_next : (limit k : ℕ) (s : Stop) → IsStop limit m k s → k < limit → (q : ℕ × ℕ) → slice_get m.queue 0 ≡ Some q → HasRoomAt m 0 → ⊥
   not_next limit k Normal e l q stands room = let z : ◌≡◌ {A = Option (ℕ × ℕ)} None (Some q) = sym (ap (λ (q : List (ℕ × ℕ)). slice_get q 0) e) ∙ stands in cc
   not_next limit k Limit (e, f) l q stands room = omega (arith, f, l)
@@ -67,7 +67,7 @@ module _ (f : ℕ → ℕ) (m n : MachineParts) (same : IsSameMachine f m n) whe
   stop_moved limit k (Full c need free) (some, l, (x, at, short, a, b)) = (some_moved some, l, (x, need_moved f m n same 0 x at, subst (λ (z : Need). IsFirstShort (count_of x) (count_of z) c) (sym same.vacant) short, a, b ∙ ap (λ (z : Need). count_of z c) (sym same.vacant)))
 
 module _ (start other : MachineParts) (machine : IsMachine start) (machine_too : IsMachine other) (same : AreSame start other) (limit : ℕ) (m n : MachineParts) (j k : ℕ) (s t : Stop) (x : IsOutcome start limit m j s) (y : IsOutcome other limit n k t) where
-  -- the one run is no shorter than the other
+  -- the first run is no shorter than the second
   not_shorter : j < k → ⊥
   not_shorter l =
       let u = passes other n j k y.run l in

@@ -117,7 +117,7 @@ turn_further text p l j k start m n accepted is run (s, same, more) =
     let r = run_before start m s k (as_reducer start (start_machine text p accepted l.cells start is l.most)) run same in
     (r.0, start_same_as p l.cells start r.0 is r.1, joined r.0 s n k j r.2 more)
 
--- where one is next, some are taken
+-- if an interaction is possible, some are done
 pub takes_some : (m n : MachineParts) (k most : ℕ) → RunsUpToNumbers m k n → 0 < length m.queue → HasRoomAt m 0 → 0 < most → (k < most → TakesNoFirst n) → 1 ≤ k
 takes_some m n zero most (s, (f, same), (at_start _)) some room l fewer = absurd (elim (fewer l) [ inl none ↦ no_pair none | inr never ↦ never (room_moved f m s same room) ])
   where
@@ -126,7 +126,7 @@ takes_some m n zero most (s, (f, same), (at_start _)) some room l fewer = absurd
 takes_some m n (suc k) most run some room l fewer = omega arith
 
 module _ (p : Program) (l : Limits) (k : ℕ) (m : MachineParts) (h : IsStateOfRun p l k m) where
-  -- more interactions in any order, and in turn where there is one worker
+  -- more interactions in any order, and in turn if there is one worker
   runs_further : (n : MachineParts) (j : ℕ) → RunsAnyhow m j n → (l.workers ≡ 1 → RunsUpToNumbers m j n) → j + k ≤ l.limit → IsStateOfRun p l (j + k) n
   runs_further n j run turn fits = record {
     reaches = reaches_on p l.cells k j m n h.reaches run;
@@ -146,7 +146,7 @@ module _ (p : Program) (l : Limits) (k : ℕ) (m : MachineParts) (h : IsStateOfR
   pub ends_so : (s : Stop) → IsStop l.limit m k s → RunsTo p l (Ok (record { machine = m; interactions = k; stop = s }))
   ends_so s stop = ((h.reaches, h.within, stop), λ one. (let from = h.in_turn one in (from.0, from.1, record { run = from.2; within = h.within; stop = stop })))
 
--- ---- in turn, whatever workers there are
+-- ---- in turn, with any number of workers
 
 pub record IsInTurn (p : Program) (l : Limits) (k : ℕ) (m : MachineParts) : Type 0 where
   pub start : MachineParts
@@ -160,7 +160,7 @@ begins_in_turn p l m h = record { start = m; starts = h; run = at_start m; withi
 pub ends_in_turn : (p : Program) (l : Limits) (k : ℕ) (m : MachineParts) → IsInTurn p l k m → (s : Stop) → IsStop l.limit m k s → RunsInTurn p l (Ok (record { machine = m; interactions = k; stop = s }))
 ends_in_turn p l k m h s stop = (h.start, h.starts, record { run = h.run; within = h.within; stop = stop })
 
--- some interactions more, where one is next
+-- some more interactions, if one is possible
 pub takes_in_turn : (text : List ℕ) (p : Program) (l : Limits) (j k : ℕ) (m n : MachineParts) → IsAccepted text p → IsInTurn p l k m → RunsUpToNumbers m j n → j + k ≤ l.limit → IsInTurn p l (k + j) n
 takes_in_turn text p l j k m n accepted h turn fits =
     let r = turn_further text p l j k h.start m n accepted h.starts h.run turn in

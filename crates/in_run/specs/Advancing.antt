@@ -5,7 +5,7 @@ use Rattle.in_reducer.specs.Steps.{StepsAt}
 use Rattle.in_reducer.specs.Same.{AreSame}
 use Rattle.in_machine.specs.Phases.{IsPhase}
 
--- a given number of interactions one after another, each at any pair of the queue, and phases; between them agents may get other numbers
+-- a given number of interactions, one after another, each at any pair of the queue, and phases; between them agents may get other numbers
 pub data RunsAnyhow : MachineParts → ℕ → MachineParts → Type 0 where
   no_step : (m : MachineParts) → RunsAnyhow m zero m
   then_any : (m n o : MachineParts) (k i : ℕ) → RunsAnyhow m k n → StepsAt n i o → RunsAnyhow m (suc k) o

@@ -42,6 +42,6 @@ abbrev pub ProgramsEndAlike : Type 0
 ProgramsEndAlike = (text : List ℕ) (p : Program) (l : Limits) (o u : Outcome) → IsAccepted text p → l.workers ≡ 1 → RunsTo p l (Ok o) → RunsTo p l (Ok u) →
     AreSame o.machine u.machine × (o.interactions ≡ u.interactions) × (o.stop ≡ u.stop)
 
--- a run that stops as `Normal` has reached the one end of its program, with any workers and limits
+-- a run that stops as `Normal` has reached the only end of its program, with any workers and limits
 abbrev pub NormalOutcomesAreOne : Type 0
 NormalOutcomesAreOne = (text : List ℕ) (p : Program) (l : Limits) (o : Outcome) → IsAccepted text p → RunsTo p l (Ok o) → o.stop ≡ Normal → EndsOnce p o.interactions (text_of o.machine)

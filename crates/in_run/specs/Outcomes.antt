@@ -42,7 +42,7 @@ RunsInTurn p l (Ok o) = (start : MachineParts) × IsStart p l.cells start × IsO
 RunsInTurn p l (Err (Start f)) = IsNoStart p l.cells f
 RunsInTurn p l (Err (Memory m k)) = ⊥
 
--- ---- as the limits say
+-- ---- by the limits
 
 -- how several workers share the interactions is open, and so is their order; one worker does them in turn
 abbrev pub RunsTo : RunLaw

@@ -6,14 +6,14 @@ use Rattle.in_reducer.specs.Runs.{Runs}
 use Rattle.in_run.specs.declared.stops.Stop.{Stop}
 use Rattle.in_run.specs.declared.stops.Stop.TheVariants.{Normal, Limit, Full}
 
--- no pair is left; else as many interactions were done as are allowed; else the first pair needs more cells than are free. Each of these stops holds
+-- no pair is left; as many interactions were done as are allowed; the first pair needs more cells than are free. Each of these stops holds
 -- only if none before it does
 abbrev pub IsStop : ℕ → MachineParts → ℕ → Stop → Type 0
 IsStop limit m k Normal = m.queue ≡ []
 IsStop limit m k Limit = (m.queue ≢ []) × (k ≡ limit)
 IsStop limit m k (Full c need free) = (m.queue ≢ []) × (k < limit) × IsShortAt m 0 c need free
 
--- none of them holds
+-- none of these stops holds
 abbrev pub GoesOn : ℕ → MachineParts → ℕ → Type 0
 GoesOn limit m k = (0 < length m.queue) × (k < limit) × HasRoomAt m 0
 

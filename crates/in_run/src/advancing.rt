@@ -14,7 +14,7 @@ use std::thread::Threads;
 /// The number of pairs that are taken before the next test whether a phase pays.
 const TURN: u64 = 1_024;
 
-/// Does some interactions on this thread, at most `most`: of the newest pairs while half of the cells are free, else of the oldest ones. Returns
+/// Does some interactions on this thread, at most `most`: of the newest pairs while half of the cells are free, otherwise of the oldest ones. Returns
 /// their number.
 fn take_alone(machine: &mut Machine, limits: Limits, most: u64) -> u64
     ensures goes { (m : MachineParts) (k : ℕ) → RunsAnyhow m k machine.old → RunsAnyhow m (result + k) machine.new }
@@ -59,8 +59,8 @@ fn by_parts<R: Threads>(
 }
 
 /// With one worker, or at the beginning of a run of several, does interactions of the oldest pairs, up to the limit; one worker does at most `turn`.
-/// Later it does that of the oldest pair, which must have room, and some more after it, up to the limit: a phase if it pays, else those of some pairs
-/// one after another. Returns their number.
+/// Later it does that of the oldest pair, which must have room, and some more after it, up to the limit: a phase if it pays, otherwise those of
+/// some pairs one after another. Returns their number.
 #[inline(always)]
 pub(crate) fn advance<R: Threads>(
     rt: &R,

@@ -33,7 +33,7 @@ pub fn programs_end_alike()
     ensures { ProgramsEndAlike }
 {}
 
-/// A run that stops as `Normal` has reached the one end of its program, with any workers and limits.
+/// A run that stops as `Normal` has reached the only end of its program, with any workers and limits.
 pub fn normal_outcomes_are_one()
     ensures { NormalOutcomesAreOne }
 {}

@@ -1,8 +1,8 @@
 //! Runs of a machine within limits. The machine is that of `in_machine`, re-exported here.
 //!
 //! `running` is the loop, with the three stops tested in their order. In a long run of several workers `advancing` tests whether a phase should pay,
-//! in which each worker reduces a part of the net by itself (`pace`); else it does some steps. No run does a round. A watcher (`watching`) sees the
-//! progress of a run.
+//! in which each worker reduces a part of the net by itself (`pace`); otherwise it does some steps. No run does a round. A watcher (`watching`) sees
+//! the progress of a run.
 #![tactic(auto)]
 
 mod advancing;

@@ -5,7 +5,7 @@ ghost use Rattle.in_run.specs.Stops.{IsStop, GoesOn};
 use crate::stops::Stop;
 use in_machine::Machine;
 
-/// Why no interaction of the first pair is next, after `interactions` interactions.
+/// The reason why no interaction of the first pair is next, after `interactions` interactions.
 pub(crate) fn stop(machine: &Machine, limit: u64, interactions: u64) -> Option<Stop>
     requires { interactions ≤ limit }
     ensures { MatchOption result (GoesOn limit machine.now interactions) (IsStop limit machine.now interactions) }

@@ -31,7 +31,7 @@ const LEAST_LEFT: u64 = 27_200;
 /// No phase is tried if the free cells above the floor are fewer than this part of the floor.
 const LEAST_SPARE: u32 = 16;
 
-/// The most interactions of a part, for each agent of the net, and besides: a part that would run on alone is stopped then.
+/// The most interactions of a part, for each agent of the net, and a number besides: a part that would run on alone is stopped then.
 const MOST_FOR_EACH_AGENT: u64 = 16;
 
 const MOST_BESIDES: u64 = 32_768;
@@ -73,8 +73,8 @@ impl Pace {
         interactions < self.phase_from
     }
 
-    /// Notes the gain of a phase, of a net with `agents` agents, after which `interactions` interactions are done. It has paid if the other parts
-    /// did, beside the longest one, at least twice as much as its cost, and a quarter of all.
+    /// Notes the gain of a phase, of a net with `agents` agents, after which `interactions` interactions are done. It has paid if the other parts,
+    /// without the longest one, did at least twice its cost in interactions, and a quarter of all interactions.
     pub(crate) fn note(&mut self, worked: Worked, agents: u32, interactions: u64) {
         self.phases = self.phases.saturating_add(1);
         self.threads = self.threads.max(worked.parts);

@@ -26,8 +26,8 @@ pub struct Outcome<'a> {
     pub stop: Stop,
 }
 
-/// Why a run has no outcome: there is no machine, or memory ran out after some interactions, with the machine at that point. By its contract no
-/// run returns the second: a phase for which memory runs out has fewer parts.
+/// The reason why a run has no outcome: there is no machine, or memory ran out after some interactions, with the machine at that point. By
+/// its contract no run returns the second: a phase for which memory runs out has fewer parts.
 #[derive(Drop)]
 pub enum RunFault<'a> {
     Start(StartFault),

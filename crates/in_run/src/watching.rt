@@ -4,13 +4,13 @@ use in_machine::Need;
 /// The progress of a run.
 #[derive(Clone, Copy, Debug, PartialEq, Eq)]
 pub struct Progress {
-    /// The interactions that were done.
+    /// The number of interactions that were done.
     pub interactions: u64,
-    /// The phases, in which several threads reduced the net in parts.
+    /// The number of phases, in which several threads reduced the net in parts.
     pub phases: u64,
     /// The most threads of a phase; 1 if there was none.
     pub threads: u32,
-    /// The cells of each class that agents have now.
+    /// The number of cells of each class that agents have now.
     pub used: Need,
 }
 

@@ -1,4 +1,4 @@
--- What calls in a row change of an arena.
+-- The changes of an arena by calls in a row.
 use Rattle.std.proofs.Common.{◌≡◌, ◌<◌, ◌*◌, refl, ℕ, List, length, set, get_or, Option, Some, sym, ap, ◌∙◌, subst, ⊎_elim, arith, length-set, get_or-set_same, get_or-set_other}
 use Rattle.std.proofs.lemmas.Bool.{cases_eq}
 use Rattle.std.proofs.lemmas.List.{set-set, set-get_or, length-replicate}
@@ -12,7 +12,7 @@ use Rattle.in_arena.specs.declared.content.End.{End}
 use Rattle.in_arena.specs.declared.content.CellNo.{CellNo}
 use Rattle.in_arena.proofs.Public.{vacant_inside, number_inside}
 
--- a free cell that was something else meanwhile
+-- a free cell that changed and is free again
 free_again : (a : ArenaView) (n : ℕ) (x : State) → state_at a n ≡ Vacant → changed (changed a n x) n Vacant ≡ a
 free_again a n x free = λ i. record { memory = a.memory; cells = a.cells; states = (set-set a.states n x Vacant ∙ ap (set a.states n) (sym free) ∙ set-get_or a.states n Leased) i }
 
@@ -66,6 +66,6 @@ same_room a b c n e is =
 pub same_room_after : (a b d : ArenaView) (c : CellClass) (n : ℕ) (x : State) → b ≡ empty_bag a → d ≡ changed b n x → IsNumberOf a.cells c n → n < length d.states
 same_room_after a b d c n x e f is = let lt = same_room a b c n e is in omega (arith, lt, ap (λ (v : ArenaView). length v.states) f, length-set b.states n x)
 
--- what a cell is already it may become
+-- a cell may change to its own state
 pub same_again : (a : ArenaView) (n : ℕ) (x : State) → state_at a n ≡ x → changed a n x ≡ a
 same_again a n x is = λ i. record { memory = a.memory; cells = a.cells; states = (ap (set a.states n) (sym is) ∙ set-get_or a.states n Leased) i }

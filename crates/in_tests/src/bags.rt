@@ -1,4 +1,4 @@
-// Bags as a test takes them.
+// Bags for tests.
 ghost use Rattle.std.specs.Prelude.{◌≡◌, ◌<◌, length, slice_set};
 ghost use Rattle.in_arena.specs.States.{Live, Leased};
 ghost use Rattle.in_arena.specs.Arenas.{NoneLeased, changed, state_at};

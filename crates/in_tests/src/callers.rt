@@ -1,11 +1,11 @@
-// The knowledge of a caller about a board, from the public contracts alone.
+// A caller's knowledge about a board, from the public contracts alone.
 ghost use Rattle.std.specs.Prelude.{◌≡◌, ◌<◌, ℕ, Some, IfOk};
 
 use crate::claimers::two_seats;
 use in_claims::{Board, laws};
 use std::alloc::{AllocError, Global};
 
-// A claim of each of two seats: not of one number.
+// A claim of each of two seats: they claim different numbers.
 pub fn a_claim_of_each(alloc: Global, limit: u32) -> Result<(Option<u32>, Option<u32>), AllocError>
     ensures { IfOk result (λ r. (k : ℕ) → r.0 ≡ Some k → r.1 ≡ Some k → ⊥) }
 {

@@ -1,4 +1,4 @@
-// Boards and seats as a test takes them.
+// Boards and seats for tests.
 ghost use Rattle.std.specs.Prelude.{◌≡◌, ◌+◌, [], false, IfOk, IfSome, All, length};
 
 use in_claims::{Board, Seat};
@@ -31,7 +31,7 @@ pub fn gets(rt: &impl Abort, board: &Board, seat: &mut Seat, number: u32)
     assert!(rt; !seat.is_done());
 }
 
-// The next claim finds nothing, and the seat is done.
+// The next claim finds no number, and the seat is done.
 pub fn ends(rt: &impl Abort, board: &Board, seat: &mut Seat)
     requires { (seat.old.board ≡ board.now) × (seat.old.done ≡ false) }
     ensures { seat.new.board ≡ board.now }
@@ -40,7 +40,7 @@ pub fn ends(rt: &impl Abort, board: &Board, seat: &mut Seat)
     assert!(rt; seat.is_done());
 }
 
-// A seat with its board, as a thread takes it.
+// A seat with its board, for a thread.
 #[derive(Drop)]
 pub struct Claimer<'a> {
     board: &'a Board,
@@ -90,7 +90,7 @@ pub fn claimers<'a>(
     Ok(all)
 }
 
-// Each claims in a thread of its own.
+// Each claims in its own thread.
 pub fn claim_in_threads(
     rt: &(impl Threads + Sync),
     alloc: Global,
@@ -104,7 +104,7 @@ pub fn claim_in_threads(
     thread::map_vec(rt, all, &|claimer: Claimer<'_>| claimer.claim_all(alloc))
 }
 
-// The seats that came back, and the lists of their numbers. Nothing where memory ran out.
+// The seats that came back, and the lists of their numbers. `None` if memory ran out.
 pub fn seats_and_lists(
     alloc: Global,
     board: &Board,
@@ -131,7 +131,7 @@ fn with_number(numbers: Option<Vec<u32>>, number: u32) -> Option<Vec<u32>> {
 }
 
 impl<'a> Claimer<'a> {
-    // Claims until nothing is left, and leaves the other threads a turn after each number.
+    // Claims until no number is left, and gives the other threads a turn after each number.
     pub fn claim_all(self, alloc: Global) -> Returned
         ensures { result.seat.board ≡ self.entry.board.now }
     {

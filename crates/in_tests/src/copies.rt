@@ -50,7 +50,7 @@ fn expect_closed(rt: &impl Abort, from: &Arena, agents: &[CellNo], many: usize)
     }
 }
 
-// Of each class as many cells are free as there are agents.
+// Each class has as many free cells as there are agents.
 fn expect_room(rt: &impl Abort, from: &Arena, agents: &[CellNo], to: &Arena)
     ensures { HasCellsFor from.now agents.now to.now }
 {
@@ -76,7 +76,7 @@ fn live_cells(alloc: Global, arena: &Arena) -> Result<Vec<CellNo>, AllocError>
     Ok(cells)
 }
 
-// All agents of one arena are copied to another. Which number each cell has there.
+// Copies all agents of one arena to another. Returns the number that each cell has there.
 pub fn copy_all(
     rt: &impl Abort,
     alloc: Global,
@@ -96,7 +96,7 @@ pub fn copy_all(
     Ok(names)
 }
 
-// A live cell carries this symbol and has these ends.
+// A live cell has this symbol and these ends.
 pub fn expect_agent(rt: &impl Abort, arena: &Arena, cell: CellNo, symbol: u32, ends: &[End])
     requires { NoneLeased arena.now }
 {

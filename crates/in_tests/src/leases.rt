@@ -1,4 +1,4 @@
-// Arenas as a test takes them.
+// Arenas for tests.
 ghost use Rattle.std.specs.Prelude.{◌≡◌, ◌<◌, ◌≤◌, length, slice_set, IfOk};
 ghost use Rattle.in_arena.specs.States.{Live, IsLive, places};
 ghost use Rattle.in_arena.specs.Arenas.{NoneLeased, state_at, written};
@@ -18,12 +18,12 @@ pub fn fresh(alloc: Global, cells: u32) -> Result<Arena, AllocError>
     Arena::new(alloc, cells)
 }
 
-// Two numbers are the same. Tests compare by calls such as this, since a comparison in their own body is proved with all that they hold.
+// Two numbers are the same. Tests compare by calls such as this, since a comparison in their own body is proved with all their values.
 pub fn expect(rt: &impl Abort, found: u32, wanted: u32) {
     assert_eq!(rt; found, wanted);
 }
 
-// So many cells of a class are free.
+// This many cells of a class are free.
 pub fn expect_free(rt: &impl Abort, arena: &Arena, class: CellClass, wanted: u32) {
     expect(rt, arena.free_count(class), wanted);
 }
@@ -111,7 +111,7 @@ pub fn make(
     cell
 }
 
-// A live cell leads there from this place.
+// This place of a live cell holds this end.
 pub fn expect_port(rt: &impl Abort, arena: &Arena, cell: CellNo, place: u8, end: End)
     requires live { IsLive (state_at arena.now cell.0) }
     requires place { place < places (state_at arena.now cell.0) }
@@ -119,7 +119,7 @@ pub fn expect_port(rt: &impl Abort, arena: &Arena, cell: CellNo, place: u8, end:
     assert_eq!(rt; arena.port(cell, place), end);
 }
 
-// A live cell carries this symbol and has these ends.
+// A live cell has this symbol and these ends.
 pub fn expect_cell(rt: &impl Abort, arena: &Arena, cell: CellNo, symbol: u32, ends: &[End])
     requires live { IsLive (state_at arena.now cell.0) }
     requires ends { (length ends.now ≤ 17) × (length ends.now ≤ places (state_at arena.now cell.0)) }

@@ -1,5 +1,5 @@
 //! Tests of calls that have no text: edges on cycles, cells by leases and by bags, agents copied from one arena to another, and boards with their
-//! seats. Each `of_` module is named after what it tests.
+//! seats. Each `of_` module is named after the tested crate or part.
 #![tactic(auto)]
 
 #[cfg(test)]

@@ -128,7 +128,7 @@ fn a_cell_written_in_another_thread(rt: HostRuntime) -> Result<(), Fail> {
     Ok(())
 }
 
-// This many ends, at free ones in a row but for the last, which is at a cell.
+// Ten ends: free ends in a row, except the last one, which is at a cell.
 const TEN: [End; 10] = [
     End::Free(10),
     End::Free(11),

@@ -87,7 +87,7 @@ fn note(rt: &impl Abort, numbers: &[u32], times: &mut [u8]) {
     }
 }
 
-// The number of claims of a board whose seats claim in a thread each until nothing is left, and the lists of their numbers. `None` if memory ran
+// The number of claims of a board whose seats each claim in a thread until no number is left, and the lists of their numbers. `None` if memory ran
 // out.
 fn claimed_by_all(
     rt: &(impl Threads + Sync),

@@ -24,7 +24,7 @@ fn add_within(
     within.push((one, other))
 }
 
-/// Which of these edges of a graph of `count` vertices are on a cycle. Edges between other vertices are left out.
+/// The edges of a graph of `count` vertices, among these, that are on a cycle. Edges between other vertices are left out.
 fn cycles(
     alloc: Global,
     count: usize,

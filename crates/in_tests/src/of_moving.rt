@@ -101,7 +101,7 @@ fn expect_chain(rt: &impl Abort, to: &Arena, names: &[CellNo], others: (CellNo, 
     expect_agent(rt, to, others.1, 9, &[End::Free(3); 4]);
 }
 
-// The chain is copied beside the others.
+// A chain is copied beside other agents.
 #[test]
 fn a_chain_beside_others(rt: HostRuntime) -> Result<(), Fail> {
     let mut from = fresh(rt.alloc(), 1)?;

@@ -8,7 +8,7 @@ use crate::leases::{expect, expect_cell, expect_free};
 use in_arena::{Arena, CellClass, CellNo, End, EndWord};
 use std::process::Abort;
 
-// An end is what its word says, and it is the principal port of that cell or of none.
+// An end is the one that its word encodes, and it is the principal port of that cell or of none.
 pub fn expect_word(rt: &impl Abort, end: End, principal: Option<CellNo>) {
     let word = EndWord::of(end);
     expect_end(rt, word.end(), end);

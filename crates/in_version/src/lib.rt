@@ -1,6 +1,6 @@
-//! The version of the programs `inet` and `inet_export`, and the sum of the code that they are built from.
+//! The version of the programs `inet` and `inet_export`, and the sum of the code from which they are built.
 //!
-//! Nothing but these two programs uses this crate, so that a new sum has no other crate proved anew.
+//! Only these two programs use this crate, so that a new sum has no other crate proved anew.
 #![tactic(auto)]
 
 mod sources;

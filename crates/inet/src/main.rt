@@ -53,7 +53,7 @@ struct Console {
     colours: bool,
 }
 
-/// Why the program's words can't be read: running out of memory, or a word that is not valid UTF-8.
+/// The reason why the program's words can't be read: running out of memory, or a word that is not valid UTF-8.
 fn unreadable(alloc: Global, error: Error) -> Usage {
     let told = match error.kind() {
         ErrorKind::OutOfMemory => return Usage::Memory,

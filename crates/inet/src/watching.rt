@@ -23,7 +23,7 @@ pub struct Watching<'a, T, E> {
     shows: bool,
     /// Whether figures are requested.
     counts: bool,
-    /// When the program was started, its run began, a line was shown, and the run stopped.
+    /// The times at which the program was started, its run began, a line was shown, and the run stopped.
     started: Option<Instant>,
     begun: Option<Instant>,
     shown: Option<Instant>,
@@ -33,7 +33,7 @@ pub struct Watching<'a, T, E> {
     seen: Option<Progress>,
 }
 
-/// The larger numbers of cells.
+/// The larger numbers of cells in use.
 fn with_most(seen: Option<Progress>, progress: Progress) -> Progress {
     let mut most = progress;
     if let Some(seen) = seen {
@@ -50,7 +50,7 @@ fn between(from: Option<Instant>, to: Option<Instant>) -> Option<Duration> {
 }
 
 impl<'a, T: Clock, E: Write> Watching<'a, T, E> {
-    /// A watch from now on.
+    /// A watch that begins now.
     pub fn new(
         clock: &'a T,
         alloc: Global,
@@ -96,7 +96,7 @@ impl<'a, T: Clock, E: Write> Watching<'a, T, E> {
         }
     }
 
-    /// Writes the time that something took.
+    /// Writes the time of this part of the program's work.
     fn tell_time(&mut self, what: &str, time: Duration) {
         let seconds = time.as_secs();
         let thousandths = time.subsec_millis();

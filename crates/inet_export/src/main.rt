@@ -55,7 +55,7 @@ enum Request {
     Version,
 }
 
-/// Why the words ask for nothing.
+/// The reason why the words make no request.
 enum Usage {
     /// They are wrong.
     Wrong,
@@ -89,11 +89,11 @@ fn asked(words: io::Result<Args>) -> Result<Request, Usage> {
     }
 }
 
-/// Reads to the end, or until more bytes came than a text has.
+/// Reads to the end, or until more bytes came than a text may have.
 fn read_text<R: Read>(alloc: Global, reader: &mut R) -> io::Result<Vec<u8>> {
     let mut text = Vec::new(alloc);
     let mut buffer = [0u8; 4096];
-    // Each turn but the last brings a byte or more, so these are enough.
+    // Each turn except the last brings at least one byte, so these are enough.
     for _turn in 0..MAX_TEXT_BYTES + 1 {
         let read = reader.read(&mut buffer)?;
         text.extend_from_slice(&buffer[..read])?;
@@ -104,7 +104,7 @@ fn read_text<R: Read>(alloc: Global, reader: &mut R) -> io::Result<Vec<u8>> {
     Ok(text)
 }
 
-/// Writes the line of a text's program; where the text is refused, what `inet check` writes on it; or that memory ran out.
+/// Writes the line of a text's program, or, if the text is refused, the output of `inet check` on it, or that memory ran out.
 fn tell_program<W: TextOut>(alloc: Global, writer: &mut W, text: &[u8]) -> Status
     requires { (W.device writer.old).failures < 2 ^ 64 - 1 }
     ensures { TellsOne (λ lines s. ((p : Program) × IsAccepted text.now p × (lines ≡ program_line p) × (s ≡ status 0)) ⊎ IsReply (report_action false) text.now lines s) (W.device writer.old) (W.device writer.new) result }
@@ -116,7 +116,7 @@ fn tell_program<W: TextOut>(alloc: Global, writer: &mut W, text: &[u8]) -> Statu
     }
 }
 
-/// Reads a text and writes the line of its program, or why it can't be read from this device.
+/// Reads a text and writes the line of its program, or the reason why it can't be read from this device.
 fn answer<R: Read, W: TextOut, E: Write>(
     alloc: Global,
     device: Device,
@@ -170,7 +170,7 @@ fn tell_version<W: TextOut>(alloc: Global, output: &mut W) -> Status
     }
 }
 
-/// Answers the program's words, or writes its usage; and writes why its output can't be written, unless its reader closed the stream.
+/// Answers the program's words, or writes its usage; and writes the reason if its output can't be written, unless its reader closed the stream.
 fn serve<T: Files, R: Read, W: Write + Drop, E: Write>(
     rt: &T,
     alloc: Global,

@@ -88,7 +88,7 @@ is_matching t c d h =
     ap (λ z. z && are_opposite (is_constructor t c) (is_constructor t d)) (eq-eqb (port_at t c 0).kind (port_at t d 0).kind h.2)
     ∙ ap (λ z. are_opposite z (is_constructor t d)) h.0 ∙ ap (λ z. not z) h.1
 
--- the first of a rule's and_parts symbols is the constructor
+-- the first of a rule's two symbols is the constructor
 heads_match : (t : Tables) (r : SourceRule) (p : RuleParts) → p.heads ≡ written.heads_of t r → matching t p.heads.0.0 p.heads.1.0 ≡ true → IsMatching (signature_of t) p.heads.0.0 p.heads.1.0
 heads_match t r p e m = subst (λ (h : SymbolNo × SymbolNo). IsMatching (signature_of t) h.0.0 h.1.0) (sym e) (go (is_constructor t (written.symbol_of t r.first)) refl (matching t (written.symbol_of t r.first) (written.symbol_of t r.second)) refl (subst (λ (h : SymbolNo × SymbolNo). matching t h.0.0 h.1.0 ≡ true) e m))
   where
@@ -177,7 +177,7 @@ module _ (text : List ℕ) (p : Program) (accepted : IsAccepted text p) where
             (net_circle p.tables p.net p.net_certificate.shape numbered whole over k.0 circle);
       }
 
-  -- one rule for and_parts symbols, the constructor first
+  -- one rule for two symbols, the constructor first
   covered : (c d : ℕ) → c < length p.tables.names → d < length p.tables.names → IsMatching (signature_of p.tables) c d → HasOneRule (system_of p) c d
   covered c d hc hd m =
       let complete : IsComplete p.tables p.rules = a.covers.0 in

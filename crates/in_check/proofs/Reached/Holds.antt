@@ -50,7 +50,7 @@ module _ {A : Type 0} (n : Net A) where
     at_pair : (y : A) → Tops (Port y 0) []
     higher : (y : A) (i : ℕ) (q : Point A) (ys : List A) → n.partner (Port y 0) ≡ Some q → Tops q ys → Tops (Port y (suc i)) (y ∷ ys)
 
-  -- what is above an auxiliary port
+  -- the agents above an auxiliary port
   tops_up : (u : Point A) (ws : List A) (y : A) (i : ℕ) (q : Point A) → Tops u ws → u ≡ Port y (suc i) → n.partner (Port y 0) ≡ Some q → (zs : List A) × Tops q zs × (ws ≡ y ∷ zs)
   tops_up _ _ y i q (at_free k) e w = cc
   tops_up _ _ y i q (at_pair z) e w = absurd (no_suc 0 i refl (port_place z y 0 (suc i) e))
@@ -114,7 +114,7 @@ module _ {A : Type 0} (n : Net A) where
       let places : suc i ≡ suc j = port_place y y (suc i) (suc j) ports in
       omega arith
 
-  -- the agents above are different
+  -- the agents above differ
   lower : (q : Point A) (ys : List A) (y : A) → Tops q ys → IsAmong y ys → (i : ℕ) × (zs : List A) × Tops (Port y (suc i)) (y ∷ zs) × (length zs < length ys)
   lower _ _ y (at_free k) h = absurd h
   lower _ _ y (at_pair z) h = absurd h
@@ -175,7 +175,7 @@ module _ {A : Type 0} (sig : Signature) (n : Net A) (net : IsNet sig n) where
   in_arity y i None h = absurd h
   in_arity y i (Some s) h = let k : suc i ≤ sig.arity s = h in omega arith
 
-  -- a piece of the text, and the point at which it is to stand
+  -- a part of the text, and the point to which it belongs
   module _ (p : Point A) (ys : List A) (tops : Tops n p ys) (point : IsPoint sig n p) (T : TextPart A) (bytes : (bs : List ℕ) → Bytes bs ≢ T) (heads : (y : A) (q : Point A) → n.partner q ≡ Some (Port y 0) → Head y ≡ T → q ≡ p) (variables : (q v : Point A) → Variable q v ≡ T → q ≡ p) where
     nowhere_at : (agent : A → List (TextPart A)) (q : Point A) (o : Option (Point A)) → n.partner q ≡ o → ((y : A) → n.partner q ≡ Some (Port y 0) → StandsTimes 0 T (agent y)) → q ≢ p → StandsTimes 0 T (term_at agent q o)
     nowhere_at agent q None e h differ = tt

@@ -12,7 +12,7 @@ use Rattle.in_check.proofs.Reached.Others.{pieces_of}
 use Rattle.in_check.proofs.Reached.Numbers.{number_twice, positive, one_wire}
 use Rattle.in_check.proofs.Reached.Holds.{Tops, at_free, at_pair, higher, pair_tops, free_tops, tops_different, tops_live, no_return, nowhere, nowhere_below, holds}
 
--- the agents above a point, which are different ones
+-- the agents above a point, which differ
 module _ {A : Type 0} (sig : Signature) (n : Net A) (net : IsNet sig n) (leads : (x : A) → IsSome (n.symbol x) → MeetsPair n x ⊎ ((k : ℕ) × WaitsAt n k x)) where
   pub tops_of : (p : Point A) → IsPoint sig n p → (ys : List A) × Tops n p ys
   tops_of (Free k) h = ([], at_free k)

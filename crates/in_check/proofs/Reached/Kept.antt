@@ -1,4 +1,4 @@
--- What an interaction of a sound system keeps, and what holds of every net that is reached.
+-- The properties that an interaction of a sound system keeps, and that every net has that is reached.
 use Rattle.std.proofs.Common.{◌≡◌, ◌⊎◌, ◌<◌, ℕ, true, false, not, Bool, Some, refl, sym, ap, inl, inr, ◌∙◌}
 use mathlib.Core.HLevel.{Discrete}
 use native.Mathlib.Decide.{ℕ_discrete}

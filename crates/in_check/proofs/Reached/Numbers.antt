@@ -57,7 +57,7 @@ module _ {A : Type 0} (s : A → A → Bool) (test : IsTest s) where
   no_point : (p q : Point A) → same_point s p q ≡ false → p ≢ q
   no_point p q h e = let g : same_point s p q ≡ true = (point_test p q).1 e in cc
 
-  -- neither of the and_parts points is among those met
+  -- neither of the two points is among those met
   abbrev Unmet : List (Point A) → Point A → Point A → Type 0
   Unmet met p q = (w : Point A) → IsAmong w met → (w ≢ p) × (w ≢ q)
 
@@ -89,7 +89,7 @@ module _ {A : Type 0} (s : A → A → Bool) (test : IsTest s) where
           ]
 
   module _ (sig : Signature) (n : Net A) (net : IsNet sig n) where
-    -- of each wire one point at most was met
+    -- at most one point of each wire was met
     abbrev AreApart : List (Point A) → Type 0
     AreApart [] = Unit {0}
     AreApart (u ∷ us) = ((v w : Point A) → IsAmong v us → n.partner u ≡ Some w → (v ≢ u) × (v ≢ w)) × AreApart us
@@ -130,7 +130,7 @@ module _ {A : Type 0} (s : A → A → Bool) (test : IsTest s) where
           )),
     )
 
-    -- a number of a wire met stands nowhere, where the wire's variable doesn't
+    -- the number of a wire that was met is nowhere in the parts, if the wire's variable isn't
     number_nowhere : (ps : List (TextPart A)) → AllByRecursion (IsOfNet n) ps → (met : List (Point A)) (k : ℕ) (a b : Point A) → n.partner a ≡ Some b → At met k a → StandsTimes 0 (Variable a b) ps → StandsTimes 0 (Variable b a) ps → StandsTimes 0 k (numbers s met ps)
     number_nowhere [] of met k a b e h x y = tt
     number_nowhere (Bytes bs ∷ ps) of met k a b e h x y = number_nowhere ps of.1 met k a b e h x.1 y.1
@@ -156,7 +156,7 @@ module _ {A : Type 0} (s : A → A → Bool) (test : IsTest s) where
           again met h,
         )
 
-    -- .. and once, where its variable at the other point occurs once
+    -- .. and once, if its variable at the other point occurs once
     number_once : (ps : List (TextPart A)) → AllByRecursion (IsOfNet n) ps → (met : List (Point A)) (k : ℕ) (a b : Point A) → AreApart met → n.partner a ≡ Some b → At met k a → StandsTimes 0 (Variable a b) ps → StandsTimes 1 (Variable b a) ps → StandsTimes 1 k (numbers s met ps)
     number_once [] of met k a b apart e h x y = absurd y
     number_once (Bytes bs ∷ ps) of met k a b apart e h x (inl y) = cc
@@ -211,7 +211,7 @@ module _ {A : Type 0} (s : A → A → Bool) (test : IsTest s) where
       apart,
     )
 
-    -- each wire that was not met has its variable once at each end in what follows
+    -- each wire that was not met has its variable once at each end in the rest
     abbrev Ahead : List (Point A) → List (TextPart A) → Type 0
     Ahead met ps = (u v : Point A) → n.partner u ≡ Some v → IsAuxiliary u → IsAuxiliary v → Unmet met u v → StandsTimes 1 (Variable u v) ps
 

@@ -58,7 +58,7 @@ steps p q a b h at to = steps_under_names p q a b (unused p.net.cells) h at (as_
 pub promised : PlainAsPromised
 promised text p accepted h = each_promised (system_of p.program) (is_sound text p.program accepted) h.reached.0 (net_of p.net) h.reached.1
 
--- what is reached is sound
+-- a net that is reached is sound
 pub plain_is_sound : (text : List ℕ) (p : PlainParts) → IsAccepted text p.program → IsPlain p → IsSound (system_of p.program) (net_of p.net)
 plain_is_sound text p accepted h = sound_reached (system_of p.program) (is_sound text p.program accepted) ℕ_discrete h.reached.0 (net_of p.net) h.reached.1
 

@@ -1,4 +1,4 @@
--- The text of a net doesn't depend on how its agents are named.
+-- The text of a net doesn't depend on the names of its agents.
 use Rattle.std.proofs.Common.{◌≡◌, ◌↔◌, ◌||◌, ◌&&◌, ℕ, zero, suc, Bool, true, cond, nat_eq, Option, Some, None, IsSome, List, [], ◌∷◌, ◌++◌, map, length, refl, sym, ap, ◌∙◌}
 use Rattle.std.specs.List.{AllByRecursion}
 use Rattle.std.proofs.lemmas.List.{map-append, length-map}
@@ -28,12 +28,12 @@ abbrev pub renamed_option : {A B : Type 0} → (A → B) → Option (Point A) �
 renamed_option f None = None
 renamed_option f (Some q) = Some (renamed f q)
 
--- at an agent of the net, or free
+-- a point at an agent of the net, or at a free end
 abbrev pub IsLive : {A : Type 0} → Net A → Point A → Type 0
 IsLive n (Port x i) = IsSome (n.symbol x)
 IsLive n (Free k) = Unit {0}
 
--- brackets and commas around pieces
+-- brackets and commas around parts
 bracketed_map : {A B : Type 0} (f : A → B) (k : ℕ) (ps : List (TextPart A)) → bracketed k (map (renamed_piece f) ps) ≡ map (renamed_piece f) (bracketed k ps)
 bracketed_map f zero ps = refl
 bracketed_map f (suc k) ps = ap (λ qs. Bytes (40 ∷ []) ∷ qs) (sym (map-append (renamed_piece f) ps (Bytes (41 ∷ []) ∷ [])))

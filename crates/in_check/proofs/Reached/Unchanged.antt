@@ -1,4 +1,4 @@
--- Renaming the agents of a reached net changes nothing else.
+-- Renaming the agents of a reached net changes nothing more.
 use Rattle.std.proofs.Common.{◌≡◌, ℕ, nat_eq, Some, subst, ◌∙◌}
 use native.Mathlib.Decide.{ℕ_discrete}
 use Rattle.in_net.specs.Nets.{Point, Port, Free, Net}

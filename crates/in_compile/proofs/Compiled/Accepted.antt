@@ -1,4 +1,4 @@
--- What an accepted program's rules and its net are: over its tables, with an agent at each number, and one rule for each pair.
+-- An accepted program's rules and net are over its tables, with an agent at each number, and each pair has one rule.
 use Rattle.std.proofs.Common.{◌≡◌, ◌≤◌, ℕ, List, Some, Ok, length, slice_get}
 use Rattle.in_syntax.specs.declared.tree.SourceRule.{SourceRule}
 use Rattle.in_net.specs.Built.{IsOver}

@@ -20,16 +20,16 @@ use Rattle.in_compile.specs.Cells.{is_of}
 use Rattle.in_compile.specs.Storing.{ends_from, agent_from, agents_from, IsAgentOf, AddsAgent, AreLaidBelow}
 use Rattle.in_compile.specs.Members.{AgentParts, joint_of}
 
--- where the wires at free ends lead
+-- the other ends of the wires at free ends
 abbrev pub ends_of : List FreeEnd → List Joint
 ends_of free = map (λ f. joint_of f.end) free
 
--- where the wire at a free end leads
+-- the other end of the wire at a free end
 pub end_joint : (o : Option FreeEnd) → option_map (λ (f : FreeEnd). joint_of f.end) o ≡ option_map joint_of (option_map (λ (f : FreeEnd). f.end) o)
 end_joint None = refl
 end_joint (Some f) = refl
 
--- what stands in a list is there when the list is longer
+-- the ends in a list stay when the list gets longer
 pub ends_kept : (joints more : List Joint) (a : MemberAgent) → a.first + a.places ≤ length joints → ends_from (joints ++ more) a ≡ ends_from joints a
 ends_kept joints more a within =
     let room : a.places ≤ length (drop a.first joints) = omega (arith, within, length-drop a.first joints) in

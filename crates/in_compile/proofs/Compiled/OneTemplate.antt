@@ -1,4 +1,4 @@
--- A net has one member and a rule one template, and two symbols that match have that of their rule.
+-- A net has one member, a rule has one template, and two symbols that match have that of their rule.
 use Rattle.std.proofs.Common.{◌≡◌, ◌⊎◌, ◌↔◌, ℕ, Bool, true, false, IsTrue, nat_le, Option, Some, None, IsSome, slice_get, refl, sym, ap, subst, ◌∙◌, leb-true, arith}
 use Rattle.std.specs.Prelude.{option_map, option_and_then}
 use Rattle.std.proofs.lemmas.Bool.{and_parts}

@@ -48,7 +48,7 @@ mapped_back (Some q) j h = ap (λ (z : Point). Some z) (sym (back_point q) ∙ a
 
 -- ---- cells of one class
 
--- the class of some ends is one
+-- a number of ends has one class
 one_holds : (c d : CellClass) (n : ℕ) (b : Bool) → holds d n ≡ true → holds c n ≡ b → b ≡ nat_eq (class_no d) (class_no c)
 one_holds Small Small n b h g = sym g ∙ h
 one_holds Large Large n b h g = sym g ∙ h

@@ -1,4 +1,4 @@
--- What of a list passes a test, one by one and all at once.
+-- The elements of a list that pass a test, one by one and all at once.
 use Rattle.std.proofs.Common.{◌≡◌, inl, inr, ◌<◌, ◌+◌, ℕ, zero, suc, Bool, true, false, cond, List, [], ◌∷◌, ◌++◌, Some, slice_get, append_assoc, refl, sym, ap, subst, ◌∙◌, arith}
 use Rattle.std.specs.List.{filter, enumerate_from}
 use Rattle.std.proofs.lemmas.Option.{none-some, same_Some}
@@ -6,7 +6,7 @@ use Rattle.in_base.specs.Lists.{IsAmong}
 
 -- ---- one by one
 
--- one is tested, and what passes is added to what passed before
+-- an element is tested, and is added to those before it if it passes
 module _ {X : Type 0} (test : X → Bool) (x : X) (xs before all : List X) (so_far : before ++ filter test (x ∷ xs) ≡ all) where
   pub passes : (after : List X) → test x ≡ true → after ≡ before ++ x ∷ [] → after ++ filter test xs ≡ all
   passes after does is =

@@ -1,4 +1,4 @@
--- What holds of each two of a list.
+-- Properties of each two elements of a list.
 use Rattle.std.proofs.Common.{inl, inr, ◌<◌, ◌+◌, ℕ, Bool, true, false, cond, List, [], ◌∷◌, ◌++◌, map, refl, subst, arith}
 use Rattle.std.specs.List.{AllByRecursion, enumerate_from, filter}
 use Rattle.in_base.specs.Lists.{IsAmong, Pairwise}
@@ -6,7 +6,7 @@ use Rattle.in_base.proofs.Among.{among_all, of_map}
 use Rattle.in_base.proofs.Each.{all_append, all_of}
 use Rattle.in_compile.proofs.Listed.Filtered.{among_filter, among_numbered}
 
--- where it follows of elements
+-- a property of pairs that follows from another one for the elements
 pub pairs_of : {X : Type 0} (R Q : X → X → Type 0) (xs : List X) → ((x y : X) → IsAmong x xs → IsAmong y xs → R x y → Q x y) → Pairwise R xs → Pairwise Q xs
 pairs_of R Q [] to h = tt
 pairs_of {X} R Q (x ∷ xs) to h = (first xs (λ y m. to x y (inl refl) (inr m)) h.0, pairs_of R Q xs (λ y z m k. to y z (inr m) (inr k)) h.1)

@@ -1,4 +1,4 @@
--- Where a joint of a net's member leads, the wire of the net leads.
+-- A joint of a net's member leads where the wire of the net does.
 use Rattle.std.proofs.Common.{◌≡◌, ℕ, Option, Some, None, refl, sym, ap, ◌∙◌}
 use Rattle.std.specs.Prelude.{option_map}
 use Rattle.std.proofs.lemmas.Option.{none-some, same_Some}

@@ -25,7 +25,7 @@ from_lowest : (e : ℕ) (j : Joint) → ((d : ℕ) → point_at j ≡ Free d →
 from_lowest e (ToAgent k i) low = refl
 from_lowest e (ToBoundary f) low = le-leb e f (low f refl)
 
--- what is listed leads from its boundary end
+-- a listed wire leads from its boundary end, and no lower one
 pub over_at : (m : MemberParts) (k : ℕ) (w : ℕ × Joint) → slice_get (over_of m) k ≡ Some w → (slice_get m.joints w.0 ≡ Some w.1) × (is_from_lowest w ≡ true)
 over_at m k w at =
     let s = there is_from_lowest 0 m.joints k w at in

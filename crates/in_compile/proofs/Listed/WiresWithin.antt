@@ -16,7 +16,7 @@ use Rattle.in_compile.specs.Wires.{both_points, is_from_first, within_of, wires_
 use Rattle.in_compile.proofs.Listed.Filtered.{among_filter, among_numbered, in_filter, in_numbered}
 use Rattle.in_compile.proofs.Listed.Partners.{joins, leads, one_joint}
 
--- ---- what is listed
+-- ---- listed wires
 
 module _ (m : MemberParts) where
   -- a listed wire leads from its first place
@@ -47,7 +47,7 @@ module _ (m : MemberParts) where
           let joint : joint_at m (ToAgent k i) ≡ Some j = ap (λ (o : Option AgentParts). option_and_then (λ (a : AgentParts). slice_get a.ends i) o) here ∙ end in
           subst (λ (w : Joint × Joint). joint_at m w.0 ≡ Some w.1) place.2 joint
 
-  -- the wire at a place of an agent is listed where that is its first one
+  -- the wire at a place of an agent is listed if that is its first one
   pub is_listed : (k i : ℕ) (j : Joint) → joint_at m (ToAgent k i) ≡ Some j → is_from_first (ToAgent k i, j) ≡ true → IsAmong (ToAgent k i, j) (within_of m)
   is_listed k i j joint first = go (slice_get m.agents k) refl joint
     where

@@ -18,6 +18,6 @@ one_short need free c d h g = go (let o : (class_no c ≡ class_no d) ⊎ (class
     go (inr (inl l)) = absurd (let a = h.0 in let b = g.1 c l in omega (arith, a, b))
     go (inr (inr l)) = absurd (let a = g.0 in let b = h.1 d l in omega (arith, a, b))
 
--- where as many are needed
+-- the first class that is short, if as many cells are needed
 pub short_needed : (need more free : CellClass → ℕ) (c : CellClass) → ((d : CellClass) → need d ≡ more d) → IsFirstShort need free c → IsFirstShort more free c
 short_needed need more free c same h = ((let e = same c in let a = h.0 in omega (arith, e, a)), (λ d l. (let e = same d in let a = h.1 d l in omega (arith, e, a))))

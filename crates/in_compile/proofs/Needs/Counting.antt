@@ -1,4 +1,4 @@
--- How many agents take a cell of a class, counted one by one.
+-- The number of agents that take a cell of a class, counted one by one.
 use Rattle.std.proofs.Common.{◌≡◌, ◌<◌, ◌+◌, ℕ, zero, suc, Bool, true, false, cond, Option, Some, None, List, [], ◌∷◌, length, take, get_or, count_by, is_some, refl, ap, ◌∙◌, arith}
 use Rattle.std.specs.Prelude.{option_map, option_and_then, slice_get}
 use Rattle.std.specs.List.{AllByRecursion}

@@ -1,4 +1,4 @@
--- What goes back to an arena, by its cells and by their number.
+-- Cells that go back to an arena, one by one and by their number.
 use Rattle.std.proofs.Common.{◌≡◌, ◌≢◌, ◌⊎◌, inl, inr, ◌<◌, ◌+◌, ◌*◌, ℕ, zero, suc, cond, List, [], ◌∷◌, length, take, drop, get_or, count_by, Some, slice_get, refl, sym, ap, subst, ◌∙◌, get_or-set_same, get_or-set_other, length-drop, arith}
 use Rattle.std.proofs.lemmas.Bool.{cases_eq}
 use Rattle.std.proofs.lemmas.List.{get_or-drop}
@@ -30,7 +30,7 @@ one_or_same a (m ∷ ns) x n = go (cases_eq n m.0) (one_or_same a ns x n)
     go (inr other) (inl at) = inl (suc at.0, at.1)
     go (inr other) (inr same) = inr (get_or-set_other (with_all a ns x).states m.0 n x Leased other ∙ same)
 
--- each of them is so
+-- each of them has this state
 pub one_of_all : (a : ArenaView) (ns : List CellNo) (x : State) (n : CellNo) (k : ℕ) → n.0 < length a.states → slice_get ns k ≡ Some n → state_at (with_all a ns x) n.0 ≡ x
 one_of_all a [] x n k inside at = cc
 one_of_all a (m ∷ ns) x n zero inside at =
@@ -43,7 +43,7 @@ one_of_all a (m ∷ ns) x n (suc k) inside at = go (cases_eq n.0 m.0) (one_of_al
         ap (state_at (with_all a (m ∷ ns) x)) e ∙ get_or-set_same (with_all a ns x).states m.0 x Leased (subst (λ z. m.0 < z) (sym (count_all a ns x)) (subst (λ z. z < length a.states) e inside))
     go (inr other) rest = get_or-set_other (with_all a ns x).states m.0 n.0 x Leased other ∙ rest
 
--- ---- what was leased and goes back
+-- ---- leased cells that go back
 
 pub same_states : (xs ys : List State) → length xs ≡ length ys → ((n : ℕ) → get_or xs n Leased ≡ get_or ys n Leased) → xs ≡ ys
 same_states [] [] e h = refl
@@ -74,13 +74,13 @@ module _ (count : CellClass → ℕ) (a a' b' a'' : ArenaView) (all : HasAllCell
         (λ n. as_before n (one_or_same a adds.cells Leased n) (one_or_same (empty_bag a) adds.cells Vacant n)) i;
   }
 
--- ---- what is placed
+-- ---- placed cells
 
 -- a placed cell was the stock's
 placed_was : (need : Need) (s s' : StockParts) (p : PlacedParts) → TakesCells need p.cells s s' → AreCellsOf p.bag p.cells → (n : ℕ) → IsInBag p.bag n → state_at s.bag n ≡ Vacant
 placed_was need s s' p takes cells n in_it = let at = cells.only n in_it in all_at (λ (m : CellNo). state_at s.bag m.0 ≡ Vacant) p.cells at.0 (record { 0 = n }) takes.were at.1
 
--- a cell that isn't placed is the stock's where it was
+-- a cell that isn't placed is the stock's if it was before
 pub as_left : (need : Need) (s s' : StockParts) (p : PlacedParts) → TakesCells need p.cells s s' → AreCellsOf p.bag p.cells → (n : ℕ) → state_at p.bag n ≡ Leased → state_at s'.bag n ≡ state_at s.bag n
 as_left need s s' p takes cells n out = go (one_or_same s.bag p.cells Leased n)
   where
@@ -154,7 +154,7 @@ other_stays f a b d a' back of apart = record {
 
 -- ---- counted
 
--- where a cell is free in one of two, or in neither
+-- a cell that is free in one of two, or in neither
 
 taken : (n : ℕ) (xs ys zs : List State) → length xs ≡ length ys → length zs ≡ length ys → ((i : ℕ) → one_if_free (get_or zs i Leased) ≡ one_if_free (get_or xs i Leased) + one_if_free (get_or ys i Leased))
     → count_by is_vacant (take n zs) ≡ count_by is_vacant (take n xs) + count_by is_vacant (take n ys)

@@ -142,13 +142,13 @@ module _ (m : MemberParts) (old : ArenaView) (x : ℕ) (now : ArenaView) (ns : L
       many = ap (λ (v : ArenaView). length v.states) b.arena ∙ length-set now.states n.0 b.state ∙ h.many;
     }
 
--- ---- what their places lead to
+-- ---- the ends at their places
 
 -- a begun cell isn't leased
 pub begun_in : (word many : ℕ) (x : State) → IsBegun word many x → IsLeased x → ⊥
 begun_in word many x h leased = subst IsLeased h.2 leased
 
--- nothing of it is written
+-- no end of an agent is written
 pub none_written : (m : MemberParts) (ns : List CellNo) (k : ℕ) (n : CellNo) (first : ArenaView) (a : AgentParts) → slice_get m.agents k ≡ Some a → IsBegun a.symbol.0 (length a.ends) (state_at first n.0) → IsBeingWritten m ns k 0 n first first
 none_written m ns k n first a stands h = record {
   agent = a;

@@ -190,7 +190,7 @@ module _ (b : ArenaView) (l k : CellClass → List CellNo) (c : CellClass) (n : 
   abbrev IsUnlisted : Type 0
   IsUnlisted = (d : CellClass) (i : ℕ) (m : CellNo) → slice_get (l d) i ≡ Some m → m.0 ≢ n.0
 
-  -- what is in the shorter list is in the longer one
+  -- a number in the shorter list is in the longer one
   kept : k c ≡ l c ++ n ∷ [] → (d : CellClass) (i : ℕ) (m : CellNo) → (d ≡ c) ⊎ Other c d → slice_get (l d) i ≡ Some m → slice_get (k d) i ≡ Some m
   kept here d i m (inl e) s = ap (λ (z : CellClass). slice_get (k z) i) e ∙ ap (λ z. slice_get z i) here ∙ kept_at (l c) (n ∷ []) i m (sym (ap (λ (z : CellClass). slice_get (l z) i) e) ∙ s)
   kept here d i m (inr o) s = ap (λ z. slice_get z i) (others d o.0) ∙ s

@@ -1,4 +1,4 @@
--- An arena with each leased cell free: its agents are those of before, and where no cell is leased it is the same.
+-- An arena with each leased cell free: its agents are as before, and if no cell is leased the arena is the same.
 use Rattle.std.proofs.Common.{◌≡◌, ◌<◌, ℕ, zero, suc, Option, List, [], ◌∷◌, length, map, get_or, refl, ap, subst, ◌∙◌, arith}
 use Rattle.std.proofs.lemmas.List.{length-map}
 use Rattle.in_arena.specs.Arenas.{ArenaView, NoneLeased, state_at}
@@ -15,7 +15,7 @@ word_rested (Leased ∷ xs) zero = refl
 word_rested (Live w es ∷ xs) zero = refl
 word_rested (x ∷ xs) (suc n) = word_rested xs n
 
--- what a cell holds stays
+-- the symbol word of a cell stays
 pub word_at : (a : ArenaView) (n : ℕ) → word_of (state_at (at_rest a) n) ≡ word_of (state_at a n)
 word_at a n = word_rested a.states n
 
@@ -51,7 +51,7 @@ same_rested (Vacant ∷ xs) none = ap (λ (ys : List State). Vacant ∷ ys) (sam
 same_rested (Leased ∷ xs) none = absurd (none zero (omega arith) tt)
 same_rested (Live w es ∷ xs) none = ap (λ (ys : List State). Live w es ∷ ys) (same_rested xs (λ n l h. none (suc n) (omega (arith, l)) h))
 
--- where none is leased it is the same
+-- if none is leased, it is the same
 pub rests : (a : ArenaView) → NoneLeased a → at_rest a ≡ a
 rests a none = ap (λ (xs : List State). record { memory = a.memory; cells = a.cells; states = xs }) (same_rested a.states none)
 

@@ -1,4 +1,4 @@
--- Where no cell is on lease, and each live one is of the class of its agent's symbol, free cells and agents of a class make up its cells.
+-- If no cell is on lease, and each live one is of the class of its agent's symbol, free cells and agents of a class make up its cells.
 use Rattle.std.proofs.Common.{◌≡◌, ◌⊎◌, inl, inr, ◌<◌, ◌≤◌, ◌+◌, ◌*◌, ℕ, zero, suc, Bool, true, false, cond, Option, Some, List, [], ◌∷◌, length, map, take, drop, get_or, count_by, refl, sym, ap, subst, ◌∙◌, length-drop, arith}
 use Rattle.std.proofs.lemmas.Bool.{cases_lt}
 use Rattle.std.proofs.lemmas.List.{get_or-drop}
@@ -17,7 +17,7 @@ use Rattle.in_compile.specs.Cells.{is_of, takes, agents_of, count_of}
 use Rattle.in_reducer.specs.Standing.{agent_in, agents_in, at_rest, vacant_in, IsNetIn}
 use Rattle.in_reducer.proofs.Cells.AtRest.{agents_same}
 
--- ---- where something holds in a part of a list alone
+-- ---- states that only a part of a list has
 
 module _ (P : State → Bool) where
   abbrev one : State → ℕ
@@ -47,7 +47,7 @@ module _ (P : State → Bool) where
       let g : one x ≡ 0 = ap (λ (b : Bool). cond b 1 0) (before 0 (omega arith)) in
       omega (arith, rest, e, g)
 
-  -- one of two things holds of each
+  -- each element has one of two properties
   abbrev OneOf : State → Type 0
   OneOf x = ((is_vacant x ≡ true) × (P x ≡ false)) ⊎ ((is_vacant x ≡ false) × (P x ≡ true))
 
@@ -165,6 +165,6 @@ module _ (t : Tables) (a : ArenaView) (h : IsNetIn t a) where
   has_cells Large = all_cells Large
   has_cells Wide = all_cells Wide
 
--- .. where a leased cell counts as free
+-- .. if a leased cell counts as free
 pub cells_at_rest : (t : Tables) (a : ArenaView) → IsNetIn t (at_rest a) → (c : CellClass) → count_of (vacant_in (at_rest a)) c + agents_of t c (agents_in a) ≡ a.cells
 cells_at_rest t a net c = subst (λ (xs : List (Option Cell)). count_of (vacant_in (at_rest a)) c + agents_of t c xs ≡ a.cells) (agents_same a) (has_cells t (at_rest a) net c)

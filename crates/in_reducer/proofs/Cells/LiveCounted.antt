@@ -105,6 +105,6 @@ module _ (t : Tables) (c : CellClass) where
       let other = sum_by-cons (λ y. cond (takes t c y) 1 0) (agent_in x) (map agent_in xs) in
       omega (arith, here, rest, one, other)
 
-  -- .. so that as many cells of a list are of a class as agents take one
+  -- .. so a list has as many cells of a class as agents that take one
   pub agents_listed : (a : ArenaView) (cs : List CellNo) → IsListOfLive a cs → ((i s : ℕ) → word_of (state_at a i) ≡ Some s → places (state_at a i) ≡ suc (arity_of t s)) → count_by (is_for a c) cs ≡ agents_of t c (agents_in a)
   agents_listed a cs h many = all_counted a c cs h ∙ by_agents a.states many

@@ -1,4 +1,4 @@
--- What accessors read of the net that cells show.
+-- The results of accessors, by the net that cells show.
 use Rattle.std.proofs.Common.{◌≡◌, ◌<◌, ◌≤◌, ◌+◌, ◌-◌, ◌*◌, ℕ, zero, suc, Option, Some, None, IsSome, List, [], ◌∷◌, length, take, get_or, slice_get, sum_by, unwrap_or, refl, ap, ◌∙◌, arith}
 use Rattle.std.specs.Prelude.{is_some, option_map, option_and_then}
 use Rattle.std.proofs.lemmas.List.{take_all}
@@ -26,7 +26,7 @@ use Rattle.in_reducer.proofs.Cells.Counted.{all_cells}
 
 -- ---- agents
 
--- the agent of a number is what its cell holds; past the last cell there is none
+-- the agent of a number is the one in its cell; past the last cell there is none
 pub cell_is : (a : ArenaView) (free : List FreeEnd) (n : ℕ) → cell_in (unlisted (agents_in a) free) n ≡ agent_in (state_at a n)
 cell_is a free n =
     ap (option_and_then (λ (c : Option Cell). c)) (slice_get-map agent_in a.states n) ∙ held (slice_get a.states n)
@@ -36,7 +36,7 @@ cell_is a free n =
     held None = refl
     held (Some x) = refl
 
--- .. and its places lead where those of the cell do
+-- .. and its places lead where the cell's ends do
 pub partner_is : (a : ArenaView) (free : List FreeEnd) (x : AgentNo) (i : ℕ) → partner_in (unlisted (agents_in a) free) (Port x i) ≡ option_map point_at (end_at (state_at a x.0) i)
 partner_is a free x i = ap (option_and_then (λ (c : Cell). slice_get c.ends i)) (cell_is a free x.0) ∙ at (state_at a x.0)
   where
@@ -51,8 +51,7 @@ have_symbols t n q h = (ap is_some h.one, ap is_some h.two)
 
 -- ---- free ends
 
--- there are as many
--- .. and none leads past them
+-- each free end has an end in the list
 pub free_below : (fs : List FreeEnd) (es : List End) (k : ℕ) → k < length (leading_to fs es) → k < length es
 free_below [] es k l = absurd (omega (arith, l))
 free_below (f ∷ fs) [] k l = absurd (omega (arith, l))
@@ -73,7 +72,7 @@ free_named (f ∷ fs) [] k l = absurd (omega (arith, l))
 free_named (f ∷ fs) (e ∷ es) zero l = refl
 free_named (f ∷ fs) (e ∷ es) (suc k) l = free_named fs es k (omega (arith, l))
 
--- ---- how many agents there are
+-- ---- the number of agents
 
 module _ (t : Tables) (a : ArenaView) (h : IsNetIn t a) where
   abbrev of_class : CellClass → ℕ

@@ -101,7 +101,7 @@ length_by n m f g = go (cases_lt n m) (cases_lt m n)
     go (inr l) (inl k) = absurd (let z = f m k in omega (arith, z))
     go (inr l) (inr k) = omega (arith, l, k)
 
--- what is mapped is there where its image is
+-- an option isn't empty if its image isn't
 unmapped : {X Y : Type 0} (f : X → Y) (o : Option X) → IsSome (option_map f o) → IsSome o
 unmapped f (Some x) h = refl
 unmapped f None h = h

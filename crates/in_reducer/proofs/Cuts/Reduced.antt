@@ -45,7 +45,7 @@ steps_reduce m o i h s = record {
   cells = s.cells;
 }
 
--- the same counts over another program that is the same
+-- the same counts over an equal program
 counted_over : (p q : Program) (a b : MachineParts) (c : CellClass) → p ≡ q → count_of a.vacant c + agents_of p.tables c a.agents ≡ count_of b.vacant c + agents_of p.tables c b.agents
     → count_of a.vacant c + agents_of q.tables c a.agents ≡ count_of b.vacant c + agents_of q.tables c b.agents
 counted_over p q a b c same counted = subst (λ (z : Program). count_of a.vacant c + agents_of z.tables c a.agents ≡ count_of b.vacant c + agents_of z.tables c b.agents) same counted

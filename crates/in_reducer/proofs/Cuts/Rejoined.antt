@@ -46,7 +46,7 @@ use Rattle.in_base.proofs.Each.{at_index}
 
 -- ---- lists
 
--- all but the last two, and these
+-- all elements except the last two, and these
 pub last_two : {X : Type 0} (xs : List X) (n : ℕ) → length xs ≡ n + 2 → (x y : X) × (xs ≡ take n xs ++ (x ∷ y ∷ []))
 last_two [] n e = absurd (omega (arith, e))
 last_two (x ∷ []) zero e = absurd (omega (arith, e))
@@ -101,7 +101,7 @@ module _ (r : Body) (k : KeepsNet r) (two : 2 ≤ length r.free.items) (own : �
     shown = subst (λ (n : ℕ). IsShown r.arena (take n ends) m) many (subst (λ (es : List End). IsShown r.arena (take (length fs) es) m) (sym is_ends) (is_shown r.arena fs r.ends.items));
   }
 
-  -- what stands at the two free ends
+  -- the ends at the two free ends
   pub first_end : (e : End) × (slice_get es0 own ≡ Some e)
   first_end = at_index es0 own (let e = k.ends in omega (arith, e, is_own))
 
@@ -111,7 +111,7 @@ module _ (r : Body) (k : KeepsNet r) (two : 2 ≤ length r.free.items) (own : �
   pub has_symbols : (tables : Tables) → tables ≡ t → HasSymbols tables r.arena
   has_symbols tables same y s e = subst (λ (u : Tables). IsSymbol u s) (sym same) (k.reducer.net.sound.within y s (symbol_seen r.arena fs es0 y ∙ e))
 
-  -- what a free end leads to is at its number
+  -- the partner of a free end is the end at its number
   stands : (j : ℕ) (e : End) → j < own + 2 → slice_get es0 j ≡ Some e → m.partner (Free j) ≡ Some (shown_point.point_of e)
   stands j e low at = partner_seen r.arena fs es0 (Free j) ∙ ap (option_map shown_point.point_of) (take_at (length fs) j es0 (let n = many in omega (arith, low, n)) ∙ at)
 
@@ -207,7 +207,7 @@ module _ (r : Body) (k : KeepsNet r) (two : 2 ≤ length r.free.items) (own : �
       leads_other : m.partner (Free (suc own)) ≡ Some (shown_point.point_of other)
       leads_other = stands (suc own) other (omega arith) at_other
 
-      -- which port is at an end
+      -- the port that is at an end
       at_port : (e : End) (x : ℕ) → shown_point.point_of e ≡ Port x 0 → e ≡ shown_point.end_of (Port x 0)
       at_port e x h = sym (point_end e) ∙ ap shown_point.end_of h
 

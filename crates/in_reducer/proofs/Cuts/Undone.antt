@@ -11,7 +11,7 @@ use Rattle.in_order.specs.Leading.{Leads, IsJoinedOnce}
 use Rattle.in_order.proofs.Public.{cut_leads_are_joined}
 use Rattle.in_reducer.specs.Cutting.{JointsUndoCuts, net_in}
 
--- what a sound net leads to is sound
+-- a sound net leads to sound nets
 led_sound : (p : System) (k : ℕ) (n m : Net ℕ) → IsSoundSystem p → IsSound p n → Leads p k n m → IsSound p m
 led_sound p k n m good sound lead =
     let s = sound_reached (from_net p n) (sound_is_start p n good sound) ℕ_discrete k m lead in

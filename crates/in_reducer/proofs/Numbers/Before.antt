@@ -171,7 +171,7 @@ module _ (m n o : MachineParts) (i : ℕ) (reducer : IsReducer m) (s : StepsAt m
       go (no n) (yes e) = is_b e
       go (no n) (no k) = is_old n k
 
-  -- what an agent before gets
+  -- the number that an agent before gets
   abbrev Number : ℕ → Type 0
   Number z = ((z ≡ a) × (h z ≡ length o.agents)) ⊎ (((z ≡ b) × (h z ≡ suc (length o.agents))) ⊎ ((h z ≡ f z) × IsSome (after.symbol z)))
 
@@ -235,7 +235,7 @@ module _ (m n o : MachineParts) (i : ℕ) (reducer : IsReducer m) (s : StepsAt m
       apart : (k l u v : ℕ) → (net_of r.member).symbol k ≡ Some u → (net_of r.member).symbol l ≡ Some v → named k ≡ named l → k ≡ l
       apart k l u v at_k at_l e = is_step.naming.apart k l u v at_k at_l (same.net.apart (s.name k) (s.name l) (comes k u at_k) (comes l v at_l) e)
 
-  -- ---- a net after it, which is what the other numbers make of the one after
+  -- ---- a net after it, which is the net after, under the other numbers
 
   is_rule : IsRuleAt (plain_of first) (agents_at (both h s.pair)).0 (agents_at (both h s.pair)).1 s.step.number r
   is_rule = rule_moved h m first renamed_first s.pair s.step.number r s.step.is_rule
@@ -432,7 +432,7 @@ runs_on m n o j k h (s, one, run) (z, two, then) =
 pub takes_step : (m n o : MachineParts) (k : ℕ) → IsReducer m → RunsUpToNumbers m k n → StepsUpToNumbers n 0 o → RunsUpToNumbers m (suc k) o
 takes_step m n o k h run (s, same, step) = subst (λ (i : ℕ). RunsUpToNumbers m i o) (let z : 1 + k ≡ suc k = omega arith in z) (runs_on m n o k 1 h run (s, same, then_step s s o 0 (at_start s) step))
 
--- ---- where they lead
+-- ---- the results of runs and interactions
 
 pub same_run : (m n o u : MachineParts) (k : ℕ) → IsReducer m → IsReducer n → AreSame m n → Runs m k o → Runs n k u → AreSame o u
 same_run m n o u zero h g same (at_start _) (at_start _) = same
@@ -440,7 +440,7 @@ same_run m n o u (suc k) h g same (then_step _ v _ _ before s) (then_step _ w _ 
     let r = same_run m n v w k h g same before earlier in
     two_steps.same_step r.0 v w o u 0 (reducer_runs m v k h before) (reducer_runs n w k g earlier) r.1 s z
 
--- what are the same as one reducer are the same
+-- two machines that are the same as one reducer are the same
 both_ways : (m s z : MachineParts) → IsReducer m → AreSame m s → AreSame m z → AreSame s z
 both_ways m s z h one two = same_through s m z (same_back m s h one.0 one.1) two
 

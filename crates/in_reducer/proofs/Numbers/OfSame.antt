@@ -44,9 +44,9 @@ sound_under p f n m named h = record {
   no_circle = λ c. h.no_circle (circle_renamed p.symbols f (net_of n) (net_of m) h.net named ℕ_discrete c);
 }
 
--- ---- cells that show what cells of their symbols show, under other numbers
+-- ---- cells that show the same under other numbers
 
--- each of the first k places of the one list is there, and what is there in the other one is there in it
+-- two lists have one length if each place of either is a place of the other
 as_long : {X Y : Type 0} (xs : List X) (ys : List Y) → ((i : ℕ) → IsSome (slice_get xs i) → IsSome (slice_get ys i)) → ((i : ℕ) → IsSome (slice_get ys i) → IsSome (slice_get xs i)) → length xs ≡ length ys
 as_long [] [] a b = refl
 as_long {X} [] (y ∷ ys) a b = absurd (not_some {X = X} None refl (b 0 refl))
@@ -54,7 +54,7 @@ as_long {X} {Y} (x ∷ xs) [] a b = absurd (not_some {X = Y} None refl (a 0 refl
 as_long (x ∷ xs) (y ∷ ys) a b = ap suc (as_long xs ys (λ i. a (suc i)) (λ i. b (suc i)))
 
 module _ (t : Tables) (f : ℕ → ℕ) (m n : Parts) (named : IsRenamed f (net_of m) (net_of n)) (over : IsOver t m) where
-  -- an agent whose port is joined is there
+  -- an agent with a joined port is there
   joined_there : (k : Parts) (x i : ℕ) (v : Point ℕ) → (net_of k).partner (Port x i) ≡ Some v → (c : Cell) × (cell_in k x ≡ Some c) × IsSome (slice_get c.ends i)
   joined_there k x i v e = go (cell_in k x) refl e
     where

@@ -19,7 +19,7 @@ use Rattle.in_gluing.proofs.Public.{pick}
 use Rattle.in_reducer.specs.Machines.{MachineParts, parts_of}
 use Rattle.in_reducer.specs.Same.{IsSameMachine}
 
--- ---- a list that holds what a function says
+-- ---- the list of a function's values
 
 table : {X : Type 0} → (ℕ → X) → ℕ → List X
 table g zero = []

@@ -15,7 +15,7 @@ use Rattle.in_reducer.proofs.Numbers.Between.{between, from_to, renamed_between}
 use Rattle.in_reducer.proofs.Numbers.SameStep.{map_same, map_twice}
 use Rattle.in_reducer.proofs.Steps.StepsOn.{net_at}
 
--- as they are numbered
+-- pairs under their own numbers
 map_self : (qs : List (ℕ × ℕ)) → map (both (λ x. x)) qs ≡ qs
 map_self [] = refl
 map_self (q ∷ qs) = ap (λ (zs : List (ℕ × ℕ)). q ∷ zs) (map_self qs)

@@ -222,7 +222,7 @@ module _ (p : Program) (f : ℕ → ℕ) (m n : MachineParts) (pair : ℕ × ℕ
           ))
           ∙ sym (map_twice (both g) (both x.name) own)
 
-      -- what is left, and the new pairs by their two kinds
+      -- the rest of the queue, and the new pairs by their two kinds
       pub queue_on : remove n.queue i ++ (map numbers_of (map (moved_pair g) made) ++ map (both y.name) own) ≡ map (both g) (remove m.queue i ++ (map numbers_of made ++ map (both x.name) own))
       queue_on =
           ap (λ (z : List (ℕ × ℕ)). z ++ (map numbers_of (map (moved_pair g) made) ++ map (both y.name) own)) left
@@ -231,7 +231,7 @@ module _ (p : Program) (f : ℕ → ℕ) (m n : MachineParts) (pair : ℕ × ℕ
           ∙ ap (λ (z : List (ℕ × ℕ)). map (both g) (remove m.queue i) ++ z) (sym (map-append (both g) (map numbers_of made) (map (both x.name) own)))
           ∙ sym (map-append (both g) (remove m.queue i) (map numbers_of made ++ map (both x.name) own))
 
--- ---- what a pair needs
+-- ---- the need of a pair
 
 module _ (f : ℕ → ℕ) (m n : MachineParts) (same : IsSameMachine f m n) where
   pub rule_moved : (q : ℕ × ℕ) (k : ℕ) (r : RuleParts) → IsRuleAt (plain_of m) (agents_at q).0 (agents_at q).1 k r → IsRuleAt (plain_of n) (agents_at (both f q)).0 (agents_at (both f q)).1 k r

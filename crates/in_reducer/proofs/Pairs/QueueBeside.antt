@@ -112,7 +112,7 @@ module _ (t : Tables) (n m w : Parts) (f : ℕ → ℕ) (ends : List (ℕ × ℕ
   pub lives : (q : ℕ × ℕ) → IsActivePair t m (agents_at q) → IsSome ((net_of m).symbol q.0) × IsSome ((net_of m).symbol q.1)
   lives q h = (there ((net_of m).symbol q.0) h.first.0 (symbol_number (symbol_in m q.0) h.first h.one), there ((net_of m).symbol q.1) h.second.0 (symbol_number (symbol_in m q.1) h.second h.two))
 
-  -- a pair of the one net isn't one of the other
+  -- a pair of one net isn't a pair of the other
   pub differ : (q z : ℕ × ℕ) → IsActivePair t n (agents_at q) → IsActivePair t m (agents_at z) → both f z ≡ q → ⊥
   differ q z h g e = let zero_one : 0 ≡ 1 = (stand.apart 0 1 q.0 z.0 (own_lives q h) (lives z g).0 (sym (ap (λ (x : ℕ × ℕ). x.0) e))).0 in omega (arith, zero_one)
 

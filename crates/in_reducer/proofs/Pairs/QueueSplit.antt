@@ -17,7 +17,7 @@ use Rattle.in_reducer.proofs.Pairs.Requeued.{StandOnce}
 
 -- ---- lists
 
--- one element more is looked at
+-- one more element is tested
 pub next_of : {X : Type 0} (xs ys zs : List X) (i : ℕ) (x : X) → i < length xs → drop i xs ++ ys ≡ x ∷ zs → (slice_get xs i ≡ Some x) × (zs ≡ drop (suc i) xs ++ ys)
 next_of [] ys zs i x l e = absurd (omega (arith, l))
 next_of (y ∷ xs) ys zs zero x l e = (cc, cc)
@@ -45,7 +45,7 @@ module _ {X : Type 0} (P : X → Bool) where
       let one : ◌≡◌ {A = ℕ} (cond (P (get_or xs i x)) 1 0) 1 = ap (λ (b : Bool). cond b 1 0) (ap P (get_or_from_slice_get xs i x x e) ∙ p) in
       omega (arith, before, all, more, one)
 
-  -- what passes is in the list, and passes
+  -- an element that passes is in the list
   pub of_filter : (xs : List X) (j : ℕ) (x : X) → slice_get (filter P xs) j ≡ Some x → (k : ℕ) × (slice_get xs k ≡ Some x) × (P x ≡ true)
   of_filter [] j x e = absurd (let f : None ≡ Some x = e in cc)
   of_filter (y ∷ xs) j x e = go (P y) refl j e (λ i f. (let r = of_filter xs i x f in (suc r.0, r.1, r.2)))
@@ -68,7 +68,7 @@ module _ {X : Type 0} (P : X → Bool) where
   once_filter [] once j k x e d = absurd (let f : None ≡ Some x = e in cc)
   once_filter (y ∷ xs) once j k x e d = go (P y) j k e d (once_filter xs (λ i l z a b. (let s = once (suc i) (suc l) z a b in omega (arith, s))))
     where
-      -- the first one stands nowhere else
+      -- the first one is at no other place
       other : (k : ℕ) → y ≡ x → slice_get (filter P xs) k ≡ Some x → ⊥
       other k is f = let r = of_filter xs k x f in let z = once 0 (suc r.0) x (ap (λ (v : X). Some v) is) r.1 in omega (arith, z)
 
@@ -88,7 +88,7 @@ module _ (t : Tables) (n m w : Parts) (f : ℕ → ℕ) (ends : List (ℕ × ℕ
   lives : (q : ℕ × ℕ) → IsActivePair t w (agents_at q) → IsSome ((net_of w).symbol q.0)
   lives q h = there ((net_of w).symbol q.0) h.first.0 (symbol_number (symbol_in w q.0) h.first h.one)
 
-  -- no agent is one of both
+  -- no agent is in both nets
   not_both : (x y : ℕ) → IsSome ((net_of n).symbol x) → IsSome ((net_of m).symbol y) → f y ≡ x → ⊥
   not_both x y a b e = let z : 0 ≡ 1 = (stand.apart 0 1 x y a b (sym e)).0 in omega (arith, z)
 

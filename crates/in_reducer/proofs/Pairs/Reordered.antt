@@ -1,4 +1,4 @@
--- Two queues of one net, which may have other numbers in each, are one but for their order.
+-- Two queues of one net under any numbers are the same up to their order.
 use Rattle.std.proofs.Common.{◌≡◌, ◌≢◌, ◌⊎◌, inl, inr, ◌<◌, ℕ, zero, suc, Bool, true, false, Option, Some, None, IsSome, List, length, slice_get, refl, sym, ap, subst, ◌∙◌, arith}
 use Rattle.std.proofs.lemmas.Option.{same_Some, slice_get_within}
 use Rattle.in_base.proofs.Each.{at_index}
@@ -31,7 +31,7 @@ JoinsThere n = (x y : ℕ) → n.partner (Port x 0) ≡ Some (Port y 0) → IsSo
 pub joins_within : (n : Net ℕ) → IsWiredWithin n → JoinsThere n
 joins_within n wired x y e = (wired.there (Port x 0) (Port y 0) e, wired.back.0 (Port x 0) (Port y 0) e)
 
--- .. so too in what two nets are side by side
+-- .. and so in two nets side by side
 module _ (one two m : Net ℕ) (name : ℕ → ℕ) (ends : List (ℕ × ℕ)) (wired_one : IsWiredWithin one) (wired_two : IsWiredWithin two) (h : StandBeside one two name ends m) where
   wired : (i : ℕ) (p q : Point ℕ) → (two_parts one two i).partner p ≡ Some q → IsThere (two_parts one two i) p × ((two_parts one two i).partner q ≡ Some p)
   wired zero p q e = (wired_one.there p q e, wired_one.back.0 p q e)
@@ -135,7 +135,7 @@ module _ (t : Tables) (f : ℕ → ℕ) (n m : Parts) (named : IsRenamed f (net_
       two_moved p q r is (inl e) = inl (is ∙ ap (both f) (sym e))
       two_moved p q r is (inr e) = inr (is ∙ ap (λ (z : ℕ × ℕ). turned (both f z)) (sym e))
 
-  -- one pair comes of one
+  -- a pair comes from one pair
   one_before : (p q r : ℕ × ℕ) → IsActivePair t n (agents_at p) → IsActivePair t n (agents_at q) → AreSameTwo (both f p) r → AreSameTwo (both f q) r → p ≡ q
   one_before p q r h g is is_too = one_order t n n (λ x s e. e) p q h g (go is is_too)
     where
@@ -201,7 +201,7 @@ module _ (t : Tables) (f : ℕ → ℕ) (n m : Parts) (named : IsRenamed f (net_
             let same : x.0 ≡ r.0 = one_order t m m (λ y s e. e) x.0 r.0 (queue_too.pairs (found k.0).0 x.0 x.1) (queue_too.pairs j r.0 r.1) (both_same (both f q.0) x.0 r.0 x.2 q.2) in
             (k.0, slice_get_within qs k.0 q.0 k.1, queue_too.once (found k.0).0 j r.0 (x.1 ∙ ap (λ (z : ℕ × ℕ). Some z) same) r.1)
 
--- under the same numbers the pairs stand the same way round
+-- under the same numbers the pairs have their agents in the same order
 pub reordered_alone : (t : Tables) (n m : Parts) → IsRenamed (λ y. y) (net_of n) (net_of m) → (qs rs : List (ℕ × ℕ)) → IsQueueOf t n qs → IsQueueOf t m rs →
     IsReordered (λ q r. AreSameTwo (both (λ y. y) q) r) qs rs → IsReordered (λ q r. q ≡ r) qs rs
 reordered_alone t n m named qs rs queue queue_too h = record {

@@ -49,7 +49,7 @@ module _ {X : Type 0} where
   remove_once (y ∷ ys) (suc i) once (suc j) zero x e f = let r = was_there ys i j x e in absurd (let z : suc r.0 ≡ 0 = once (suc r.0) 0 x r.2 f in omega (arith, z))
   remove_once (y ∷ ys) (suc i) once (suc j) (suc k) x e f = ap suc (remove_once ys i (λ j k x e f. (let z : suc j ≡ suc k = once (suc j) (suc k) x e f in omega (arith, z))) j k x e f)
 
-  -- what stands in two lists, one after the other
+  -- an element of two lists, one after the other
   pub in_part : (xs ys : List X) (k : ℕ) (x : X) → slice_get (xs ++ ys) k ≡ Some x → (slice_get xs k ≡ Some x) ⊎ ((j : ℕ) × (k ≡ length xs + j) × (slice_get ys j ≡ Some x))
   in_part [] ys k x e = inr (k, (let z : k ≡ 0 + k = omega arith in z), e)
   in_part (y ∷ zs) ys zero x e = inl e
@@ -94,7 +94,7 @@ module _ (t : Tables) (n : Parts) (r : RuleParts) (a b : AgentNo) (name : ℕ �
   naming : IsNaming (net_of n) (redex_at r a.0 b.0) name
   naming = act.step.naming
 
-  -- what is left of the queue are pairs of other agents
+  -- the rest of the queue are pairs of other agents
   left : (k : ℕ) (q : ℕ × ℕ) → slice_get (remove qs i) k ≡ Some q → IsOtherPair t n a b (agents_at q)
   left k q e = let x = was_there qs i k q e in other_pair t n a b qs i net queue stands x.0 q x.2 x.1
 

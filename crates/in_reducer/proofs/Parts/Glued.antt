@@ -1,4 +1,4 @@
--- A reducer after a part was glued on: the free ends of its own, and then by turns one of the part and one of the rest.
+-- A reducer after a part was glued on: the rest's own free ends, and then by turns one of the part and one of the rest.
 use Rattle.std.proofs.Common.{◌≡◌, ◌<◌, ◌≤◌, ◌+◌, ℕ, zero, suc, Option, Some, List, ◌++◌, length, length-append, map, take, slice_get, refl, sym, ap, subst, ◌∙◌, arith}
 use Rattle.std.proofs.lemmas.List.{length-map, length-take-le}
 use Rattle.std.proofs.lemmas.Option.{slice_get-map, slice_get_within}
@@ -32,7 +32,7 @@ use Rattle.in_reducer.proofs.Parts.Together.{in_cells}
 use Rattle.in_reducer.proofs.Parts.Turns.{glued-map, glued_are, length-glued, told_at}
 use Rattle.in_reducer.proofs.Parts.TwoEnds.{OneOfTwo, of_own, of_first, of_second, part_of_two, places_of_two, rest_of_two, which_of_two}
 
--- the free ends of the rest are led to
+-- the list has the partner of each free end of the rest
 pub are_led_to : (r : Body) → KeepsNet r → (many : ℕ) → many ≡ length r.free.items → AreLedTo r.arena (take many r.ends.items)
 are_led_to r k many is =
     subst (λ (z : ℕ). AreLedTo r.arena (take z r.ends.items)) (together.many_free r k ∙ sym is)

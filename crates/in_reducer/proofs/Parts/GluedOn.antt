@@ -27,7 +27,7 @@ known r o k l m p is_rest is_part all cuts many_rest many_part fewer can = recor
   can = subst (λ (z : MachineParts). CanAppend z (reducer_view o)) (sym is_rest) (subst (CanAppend m) (sym is_part) can);
 }
 
--- how many small cells there are
+-- the number of small cells
 abbrev pub small_cells : MachineParts → ℕ
 small_cells m = count_of m.vacant Small + agents_of m.program.tables Small m.agents
 

@@ -19,7 +19,7 @@ use Rattle.in_reducer.proofs.Cuts.Reduced.{same_agents}
 use Rattle.in_reducer.proofs.Pairs.Reordered.{JoinsThere, joins_beside, joins_within, reordered, reordered_alone}
 use Rattle.in_reducer.proofs.Parts.TwoEnds.{part_of_two, rest_of_two}
 
--- two lists of one length are one where they have the same at each place
+-- two lists of one length are one if they have the same element at each place
 same_below : {X : Type 0} (xs ys : List X) (w : ℕ) → length xs ≡ w → length ys ≡ w → ((e : ℕ) → e < w → slice_get xs e ≡ slice_get ys e) → xs ≡ ys
 same_below {X} xs ys w many many_too at = all_same xs ys (λ e. go e (slice_get xs e) (slice_get ys e) refl refl)
   where
@@ -28,7 +28,7 @@ same_below {X} xs ys w many many_too at = all_same xs ys (λ e. go e (slice_get 
     go e None (Some y) f g = at e (let l = slice_get_within ys e y g in omega (arith, l, many_too))
     go e None None f g = f ∙ sym g
 
--- queues of nets that are the same but for their numbers
+-- queues of nets that differ in their numbers alone
 module _ (m m_too : MachineParts) (program : m.program ≡ m_too.program) (own : HasItsPairs m) (own_too : HasItsPairs m_too) where
   pairs_too : IsQueueOf m.program.tables (parts_of m_too) m_too.queue
   pairs_too = subst (λ (z : Program). IsQueueOf z.tables (parts_of m_too) m_too.queue) (sym program) own_too

@@ -50,7 +50,7 @@ module _ (r : Body) (k : KeepsNet r) where
   abbrev m : Net ℕ
   m = net_in (reducer_view r)
 
-  -- what its free ends lead to
+  -- the ends to which its free ends lead
   abbrev pub own_ends : List End
   own_ends = take (length (own_free r)) r.ends.items
 
@@ -82,7 +82,7 @@ module _ (r : Body) (k : KeepsNet r) where
   pub below_all : AreNumbersBelow (reducer_view r) (length r.arena.states)
   below_all y some = let s = has_value (symbol_in (parts_of (reducer_view r)) y) some in symbol_inside y s.0.0 (symbol_number (symbol_in (parts_of (reducer_view r)) y) s.0 s.1)
 
-  -- .. and in none that was never used
+  -- .. and in none from this number on, if all cells from there on are free
   pub below_bound : (b : ℕ) → ((n : ℕ) → b ≤ n → n < length r.arena.states → state_at r.arena n ≡ Vacant) → AreNumbersBelow (reducer_view r) b
   below_bound b rest y some = go (cases_lt y b)
     where

@@ -1,4 +1,4 @@
--- The cells of both parts, once agents were copied to another arena and taken out of the one where they were.
+-- The cells of both parts, once agents were copied to another arena and taken out of their own.
 use Rattle.std.proofs.Common.{◌≡◌, ◌⊎◌, inl, inr, ◌+◌, ◌*◌, ℕ, true, Some, None, List, length, count_by, replicate, slice_get, refl, sym, ap, subst, ◌∙◌, arith}
 use Rattle.std.specs.Cmp.Derive.{both_true}
 use Rattle.std.proofs.lemmas.Bool.{le-leb}
@@ -89,7 +89,7 @@ module _ (r : Body) (k : KeepsNet r) (agents : List CellNo) (own cuts : ℕ) (ca
     pub part_cells : (c : CellClass) → count_of (vacant_in (at_rest new)) c + agents_of t c (agents_in new) ≡ size
     part_cells c = cells_at_rest t new part_net c ∙ copied.cells ∙ same
 
-    -- of each class the part has as many agents as were copied
+    -- the part has as many agents of each class as were copied
     pub part_counted : (c : CellClass) → agents_of t c (agents_in new) ≡ count_by (is_for r.arena c) agents
     part_counted c =
         let a = part_cells c in

@@ -61,7 +61,7 @@ gone_dead (Live w es) e h = let f : false ≡ true = e in cc
 word_live_some : (x : State) → IsSome (word_of x) → IsLive x
 word_live_some x h = let w = has_value (word_of x) h in word_live x w.0 w.1
 
--- what is picked is of what was there
+-- free ends that are picked from a program's own ones are its own
 pub picked_own : (p : Program) (place : ℕ → ℕ) (n : ℕ) (all picked : List OwnEnd) → ArePicked (λ z. z) place n all picked → ((j : ℕ) (e : OwnEnd) → slice_get all j ≡ Some e → IsOwnEnd p e) → (j : ℕ) (e : OwnEnd) → slice_get picked j ≡ Some e → IsOwnEnd p e
 picked_own p place n all picked h own j e at = go (slice_get all (place j)) refl (sym (h.each j (let l = slice_get_within picked j e at in let g = h.count in omega (arith, l, g))) ∙ at)
   where
@@ -123,7 +123,7 @@ module _ (r : Body) (k : KeepsNet r) (agents : List CellNo) (own cuts : ℕ) (ca
         nets.from_where r k agents own cuts can x h at.0 (record { 0 = y }) at.1,
       )
 
-  -- by its former number each agent of the part is found again
+  -- each agent of the part is found by its old number
   named : (z : ℕ) → IsLive (state_at x.new z) → name (nets.origin r k agents own cuts can x h z) ≡ z
   named z live = go (named_or agents name z)
     where
@@ -210,7 +210,7 @@ module _ (r : Body) (k : KeepsNet r) (agents : List CellNo) (own cuts : ℕ) (ca
     queue_part = subst (IsQueueOf t part_parts) (sym is_part) part_queue;
   }
 
-  -- ---- what is kept of both
+  -- ---- both are kept
 
   few_free : own + (cuts + cuts) ≤ most_free
   few_free = let a = before.whole r k agents own cuts can in let b = before.many r k in let c = k.few_free in omega (arith, a, b, c)

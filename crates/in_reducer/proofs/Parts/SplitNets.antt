@@ -48,7 +48,7 @@ map_after : {X Y : Type 0} (g : X → Y) (o : Option X) → option_map g (option
 map_after g None = refl
 map_after g (Some x) = refl
 
--- what is picked of a list is picked of what a function makes of it
+-- the images of picked elements are picked from the images of all
 picked_by : {X Y : Type 0} (g : X → Y) (place : ℕ → ℕ) (n : ℕ) (all picked : List X) → ArePicked (λ z. z) place n all picked → ArePicked (λ z. z) place n (map g all) (map g picked)
 picked_by g place n all picked h = record {
   count = length-map picked g ∙ h.count;
@@ -89,7 +89,7 @@ made_of_two {X} own cuts all of many rest part = all_same (map (λ t. Some t) al
             ap (option_map (λ (t : X). Some t)) y.1 ∙ ap (λ (o : Option X). Some o) (sym (whose k q.0.0 q.0.1 q.1 ∙ y.1)) ∙ ap (option_map of) (sym q.1)
         go (inr l) = ap (option_map (λ (t : X). Some t)) (slice_get_past all k (omega (arith, l, many))) ∙ ap (option_map of) (sym (slice_get_past (ends_of_two own cuts) k (let e = long in omega (arith, l, e))))
 
--- ---- the list of what free ends lead to
+-- ---- the list of the partners of free ends
 
 module _ (a : ArenaView) (prog : Program) (free : List OwnEnd) (f : End → End) (place : ℕ → ℕ) (n : ℕ) (all list : List End) (p : ArePickedWithRoom f place n all list) (many : length free ≡ n) where
   abbrev gs : List FreeEnd
@@ -115,7 +115,7 @@ module _ (a : ArenaView) (prog : Program) (free : List OwnEnd) (f : End → End)
   pub room_after : length free + most_ends + most_ends ≤ length list
   room_after = let e = ap length p.list_is ∙ length-append p.picked p.room in let g = p.are.count in let s = p.sides in omega (arith, e, g, s, many)
 
--- ---- what an agent was, by its new number
+-- ---- the old number of an agent, by its new one
 
 chosen : {P : Type 0} → Dec P → ℕ → ℕ → ℕ
 chosen (yes e) x y = x
@@ -144,7 +144,7 @@ origin_is (a ∷ more) names once (suc k) c e = go (ℕ_discrete (name_in names 
 
 -- ---- both parts
 
--- what is made where a part is split off: the new numbers, the arenas, and the lists of both
+-- the results of splitting a part off: the new numbers, the arenas, and the lists of both
 pub record Pieces : Type 0 where
   pub size : ℕ
   pub numbers : List ℕ
@@ -215,11 +215,11 @@ module _ (r : Body) (k : KeepsNet r) (agents : List CellNo) (own cuts : ℕ) (ca
   all_is : take (own + (cuts + cuts)) es ≡ before.own_ends r k
   all_is = ap (λ (z : ℕ). take z es) (sym (before.whole r k agents own cuts can))
 
-  -- what leads to a free end leads from it
+  -- the end at a free end is its partner
   led_from : (j : ℕ) (e : End) → slice_get (before.own_ends r k) j ≡ Some e → m.partner (Free j) ≡ Some (point_of e)
   led_from j e at = partner_seen r.arena fs es (Free j) ∙ ap (option_map point_of) at
 
-  -- a free end of the rest isn't one that the part leads to
+  -- a free end of the rest isn't one to which the part leads
   own_or_part : (j e : ℕ) → slice_get ends j ≡ Some (0, e) → IsInPart agents own cuts (Free j) → ⊥
   own_or_part j e at into =
       let f : Some (0, e) ≡ Some (1, into.0) = sym at ∙ ap (slice_get ends) into.2 ∙ first_of_two own cuts into.0 into.1 in
@@ -287,7 +287,7 @@ module _ (r : Body) (k : KeepsNet r) (agents : List CellNo) (own cuts : ℕ) (ca
   pub part_room : length x.part_free + most_ends + most_ends ≤ length x.part_ends
   part_room = room_after x.new prog x.part_free (moved_end (name_in x.names) (number_in x.numbers)) (place_of_two own 1) cuts (take (own + (cuts + cuts)) es) x.part_ends h.part_ends h.part_free.count
 
-  -- of what free ends are, by whatever part of it
+  -- the values of any function of free ends are those of the part and the rest
   of_two : {X : Type 0} (g : FreeEnd → X) (all rest part : List X) → all ≡ map g fs → rest ≡ map g rest_fs → part ≡ map g part_fs → (of : ℕ × ℕ → Option X) → ((e : ℕ) → of (0, e) ≡ slice_get rest e) → ((e : ℕ) → of (1, e) ≡ slice_get part e) →
       map (λ t. Some t) all ≡ map of ends
   of_two {X} g all rest part is_all is_rest is_part of at_rest at_part = made_of_two own cuts all of many

@@ -37,11 +37,11 @@ still_live number Vacant h = h
 still_live number Leased h = h
 still_live number (Live word ends) h = h
 
--- agents stay where they are when free ends get other numbers
+-- agents stay in their cells when free ends get other numbers
 pub stay_part : (number : ℕ → ℕ) (old mid : ArenaView) (agents : List CellNo) → AreNumberedAnew number old mid → ArePart old agents → ArePart mid agents
 stay_part number old mid agents anew part = record { live = λ k c s. subst IsLive (sym (anew.each c.0)) (still_live number (state_at old c.0) (part.live k c s)); once = part.once }
 
--- what the calls made, of these slices
+-- the results of the calls, for these slices
 pub record ArePiecesBy (r : Body) (agents : List CellNo) (own cuts : ℕ) (f : Fresh) (l : SplitLists) (of_part of_rest : List ℕ) (free : List OwnEnd) (ends : List End) (mid : ArenaView) (x : Pieces) : Type 0 where
   pub is_part : of_part ≡ l.part.numbers.items
   pub is_rest : of_rest ≡ l.rest.numbers.items

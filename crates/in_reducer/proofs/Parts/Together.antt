@@ -70,7 +70,7 @@ named_or_not (a ∷ more) names n = go (ℕ_discrete (name_in names a.0) n) (nam
 
 -- ---- ends within bounds
 
--- what holds of each element holds by number
+-- a property of each element is one of each number's element
 by_number : {X : Type 0} (P : X → Type 0) (xs : List X) → ((j : ℕ) (e : X) → slice_get xs j ≡ Some e → P e) → All P xs
 by_number P [] h k d low = absurd (omega (arith, low))
 by_number P (x ∷ xs) h zero d low = h 0 x refl
@@ -92,7 +92,7 @@ pub within_both : (cells many : ℕ) (e : End) → IsCellWithin cells e → IsFr
 within_both cells many (end.Cell c i) h g = h c i refl
 within_both cells many (end.Free k) h g = g k refl
 
--- what holds of each element holds of each of a part of the list
+-- a property of each element is one of each element of a part of the list
 pub all_drop : {X : Type 0} (P : X → Type 0) (n : ℕ) (xs : List X) → All P xs → All P (drop n xs)
 all_drop P zero xs h = h
 all_drop P (suc n) [] h = λ k d low. absurd (omega (arith, low))
@@ -164,7 +164,7 @@ module _ (o : Body) (l : KeepsNet o) where
       let h = l.reducer.queue.pairs j q at in
       (symbol_inside q.0 h.first.0 (symbol_number (symbol_in (parts_of (reducer_view o)) q.0) h.first h.one), symbol_inside q.1 h.second.0 (symbol_number (symbol_in (parts_of (reducer_view o)) q.1) h.second h.two))
 
--- ---- what is shown afterwards
+-- ---- the net shown afterwards
 
 -- these free ends lead to the first ends of that list
 abbrev pub in_cells : Body → ArenaView → List OwnEnd → List End → List (ℕ × ℕ) → MachineParts
@@ -289,7 +289,7 @@ module _ (r o : Body) (k : KeepsNet r) (l : KeepsNet o) (can : CanAppend (reduce
       pub cells_after : (c : CellClass) → count_of (vacant_in (at_rest b)) c + agents_of t c (agents_in b) ≡ count_of (vacant_in (at_rest r.arena)) c + agents_of t c (agents_in r.arena)
       cells_after c = cells_at_rest t b still_net c ∙ copied.cells ∙ anew.cells ∙ sym (cells_at_rest t r.arena k.net c)
 
-      -- where the nets are side by side in these cells, they are a reducer's
+      -- if the nets are side by side in these cells, they are a reducer's
       module _ (ends : List (ℕ × ℕ)) (new : List OwnEnd) (list : List End) (queue : List (ℕ × ℕ)) (is_queue : queue ≡ r.queue.items ++ map (both (name_in names)) o.queue.items)
           (stand : StandBeside m n (name_in names) ends (net_in (in_cells r b new list queue))) where
         abbrev after : MachineParts

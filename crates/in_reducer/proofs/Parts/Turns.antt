@@ -27,7 +27,7 @@ turn_done front list once twice ys xs i d e low_y low_x is first second =
     ∙ one_more_turn front list (take i ys) (take i xs) (get_or ys i d) (get_or xs i e) (length-take-le i xs (omega (arith, low_x)) ∙ sym (length-take-le i ys (omega (arith, low_y)))) is
     ∙ ap (λ zs. front ++ in_turn zs (take i xs ++ get_or xs i e ∷ [])) (sym (take_more ys i d low_y)) ∙ ap (λ zs. front ++ in_turn (take (i + 1) ys) zs) (sym (take_more xs i e low_x))
 
--- .. of what they are mapped to
+-- .. of their images
 pub mapped_turn_done : {X Y : Type 0} (g f : X → Y) (front list once twice : List Y) (ys xs : List X) (i : ℕ) (d e : X) (y x : Y) → i < length ys → i < length xs → list ≡ front ++ in_turn (map g (take i ys)) (map f (take i xs)) →
     once ≡ list ++ y ∷ [] → y ≡ g (get_or ys i d) → twice ≡ once ++ x ∷ [] → x ≡ f (get_or xs i e) → twice ≡ front ++ in_turn (map g (take (i + 1) ys)) (map f (take (i + 1) xs))
 mapped_turn_done g f front list once twice ys xs i d e y x low_y low_x is first is_y second is_x =
@@ -71,7 +71,7 @@ length-glued own xs ys e =
     let d = length-in_turn ys (drop own xs) c in
     omega (arith, a, b, c, d, e)
 
--- all elements of a list, that stand somewhere else from a number on
+-- all elements of a list, which a function has from a number on
 first_are : {X : Type 0} (f : ℕ × ℕ → Option X) (i k n : ℕ) (xs : List X) → n ≤ length xs → ((j : ℕ) → f (i, k + j) ≡ slice_get xs j) → map (λ t. Some t) (take n xs) ≡ map f (ends_of i k n)
 first_are f i k zero xs low h = refl
 first_are f i k (suc n) [] low h = absurd (omega (arith, low))

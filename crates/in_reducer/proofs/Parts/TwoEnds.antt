@@ -8,10 +8,6 @@ use Rattle.in_cells.specs.Laws.{ends_of}
 use Rattle.in_reducer.specs.Parting.{by_turns, ends_of_two, place_of_two}
 use Rattle.in_cells.proofs.Public.{length-ends_of, ends_there, past_first}
 
--- ---- lists
-
--- what stands in the second of two lists
--- lists with the same elements at the same places are one
 -- ---- the two lists
 
 length-by_turns : (own j w : ℕ) → length (by_turns own j w) ≡ w + w
@@ -44,7 +40,7 @@ many_of_two own cuts =
 after_own : (own cuts k : ℕ) → slice_get (ends_of_two own cuts) (own + k) ≡ slice_get (by_turns own 0 cuts) k
 after_own own cuts k = ap (λ (z : ℕ). slice_get (ends_of_two own cuts) (z + k)) (sym (length-ends_of 0 0 own)) ∙ past_first (ends_of 0 0 own) (by_turns own 0 cuts) k
 
--- those that were there before the cuts
+-- the free ends from before the cuts
 pub own_of_two : (own cuts k : ℕ) → k < own → slice_get (ends_of_two own cuts) k ≡ Some (0, k)
 own_of_two own cuts k l =
     kept_at (ends_of 0 0 own) (by_turns own 0 cuts) k (0, k)
@@ -57,7 +53,7 @@ first_of_two own cuts j l = after_own own cuts (j + j) ∙ first_by_turns own 0 
 pub second_of_two : (own cuts j : ℕ) → j < cuts → slice_get (ends_of_two own cuts) (own + suc (j + j)) ≡ Some (0, own + j)
 second_of_two own cuts j l = after_own own cuts (suc (j + j)) ∙ second_by_turns own 0 cuts j l ∙ ap (λ (z : ℕ). let p : ℕ × ℕ = (0, own + z) in Some p) (let z : 0 + j ≡ j = omega arith in z)
 
--- which free end of the whole that one is, by its part and its number there
+-- the free end of the whole, by its part and its number there
 pub data OneOfTwo (own cuts k i e : ℕ) : Type 0 where
   of_own : k < own → i ≡ 0 → e ≡ k → OneOfTwo own cuts k i e
   of_first : (j : ℕ) → j < cuts → k ≡ own + (j + j) → i ≡ 1 → e ≡ j → OneOfTwo own cuts k i e

@@ -1,4 +1,4 @@
--- What an accepted program's net and rules are: over its tables, with an agent at each number, a right member without an active pair, and
+-- An accepted program's net and rules are over its tables, with an agent at each number, a right member without an active pair, and
 -- one rule for each pair.
 use Rattle.std.proofs.Common.{◌≡◌, ℕ, List, Option, Some, slice_get, refl, sym, ap, subst, inl, ◌∙◌}
 use Rattle.std.specs.Prelude.{option_map}
@@ -74,7 +74,7 @@ module _ (text : List ℕ) (p : Program) (accepted : IsAccepted text p) where
     pub rule_over_at : (t : Tables) → t ≡ p.tables → IsRuleOver t r
     rule_over_at t e = subst (λ (t : Tables). IsRuleOver t r) (sym e) rule_over
 
-  -- the rule of two agents is one
+  -- two agents have one rule
   pub one_rule : (q : PlainParts) (a b : AgentNo) (j k : ℕ) (r s : RuleParts) → q.program ≡ p → IsRuleAt q a b j r → IsRuleAt q a b k s → r ≡ s
   one_rule q a b j k r s e x y = same_Some r s (sym stands ∙ ap (λ i. slice_get q.program.rules i) number ∙ y.stands)
     where

@@ -34,7 +34,7 @@ are_tools x a room placed fits none made points = record {
   points = points;
 }
 
--- one free end more leads where its joint does
+-- one more free end leads where its joint does
 pub one_more_end : (ns : List CellNo) (joints : List Joint) (k : ℕ) (j : Joint) (es : List End) (v : End) → slice_get joints k ≡ Some j → k < length es → v ≡ inner_of ns 0 j →
     take k es ≡ map (inner_of ns 0) (take k joints) → take (k + 1) (set es k v) ≡ map (inner_of ns 0) (take (k + 1) joints)
 one_more_end ns joints k j es v stands low is before =
@@ -42,7 +42,7 @@ one_more_end ns joints k j es v stands low is before =
 
 -- ---- free ends
 
--- what holds of each holds of one more
+-- a property of each element, and of one more
 pub each_push : {X : Type 0} (P : X → Type 0) (xs : List X) (x : X) → ((j : ℕ) (y : X) → slice_get xs j ≡ Some y → P y) → P x → (j : ℕ) (y : X) → slice_get (xs ++ x ∷ []) j ≡ Some y → P y
 each_push P [] x each here zero y e = subst P (same_Some x y e) here
 each_push P [] x each here (suc j) y e = cc

@@ -24,7 +24,7 @@ use Rattle.in_reducer.specs.Starts.{IsStart}
 use Rattle.in_reducer.proofs.Starts.StartNet.{cells_after, few_joints, is_start, net_in_cells, none_after, own_many}
 use Rattle.in_reducer.proofs.Starts.Started.{start_reducer}
 
--- what is read as the start is the member of the program's net
+-- the start that is read is the member of the program's net
 pub member_is : (p : Program) (ts : TemplatesParts) (m : MemberParts) → AreTemplatesOf p ts → m ≡ ts.start → IsMemberOf p.tables p.net m
 member_is p ts m of e = subst (IsMemberOf p.tables p.net) (sym e) of.start
 

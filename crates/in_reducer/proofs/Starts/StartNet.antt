@@ -1,4 +1,4 @@
--- A program's net that is placed in an empty arena: what the cells show is the net under other numbers.
+-- A program's net that is placed in an empty arena: the cells show the net under other numbers.
 use Rattle.std.proofs.Common.{◌≡◌, ◌⊎◌, inl, inr, ◌<◌, ◌≤◌, ◌+◌, ◌*◌, ℕ, zero, suc, cond, Option, Some, None, List, length, map, take, replicate, get_or, slice_get, refl, sym, ap, subst, ◌∙◌, arith}
 use Rattle.std.specs.Prelude.{option_map, IsSomeAnd}
 use Rattle.std.proofs.lemmas.List.{length-map, length-replicate}
@@ -187,7 +187,7 @@ module _ (text : List ℕ) (p : Program) (accepted : IsAccepted text p) (m : Mem
             let there : word_of (state_at b y) ≡ Some x.0.symbol.0 = ap (λ (z : ℕ). word_of (state_at b z)) (sym x.2) ∙ ap word_of (laid.stands_there p.tables p.net over m of ns a b put at.0 x.0 x.1) in
             (at.0, x.2, laid.symbol_of p.tables p.net over m of at.0 x.0 x.1 ∙ sym there ∙ w)
 
-    -- a place at which an end stands is one of an agent
+    -- a place that has an end is one of an agent
     whose_place : (y i : ℕ) (e : End) → end_at (state_at b y) i ≡ Some e → (k : ℕ) × (named ns k ≡ y) × IsPoint (signature_of p.tables) (net_of p.net) (Port k i)
     whose_place y i e h = go (in_or_out ns y)
       where

@@ -21,7 +21,7 @@ use Rattle.in_reducer.proofs.Numbers.SameStep.{pair_moved}
 use Rattle.in_reducer.proofs.Starts.Started.{symbol_moved}
 use Rattle.in_reducer.proofs.Steps.StepsOn.{can_at, inside_at, net_at}
 
--- what stood behind the first one stands one place before
+-- an element behind the first one moves to the place before
 moved_up : {X : Type 0} (xs ys : List X) (i : ℕ) (x : X) → slice_get xs (suc i) ≡ Some x → slice_get (remove xs 0 ++ ys) i ≡ Some x
 moved_up [] ys i x e = cc
 moved_up (y ∷ xs) ys i x e = kept_at xs ys i x e
@@ -51,7 +51,7 @@ module _ (m n : MachineParts) (h : IsReducer m) (s : StepsAt m 0 n) where
         two = symbols.1;
       }
 
--- .. also where the interaction is one up to numbers
+-- .. also if the interaction is one up to numbers
 pub heads_stay_same : (m n : MachineParts) → IsReducer m → StepsUpToNumbers m 0 n → (i : ℕ) (x : SymbolNo × SymbolNo) → HasHeadsAt m (suc i) x → HasHeadsAt n i x
 heads_stay_same m n h (s, (f, same), step) i x at = heads_stay s n (reducer_same m s h f same) step i x (record {
   pair = both f at.pair;
@@ -84,7 +84,7 @@ goes_on m n h s a behind = record { next = behind.next; long = behind.long; head
 
 -- ---- one after another
 
--- what holds of the first n holds of one more
+-- a property of the first n elements, and of one more
 pub each_set : {X : Type 0} (P : ℕ → X → Type 0) (xs : List X) (n : ℕ) (v : X) → ((k : ℕ) (x : X) → k < n → slice_get xs k ≡ Some x → P k x) → P n v → (k : ℕ) (x : X) → k < n + 1 → slice_get (set xs n v) k ≡ Some x → P k x
 each_set {X} P xs n v each here k x low at = go (cases_eq k n)
   where

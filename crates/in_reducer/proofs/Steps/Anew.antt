@@ -1,4 +1,4 @@
--- Where a pair to which no wire leads back is retired, and new agents are begun then, also in its cells, the wires can be written: as in the
+-- If a pair to which no wire leads back is retired, and then new agents are begun, also in its cells, the wires can be written: as in the
 -- net in which the pair has numbers of no cell.
 use Rattle.std.proofs.Common.{◌≡◌, ◌≢◌, ◌⊎◌, inl, inr, ◌<◌, ◌≤◌, ℕ, Option, Some, None, List, length, map, slice_get, refl, sym, ap, subst, ◌∙◌, arith}
 use native.Mathlib.Decide.{ℕ_discrete}
@@ -84,7 +84,7 @@ module _ (t : Tables) (s : PairSetting) (p : TemplateParts) (pair : Pair) (own :
       let two = set.two in
       ((λ e. omega (arith, low, many, one, e)), (λ e. omega (arith, low, many, two, e)))
 
-  -- where an agent stands that stays, no new one was begun
+  -- no new agent was begun in the cell of an agent that stays
   stays_out : (y z : ℕ) → y ≢ s.one.0 → y ≢ s.two.0 → (net_of s.net).symbol y ≡ Some z → (k : ℕ) → slice_get ns k ≡ Some (record { 0 = y }) → ⊥
   stays_out y z g h e k at =
       let a = laid.begun_whose t s.rule.member about.member_over p.member about.template.member ns (retired pair old) now begun k y at in
@@ -114,7 +114,7 @@ module _ (t : Tables) (s : PairSetting) (p : TemplateParts) (pair : Pair) (own :
   abbrev IsAgent : ℕ → ℕ → Type 0
   IsAgent y z = ((y ≢ f s.one.0) × (y ≢ f s.two.0) × ((net_of n).symbol y ≡ Some z)) ⊎ ((k : ℕ) × (x.name k ≡ y) × (m.symbol k ≡ Some z))
 
-  -- the cells of the pair hold nothing that isn't new
+  -- a cell that is live once the pair is retired has an agent of the net that isn't the pair
   stood_before : (y z : ℕ) → word_of (state_at (retired pair old) y) ≡ Some z → (y ≢ s.one.0) × (y ≢ s.two.0) × ((net_of s.net).symbol y ≡ Some z)
   stood_before y z w =
       let not_one : y ≢ s.one.0 = (λ e. (let v : None ≡ Some z = sym (ap word_of (ap (state_at (retired pair old)) e ∙ one_gone)) ∙ w in cc)) in
@@ -171,7 +171,7 @@ module _ (t : Tables) (s : PairSetting) (p : TemplateParts) (pair : Pair) (own :
       let w = (sides_are_apart sig (before x) (redex_of x) x.name can).side r.0 (about.inside.points r.0 q (about.inside.back q r.0 r.1)) in
       (w.0, (q, r.0, r.1, at, w.1))
 
-  -- what leads to the pair is a side
+  -- a point that leads to the pair is a side
   leads_out : (u v : Point ℕ) → (net_of n).partner u ≡ Some v → (IsOfPair (redex_of x) u → ⊥) → (IsSideAfter t x u → ⊥) → IsOfPair (redex_of x) v → ⊥
   leads_out u v wire away none of =
       elim (outer_next sig (net_of n) (redex_of x) x.name set.net about.inside set.redex can.naming ℕ_discrete u v wire (λ e. away (subst (IsOfPair (redex_of x)) (sym e) (inl refl))) (λ e. away (subst (IsOfPair (redex_of x)) (sym e) (inr refl)))) [

@@ -28,7 +28,7 @@ module _ (r : Body) (k : KeepsNet r) (i : ℕ) (p : TemplateParts) (at : IsTempl
     λ c. (let l = settled.there_was_room p.member sound d.cells r.arena b put k.net.all c in let e = free_is (at_rest r.arena) c in omega (arith, l, e)),
   )
 
-  -- .. with tools that tell its cells
+  -- .. with tools that have the numbers of its cells
   pub stands_beside : (x : Tools) → x.placed.cells ≡ d.cells → StandsBeside (record { checked = r.checked; arena = b; free = r.free; ends = r.ends; queue = r.queue; tools = x }) r.arena i p
   stands_beside x cells = record {
     net = record { reducer = k.reducer; net = k.net; few = k.few; few_free = k.few_free; free = k.free; ends = k.ends; queue = k.queue };

@@ -1,4 +1,4 @@
--- Where new agents are begun beside a pair to which no wire leads back, and the pair is retired, the wires can be written.
+-- If new agents are begun beside a pair to which no wire leads back, and the pair is retired, the wires can be written.
 use Rattle.std.proofs.Common.{◌≡◌, ◌≢◌, ◌⊎◌, ◌↔◌, inl, inr, ◌<◌, ◌≤◌, ℕ, suc, Option, Some, None, List, length, map, slice_get, refl, sym, ap, subst, ◌∙◌, arith}
 use native.Mathlib.Decide.{ℕ_discrete}
 use Rattle.std.specs.Prelude.{IsSomeAnd, IsTrue}
@@ -68,7 +68,7 @@ module _ (t : Tables) (s : PairSetting) (p : TemplateParts) (pair : Pair) (own :
   still (Free k) v w =
       sym (take_at own k ends (let l : k < length (net_of s.net).free = about.net.points (Free k) v w in let o = own_is in omega (arith, l, o))) ∙ read.stood t s p pair own old ends about (Free k) v w
 
-  -- a side of a boundary end is what the pair's port there leads to
+  -- the partner of the pair's port at a boundary end is a side of that end
   port_stands : (e : ℕ) (u : Point ℕ) → IsSideOf t x (Free e) u → end_there now (port_at pair e) ≡ Some (end_of u)
   port_stands e u side =
       read.port_stands t s p pair own old ends about now e u (still (Port (end_agent (signature_of t) (redex_of x) e) (end_place (signature_of t) (redex_of x) e)) u side)

@@ -69,7 +69,7 @@ module _ (r : Body) (a : ArenaView) (i : ℕ) (p : TemplateParts) (sb : StandsBe
     is_all_own : own ≡ length (own_free (over a r))
     is_all_own = own_is own is_own
 
-    -- what is left of the queue, the pairs made and those of the member fit the queue
+    -- the rest of the queue, the pairs made and those of the member fit the queue
     pub lengths : length (remove r.queue.items i) + length made + length p.member.pairs ≤ r.queue.room
     lengths = stepped.lengths (over a r) sb.net i p sb.at sb.room own is_all_own ns b es made did net all_cells long
 

@@ -104,7 +104,7 @@ module _ (t : Tables) (n : Parts) (over : IsOver t n) (m : MemberParts) (of : Is
       let same : arity_of t c.0.symbol.0 ≡ arity_of t a.symbol.0 = ap (λ (s : SymbolNo). arity_of t s.0) (sym c.2) in
       omega (arith, ends, long, same)
 
-  -- a joint where a wire leads to another agent's port, or to a boundary end
+  -- the joint of a wire that leads to another agent's port, or to a boundary end
   joint_by : (q : coded.Point) (v : Point ℕ) → (net_of n).partner (point_of q) ≡ Some v → (p : coded.Point) × (joint_at m (joint_of q) ≡ Some (joint_of p)) × (point_of p ≡ v)
   joint_by (code.Port x i) v e = let p = point_there (partner_in n (code.Port x i)) v e in (p.0, of.joints (code.Port x i) ∙ ap (option_map joint_of) p.1, p.2)
   joint_by (code.Free k) v e = let p = point_there (partner_in n (code.Free k)) v e in (p.0, of.joints (code.Free k) ∙ ap (option_map joint_of) p.1, p.2)
@@ -175,6 +175,6 @@ module _ (t : Tables) (n : Parts) (over : IsOver t n) (m : MemberParts) (of : Is
     pub wire_there : (k i l j : ℕ) → (net_of n).partner (Port k i) ≡ Some (Port l j) → end_at (state_at new (named ns k)) i ≡ Some (end_of (Port (named ns l) j))
     wire_there k i l j e = by_joint k i (ToAgent l j) (slice_get m.agents k) refl (inner_joint k i l j e)
 
-    -- at a place that leads to a boundary end stands its number
+    -- a place that leads to a boundary end holds the end's number
     pub end_number_there : (k i e : ℕ) → joint_at m (ToAgent k i) ≡ Some (ToBoundary e) → end_at (state_at new (named ns k)) i ≡ Some (end_in ns (ToBoundary e))
     end_number_there k i e h = by_joint k i (ToBoundary e) (slice_get m.agents k) refl h

@@ -1,4 +1,4 @@
--- The next wire of a right member: where its sides are read.
+-- The next wire of a right member, and the places from which its sides are read.
 use Rattle.std.proofs.Common.{◌≡◌, ◌<◌, ◌+◌, ℕ, List, length, map, slice_get, Some, refl, ap, subst, ◌∙◌, inl, inr, arith}
 use Rattle.std.proofs.lemmas.List.{length-map}
 use Rattle.std.proofs.lemmas.Option.{slice_get-map, slice_get_within}
@@ -33,7 +33,7 @@ module _ (t : Tables) (s : PairSetting) (p : TemplateParts) (own : ℕ) (ns : Li
   abbrev over : List (Point ℕ × Point ℕ)
   over = map (λ w. (Free w.0, w.1)) (map over_point (over_of p.member))
 
-  -- where the side of a joint is read
+  -- the place from which the side of a joint is read
   pub record IsReadAt (j : Joint) : Type 0 where
     pub side : Point ℕ
     pub is_side : IsSideOf t x (point_at j) side

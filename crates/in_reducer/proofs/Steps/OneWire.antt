@@ -47,7 +47,7 @@ module _ (t : Tables) (s : PairSetting) (p : TemplateParts) (own : ℕ) (ns : Li
   unfolding can_read
   is_read j r slot place is_slot is_place result read = let c = can_read j r slot place is_slot is_place in read c.0 c.1 c.2 c.3
 
-  -- at a boundary end's point it stands itself
+  -- at a boundary end's point the side is the point itself
   pub is_outer : (e : ℕ) (r : Read (ToBoundary e)) (n : ℕ) → n ≡ e → (result : End) → result ≡ slice_index_or points n result → result ≡ end_of r.side
   is_outer e r n same result read = read ∙ get_or_from_slice_get points n r.point result (ap (slice_get points) same ∙ r.stands) ∙ itself r.at
     where

@@ -20,7 +20,7 @@ module _ (p : Program) (n : Parts) (promised : IsAsPromised (system_of p) (net_o
     | inr h ↦ inr h.0
   ]
 
-  -- where the first is a constructor, it is first
+  -- if the first is a constructor, it is first
   pub stands : is_constructor p.tables c.0 ≡ true → StandsFirst p.tables c d a b
   stands e = elim matched [
     | inl m ↦ inl (e, m.1)
@@ -33,7 +33,7 @@ module _ (p : Program) (n : Parts) (promised : IsAsPromised (system_of p) (net_o
     | inr m ↦ inl (m.0, e)
   ]
 
-  -- .. and what stands first is one
+  -- .. and the agent that is first is a constructor
   pub constructs : StandsFirst p.tables c d a b → is_constructor p.tables c.0 ≡ true
   constructs (inl h) = h.0
   constructs (inr h) = elim matched [

@@ -56,7 +56,7 @@ module _ (ns : List CellNo) (n : CellNo) (points : List End) (x : ℕ) (here : l
 pub none_read : (a : ArenaView) (c : CellNo) (first : ℕ) (points : List End) → HasPortsIn a c first first points points
 none_read a c first points = record { read = λ e low high. absurd (omega (arith, low, high)); others = λ k out. λ i. slice_get points k; long = λ i. length points }
 
--- one port more is read
+-- one more port is read
 pub one_more_read : (a : ArenaView) (c : CellNo) (first x : ℕ) (old points : List End) (v : End) → HasPortsIn a c first x old points → first ≤ x → x < length points → end_at (state_at a c.0) (suc (x - first)) ≡ Some v
     → HasPortsIn a c first (x + 1) old (set points x v)
 one_more_read a c first x old points v h order low is = record {
@@ -96,7 +96,7 @@ both_read a p many old middle new order one two = ((λ e l. read e l (nat_lt e p
 
 -- ---- wires
 
--- an element that is read of a list, which is this one
+-- the element that is read of a list is this one
 pub listed_at : {X : Type 0} (xs ys : List X) (k : ℕ) (x : X) → ys ≡ xs → k < length ys → x ≡ slice_index_or ys k x → slice_get xs k ≡ Some x
 listed_at {X} xs ys k x same low is = ap (λ (zs : List X). slice_get zs k) (sym same) ∙ slice_get_read ys (length ys) k x refl low is
 

@@ -46,7 +46,7 @@ module _ (pair : Pair) (a : ArenaView) (live : AreLive pair a) (differ : pair.on
       ∙ get_or-set_other a.states pair.one.0 y Vacant Leased f
 
 module _ (t : Tables) (s : PairSetting) (p : TemplateParts) (pair : Pair) (own : ℕ) (old : ArenaView) (ends : List End) (about : IsAbout t s p pair own old ends) where
-  -- what stands at a point of the net
+  -- the end at a point of the net
   pub stood : (u v : Point ℕ) → (net_of s.net).partner u ≡ Some v → stands_at old (take own ends) u ≡ Some (end_of v)
   stood u v w = go (stands_at old (take own ends) u) (sym (about.shown.wires u) ∙ w)
     where
@@ -80,7 +80,7 @@ module _ (t : Tables) (s : PairSetting) (p : TemplateParts) (pair : Pair) (own :
           let m = most (n - 1) (let z : n - 1 < n = omega (arith, l) in z) in
           omega (arith, l, m)
 
-  -- what the cells have at the port of a boundary end
+  -- the end at the port of a boundary end
   pub port_stands : (c : ArenaView) (e : ℕ) (u : Point ℕ)
       → stands_at c ends (Port (end_agent (signature_of t) (redex_at s.rule s.one.0 s.two.0) e) (end_place (signature_of t) (redex_at s.rule s.one.0 s.two.0) e)) ≡ Some (end_of u) → end_there c (port_at pair e) ≡ Some (end_of u)
   port_stands c e u stands = at_port (nat_lt e (arity_of t s.rule.heads.0.0)) (port_is pair (arity_of t s.rule.heads.0.0) s.one.0 s.two.0 about.one about.two (about.first_ends ∙ about.template.first_ends) e) stands
@@ -95,7 +95,7 @@ module _ (t : Tables) (s : PairSetting) (p : TemplateParts) (pair : Pair) (own :
   pub pair_differs : pair.one.0 ≢ pair.other.0
   pair_differs e = about.redex.differ (sym about.one ∙ e ∙ about.two)
 
-  -- where the pair stands, it is live and its ports can be read
+  -- if the pair's cells are as before, they are live and their ports can be read
   module _ (now : ArenaView) (one : state_at now pair.one.0 ≡ state_at old pair.one.0) (other : state_at now pair.other.0 ≡ state_at old pair.other.0) where
     one_symbol : (net_of s.net).symbol pair.one.0 ≡ Some s.rule.heads.0.0
     one_symbol = ap (net_of s.net).symbol about.one ∙ about.redex.one

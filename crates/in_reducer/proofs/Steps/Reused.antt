@@ -144,7 +144,7 @@ module _ (r : Body) (k : KeepsNet r) (i : ℕ) (p : TemplateParts) (at : IsTempl
     two = (let e = moved.1.two in omega (arith, e));
   }
 
-  -- ---- what the interaction owes
+  -- ---- the results of the interaction
 
   module _ (room : HasRoomAt m i) (none : NoneLeased r.arena) (all : HasAllCells r.arena) (pair : Pair) (own : ℕ) (ends : List End) (tables : Tables) (is_tables : tables ≡ t) (about : IsAbout tables setting p pair own r.arena ends) where
     pub can_wire_anew : IsTrue p.unmarked → (points : List End) → most_points ≤ length points → CanWireAnew tables p pair r.arena ends points

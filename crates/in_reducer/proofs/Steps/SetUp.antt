@@ -1,4 +1,4 @@
--- Where the right member is put beside an active pair, the sides of the boundary ends are set and the pair is retired, joining can begin.
+-- Once the right member is put beside an active pair, the sides of the boundary ends are set and the pair is retired, joining can begin.
 use Rattle.std.proofs.Common.{◌≡◌, ◌≢◌, ◌⊎◌, inl, inr, ◌<◌, ◌≤◌, ◌+◌, ◌-◌, ℕ, suc, Bool, true, false, cond, nat_eq, nat_lt, Option, Some, None, List, length, slice_get, refl, sym, ap, subst, ◌∙◌, get_or-set_same, get_or-set_other, arith}
 use Rattle.std.specs.Prelude.{option_map, IsSomeAnd}
 use Rattle.std.proofs.lemmas.Bool.Decides.{eqb_tells, nat_tests}
@@ -38,7 +38,7 @@ use Rattle.in_reducer.specs.Sides.{AreSetBelow, HasJoint, HasPort, end_there, in
 use Rattle.in_reducer.proofs.Steps.Laid as laid
 use Rattle.in_reducer.proofs.Steps.Laid.{in_or_out}
 
--- the net's own agents still stand
+-- the cells of the net's own agents are as before
 abbrev pub AgentsStay : Net ℕ → ArenaView → ArenaView → Type 0
 AgentsStay n old new = (y s : ℕ) → n.symbol y ≡ Some s → state_at new y ≡ state_at old y
 
@@ -118,7 +118,7 @@ module _ (t : Tables) (s : PairSetting) (p : TemplateParts) (pair : Pair) (own :
     pub is_with : IsWith t (interaction_of s ns) own (length p.member.joints)
     is_with = begun_with ns put begun
 
-    -- ---- the pair still stands
+    -- ---- the pair is still live
 
     pub stays : AgentsStay (net_of s.net) old put
     stays = begun_stays ns put begun
@@ -138,7 +138,7 @@ module _ (t : Tables) (s : PairSetting) (p : TemplateParts) (pair : Pair) (own :
     pub other_live : IsLive (state_at (changed put pair.one.0 Vacant) pair.other.0)
     other_live = subst IsLive (sym (get_or-set_other put.states pair.one.0 pair.other.0 Vacant Leased (λ e. differ (sym e)))) two_live
 
-    -- a boundary end's port, as it stands
+    -- a boundary end's port has the end of before
     port_stays : (e : ℕ) → end_there put (port_at pair e) ≡ end_at (state_at old (end_agent (signature_of t) (redex_at s.rule s.one.0 s.two.0) e)) (end_place (signature_of t) (redex_at s.rule s.one.0 s.two.0) e)
     port_stays e = go (nat_lt e (arity_of t s.rule.heads.0.0)) (port_is pair (arity_of t s.rule.heads.0.0) s.one.0 s.two.0 about.one about.two first_is e)
       where
@@ -246,7 +246,7 @@ module _ (t : Tables) (s : PairSetting) (p : TemplateParts) (pair : Pair) (own :
               go None is h = absurd h
               go (Some x) is h = (x, is)
 
-      -- what an end at an outer side is there
+      -- the end at an outer side
       outer_is : (w : End) (v : Point ℕ) → IsOuterAt (signature_of t) (net_of s.net) (redex_at s.rule s.one.0 s.two.0) (shown.point_of w) v → outer_of pair own w ≡ end_of v
       outer_is (end.Free k) v h = ap end_of (sym h)
       outer_is (end.Cell c i) v (inl h) =

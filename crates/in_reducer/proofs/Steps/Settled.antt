@@ -52,7 +52,7 @@ rested_none (Leased ∷ xs) zero l e = refl
 rested_none (Live w es ∷ xs) zero l e = absurd (let f : Some w ≡ None = e in cc)
 rested_none (x ∷ xs) (suc n) l e = rested_none xs n (omega (arith, l)) e
 
--- how many more of a class one cell more makes
+-- the number that one more cell adds to a class
 one_more : (c d : CellClass) (before after : ℕ) → (c ≡ d → before + 1 ≡ after) → ((c ≡ d → ⊥) → before ≡ after) → cond (nat_eq (class_no d) (class_no c)) 1 0 + before ≡ after
 one_more Small Small before after same other = let e = same refl in omega (arith, e)
 one_more Small Large before after same other = let f = other (λ e. (let g : class_no Small ≡ class_no Large = ap class_no e in omega (arith, g))) in omega (arith, f)
@@ -87,7 +87,7 @@ they_fit a all (x ∷ xs) (n ∷ ns) count each once c =
         let there = each (suc k) y m e f in
         (there.0, get_or-set_other a.states n.0 m.0 Leased Leased (λ same. (let g = once (suc k) 0 m f (ap (λ (z : ℕ). Some (record { 0 = z })) (sym same)) in omega (arith, g))) ∙ there.1)
 
--- where a right member is beside its pair, there was room for it
+-- if a right member is beside its pair, there was room for it
 module _ (m : MemberParts) (sound : IsSoundMember m) (ns : List CellNo) (a b : ArenaView) (put : IsPut m ns a b) (all : HasAllCells (at_rest a)) where
   rested_there : (k : ℕ) (x : AgentParts) (n : CellNo) → slice_get m.agents k ≡ Some x → slice_get ns k ≡ Some n → IsNumberOf a.cells x.class n.0 × (state_at (at_rest a) n.0 ≡ Vacant)
   rested_there k x n e f =

@@ -33,7 +33,7 @@ module _ (a : ArenaView) (p : Pair) (e : ℕ) (port : HasPort a p e) (q : CellNo
     pub not_other : u ≢ Cell p.other 0
     not_other f = port.other (sym same ∙ f)
 
-    -- the outer side is that of what is read there
+    -- the outer side is that of the end that is read there
     pub outer_read : (from : ℕ) (w : End) → w ≡ outer_of p from u → Some w ≡ option_map (outer_of p from) (end_there a (port_at p e))
     outer_read from w f = ap (λ (z : End). Some z) f ∙ ap (option_map (outer_of p from)) (sym read ∙ ap (end_there a) is)
 

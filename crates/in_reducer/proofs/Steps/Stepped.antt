@@ -135,7 +135,7 @@ module _ (r : Body) (k : KeepsNet r) (i : ℕ) (p : TemplateParts) (at : IsTempl
     room = room_there own is_own ends is_ends;
   })
 
-  -- what the pair needs is what the template does
+  -- the pair's need is the template's
   pub same_need : (x : Need) → NeedsAt (reducer_view r) i x → (c : CellClass) → count_of x c ≡ count_of p.member.need c
   same_need x needs c =
       let pair : needs.pair ≡ at.pair = same_Some needs.pair at.pair (sym needs.stands ∙ at.stands) in
@@ -154,7 +154,7 @@ module _ (r : Body) (k : KeepsNet r) (i : ℕ) (p : TemplateParts) (at : IsTempl
       let e = free_at_rest none c in
       omega (arith, a, l, e)
 
-  -- the pairs of the right member are of its agents, of which there are so many
+  -- the pairs of the right member are of its agents, whose number is n
   pub pairs_there : (n : ℕ) → n ≡ length p.member.agents → (j : ℕ) (q : ℕ × ℕ) → slice_get p.member.pairs j ≡ Some q → (q.0 < n) × (q.1 < n)
   pairs_there n many j q e =
       let active = at.template.member.pairs.pairs.pairs j q e in

@@ -1,4 +1,4 @@
--- An interaction of a reducer leaves a reducer, however the new agents are numbered.
+-- An interaction of a reducer leads to a reducer, under any numbers of the new agents.
 use Rattle.std.proofs.Common.{◌≡◌, ◌+◌, ℕ, suc, Some, List, ◌++◌, map, remove, slice_get, refl, sym, ap, subst, ◌∙◌}
 use Rattle.in_typing.specs.TypedNets.{IsTypedNet}
 use Rattle.in_net.specs.declared.nets.AgentNo.{AgentNo}
@@ -107,7 +107,7 @@ module _ (m o : MachineParts) (i : ℕ) (h : IsReducer m) (s : StepsAt m i o) wh
 pub steps_keep_reducers : StepsKeepReducers
 steps_keep_reducers m o i h s = (reducer_on m o i h s, (steps_on m o i h s).1)
 
--- the rule of a pair is one
+-- a pair has one rule
 pub same_rule : (m : MachineParts) → IsReducer m → (p q : ℕ × ℕ) (j k : ℕ) (r s : RuleParts) → p ≡ q → IsRuleAt (plain_of m) (agents_at p).0 (agents_at p).1 j r → IsRuleAt (plain_of m) (agents_at q).0 (agents_at q).1 k s → r ≡ s
 same_rule m h p q j k r s e x y =
     one_rule h.accepted.0 m.program h.accepted.1 (plain_of m) (agents_at q).0 (agents_at q).1 j k r s refl (subst (λ (z : ℕ × ℕ). IsRuleAt (plain_of m) (agents_at z).0 (agents_at z).1 j r) e x) y

@@ -25,7 +25,7 @@ use Rattle.in_reducer.proofs.Cells.AtRest as rest
 use Rattle.in_reducer.proofs.Steps.Laid as laid
 use Rattle.in_reducer.proofs.Steps.Laid.{in_or_out}
 
--- what a cell is, as far as this asks
+-- a live cell is of the class for its symbol
 abbrev pub IsGood : Tables → ArenaView → ℕ → State → Type 0
 IsGood t a n x = (c : CellClass) (s : ℕ) → IsNumberOf a.cells c n → word_of x ≡ Some s → is_of t c s ≡ true
 
@@ -65,7 +65,7 @@ module _ (t : Tables) (n : Parts) (over : IsOver t n) (m : MemberParts) (of : Is
           subst (λ (d : CellClass). is_of t d s ≡ true) one (subst (λ (z : ℕ). is_of t x.0.class z ≡ true) same (of.classes at.0 x.0 x.1))
           )
 
-  -- no cell is on lease where none was
+  -- no cell is on lease if none was
   pub begun_unleased : NoneLeased a → NoneLeased b
   begun_unleased none y low leased = none y (let e = begun.many in omega (arith, e, low)) (go (in_or_out ns y))
     where
@@ -133,13 +133,13 @@ module _ (a b : ArenaView) (kept : KeepsCells a b) where
     none = λ n low l. outline_leased (state_at a n) (sym (same_outline n) ∙ leased_outline (state_at b n) l);
   }
 
--- .. so too where cells are on lease as before
+-- .. so too if cells are on lease as before
 pub still_unleased : (a b : ArenaView) → AreLeasedAlike a b → NoneLeased a → NoneLeased b
 still_unleased a b alike none n low leased = let e = alike.many in none n (omega (arith, e, low)) (alike.none n (omega (arith, e, low)) leased)
 
 -- ---- bags
 
--- what has no cell is of each arena in that memory
+-- a bag without cells is one of each arena in that memory
 pub none_there : (b a c : ArenaView) → c.memory ≡ a.memory → c.cells ≡ a.cells → IsNoneOf b a → IsNoneOf b c
 none_there b a c memory cells h = (
   record {

@@ -92,7 +92,7 @@ module _ (m : MemberParts) (sound : IsSoundMember m) (pair : Pair) (old : ArenaV
         let more = more_free next pair.other.0 a.class all_next (live_inside next pair.other.0 other_live) in
         omega (arith, some, more)
 
-    -- the same where the other cell is free already
+    -- the same if the other cell is free already
     moved : BeginsAgent x (retired pair old) n.0 (changed next pair.other.0 Vacant)
     moved = begins (retired pair old) all_two x x.class refl x.symbol.0 (length x.ends) refl refl n.0 (changed next pair.other.0 Vacant) (record {
       at = b.at;

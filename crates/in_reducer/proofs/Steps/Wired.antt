@@ -33,7 +33,7 @@ use Rattle.in_reducer.specs.Wiring.{AddsInOrder, AreFirstWired, HasQueued, IsSid
 
 -- ---- lists
 
--- what the last one makes comes last
+-- the value of the last one comes last
 with_last : {W Q : Type 0} (Makes : W → Q → Type 0) (ws : List W) (qs : List Q) (w : W) (q : Q) → OneByOne Makes ws qs → Makes w q → OneByOne Makes (ws ++ w ∷ []) (qs ++ q ∷ [])
 with_last Makes ws qs w q of_none made = with_one w [] q [] made of_none
 with_last Makes ws qs w q (with_one v vs p ps one rest) made = with_one v (vs ++ w ∷ []) p (ps ++ q ∷ []) one (with_last Makes vs ps w q rest made)
@@ -44,7 +44,7 @@ without_last Makes ws qs w of_none none = without w [] [] none of_none
 without_last Makes ws qs w (with_one v vs p ps one rest) none = with_one v (vs ++ w ∷ []) p ps one (without_last Makes vs ps w rest none)
 without_last Makes ws qs w (without v vs ps nothing rest) none = without v (vs ++ w ∷ []) ps nothing (without_last Makes vs ps w rest none)
 
--- the place of what is among a list
+-- an element that is in a list has a place there
 pub at_among : {X : Type 0} (xs : List X) (x : X) → IsAmong x xs → (i : ℕ) × (slice_get xs i ≡ Some x)
 at_among {X} [] x h = absurd h
 at_among {X} (y ∷ ys) x (inl e) = (0, ap (λ (z : X). Some z) e)
@@ -76,7 +76,7 @@ module _ (t : Tables) (x : Interaction) (wires : List (Point ℕ × Point ℕ)) 
   once : (p u v : Point ℕ) → IsSideOf t x p u → IsSideOf t x p v → u ≡ v
   once = side_once sig (before x) (redex_of x) x.name can
 
-  -- a listed one is a wire
+  -- a listed wire is a wire
   is_wire : (j : ℕ) (p q : Point ℕ) → slice_get wires j ≡ Some (p, q) → m.partner p ≡ Some q
   is_wire j p q at = are.wire p q (among_at wires j (p, q) at)
 
@@ -205,7 +205,7 @@ module _ (t : Tables) (x : Interaction) (wires : List (Point ℕ × Point ℕ)) 
                 (λ same. out (u, (q, p, can.inside.back p q wire, subst (λ (v : Point ℕ). IsSideOf t x q v) (sym same) at_v, at_u)))
                 ∙ h.still w z f away out
 
-        -- ---- the pair that it makes, where it has a boundary end
+        -- ---- the pair that it makes, if it has a boundary end
 
         principal_point : (y : ℕ) (w : Point ℕ) → IsPrincipal y (end_of w) → w ≡ Port y 0
         principal_point y w f = sym (end_point w) ∙ ap point_of f
@@ -220,7 +220,7 @@ module _ (t : Tables) (x : Interaction) (wires : List (Point ℕ × Point ℕ)) 
           type_here : type_in sig m (Free e) ≡ Some (opposite declared.0)
           type_here = free_type sig m e declared.0 declared.1
 
-          -- an input is declared where the outer side is at the input of its wire
+          -- an input is declared if the outer side is at the input of its wire
           pair_made : (c d : ℕ) → IsPrincipal c (end_of u) → IsPrincipal d (end_of v) → IsMadeHere (agents_at (cond input (d, c) (c, d)))
           pair_made c d at_c at_d = go input declared.2
             where
@@ -266,7 +266,7 @@ module _ (t : Tables) (x : Interaction) (wires : List (Point ℕ × Point ℕ)) 
       (λ same. (let g : None ≡ Some (redex_of x).second = sym (can.naming.fresh k s f) ∙ ap (before x).symbol same ∙ can.redex.two in cc)),
     )
 
-    -- so nothing has the pair's numbers
+    -- so no agent has the pair's numbers
     none_of_pair : (y s : ℕ) → (y ≡ x.one.0) ⊎ (y ≡ x.two.0) → word_of (state_at a y) ≡ Some s → ⊥
     none_of_pair y s of w = go of ((h.symbols y s).0 w)
       where
@@ -306,7 +306,7 @@ module _ (t : Tables) (x : Interaction) (wires : List (Point ℕ × Point ℕ)) 
     gone (Port y i) of = nothing_stands (state_at a y) i (λ s. none_of_pair y s of)
     gone (Free k) of = absurd of
 
-    -- no wire at a point that has none, where it is no side
+    -- a point without a wire has none if it is no side
     none_stands : (u : Point ℕ) → (IsOfPair (redex_of x) u → ⊥) → (IsSide sig (before x) (redex_of x) x.name u → ⊥) → (before x).partner u ≡ None → option_map point_of (stands_at a (take own es) u) ≡ None
     none_stands (Free k) stays no_side none = go (slice_get (take own es) k) refl
       where

@@ -13,7 +13,7 @@ use Rattle.in_cells.specs.Cutting.{Shows}
 use Rattle.in_cells.proofs.JoinedInCells as cells
 use Rattle.in_cells.proofs.rejoining.join_last.Goals as goal
 
--- what is read at the two free ends
+-- the ends that are read at the two free ends
 module _ (sig : Signature) (own : ℕ) (a : ArenaView) (es : List End) (m : Net ℕ) (before : Shows sig (own + 2) a es m) (long : own + 2 ≤ length es) (one other : End) (one_read : one ≡ get_or es own one) (other_read : other ≡ get_or es (own + 1) other) where
   one_there : slice_get es own ≡ Some one
   one_there = slice_get-get_or es own one (omega (arith, long)) ∙ ap Some (sym one_read)
@@ -43,7 +43,7 @@ module _ (sig : Signature) (own : ℕ) (a : ArenaView) (es : List End) (m : Net 
     kept : KeepsCells a b
     kept = (cells.kept sig own a es m before long b bs written).0
 
--- of whatever two ends are there
+-- for any two ends there
 adds : (t : Tables) (b : ArenaView) (es : List End) (own : ℕ) (one other x y : End) (old new : List (ℕ × ℕ)) → slice_get es own ≡ Some one → slice_get es (suc own) ≡ Some other → slice_get es own ≡ Some x → slice_get es (suc own) ≡ Some y → AddsPair t b one other old new → AddsPair t b x y old new
 adds t b es own one other x y old new h k u v made =
     subst (λ (z : End). AddsPair t b x z old new) (same_Some other y (sym k ∙ v)) (subst (λ (z : End). AddsPair t b z other old new) (same_Some one x (sym h ∙ u)) made)

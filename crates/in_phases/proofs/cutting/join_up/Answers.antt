@@ -3,7 +3,7 @@ use Rattle.in_reducer.specs.Machines.{MachineParts}
 use Rattle.in_phases.proofs.Undoing.{CanUndo, IsCutAndReduced, all_undone, can_undo}
 use Rattle.in_phases.proofs.cutting.join_up.Goals as goal
 
--- the count of cuts that are left
+-- the number of cuts that are left
 one_left : (m now : MachineParts) (cuts i k : ℕ) → i < cuts → IsCutAndReduced m (cuts - i) k now → CanUndo m (cuts - (i + 1)) k now
 one_left m now cuts i k low h = can_undo m now (cuts - (i + 1)) k (subst (λ (z : ℕ). IsCutAndReduced m z k now) (let z : cuts - i ≡ suc (cuts - (i + 1)) = omega (arith, low) in z) h)
 

@@ -17,7 +17,7 @@ use Rattle.in_reducer.proofs.wiring.wire_anew.Goals as goal
 begun_there : (m n : MemberParts) (ns : List CellNo) (a b : ArenaView) → m ≡ n → HasBegun m ns a b → HasBegun n ns a b
 begun_there m n ns a b same h = subst (λ (m : MemberParts). HasBegun m ns a b) same h
 
--- what was read at the boundary ends still is there
+-- the ends that were read at the boundary ends are still there
 read_still : (a : ArenaView) (p : Pair) (many joints : ℕ) (middle points : List End) → many ≡ joints → joints ≤ most_ends → ((e : ℕ) → e < many → slice_get middle e ≡ end_there a (port_at p e))
     → ((e : ℕ) → e < most_ends → slice_get points e ≡ slice_get middle e) → (e : ℕ) → e < joints → slice_get points e ≡ end_there a (port_at p e)
 read_still a p many joints middle points is few read stay e low = stay e (let l : e < most_ends = omega (arith, low, few) in l) ∙ read e (let l : e < many = omega (arith, low, is) in l)

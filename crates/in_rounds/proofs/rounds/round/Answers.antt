@@ -10,7 +10,7 @@ use Rattle.in_machine.proofs.Public.{along}
 use Rattle.in_rounds.proofs.Rounded.{rounds_end}
 use Rattle.in_rounds.proofs.rounds.round.Goals as goal
 
--- what is kept, whether the round was done or not
+-- the properties that are kept, by a round or without one
 kept : {E : Type 0} (m n : MachineParts) (ts : TemplatesParts) (budget : ℕ) (o : Result Round E) → IsMachine m → AreTemplatesOf m.program ts → IfOk o (λ r. IsFront m budget n r.interactions) → OnErr o (n ≡ m) → IsMachine n × AreTemplatesOf n.program ts
 kept m n ts budget (Ok r) h of front same = let a = along m n r.interactions h front.run in (a.machine, subst (λ (p : Program). AreTemplatesOf p ts) (sym a.program) of)
 kept m n ts budget (Err e) h of front same = subst (λ (z : MachineParts). IsMachine z × AreTemplatesOf z.program ts) (sym same) (h, of)

@@ -12,7 +12,7 @@ use Rattle.in_arena.proofs.Rewriting.{count_of_head}
 use Rattle.in_arena.proofs.Rows.{state_is}
 use Rattle.in_arena.proofs.arena.Arena.is_live.Goals as goal
 
--- a cell is live where its count isn't 0
+-- a cell is live if its count isn't 0
 tested : (w n : ℕ) (es : List End) (b : Bool) → nat_eq n 0 ≡ b → (IsTrue (not b) → IsLive (with_ends n w es)) × (IsLive (with_ends n w es) → IsTrue (not b))
 tested w n es true e = (λ t. absurd (let f : false ≡ true = t in cc), λ live. absurd ((live_or w n es).0 (eqb-true n 0 e) live))
 tested w n es false e = (λ t. (live_or w n es).1 (λ z. (let f : false ≡ true = sym e ∙ eq-eqb n 0 z in cc)), λ live. refl)

@@ -83,7 +83,7 @@ module _ (E : El) {M : Type 1} {𝓤 : Ura M} (𝓛 : Logic 𝓤) (C : Calls �
   abbrev Post : Val → SProp 𝓤
   Post = (walk_of 𝓛 (ended E) (stayed E) (spec E 𝓛)).post bound
 
-  -- what is kept while the value in the cell is lent
+  -- the rest that is kept while the value in the cell is lent
   module _ (vs : List Val) (b o : ℕ) where
     abbrev Rest : Fml
     Rest = fsep (Others E 𝓛 b o d.slots index) (fsep ((Mark E).own_val (tt, tt) vs) (cell_at full_share (Owner E).mir vs rb ro))

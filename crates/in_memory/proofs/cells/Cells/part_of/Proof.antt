@@ -1,4 +1,4 @@
--- `part_of` gives the chosen cells to an owner of their own. Assumes `Logic`.
+-- `part_of` gives the chosen cells to another owner. Assumes `Logic`.
 use mathlib.Core.Path.{◌≡◌, refl, sym, subst}
 use Prim.Native.Nat.{ℕ, ◌*◌, ◌<◌, ◌^◌}
 use mathlib.Core.List.{List, [], ◌∷◌, ◌++◌}

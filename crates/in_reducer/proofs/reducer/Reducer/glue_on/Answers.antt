@@ -19,7 +19,7 @@ use Rattle.in_reducer.proofs.Parts.Together as together
 use Rattle.in_reducer.proofs.Steps.StillNet as still
 use Rattle.in_reducer.proofs.reducer.Reducer.glue_on.Goals as goal
 
--- what the lists are glued of, whatever slices they were
+-- the list glued from slices is that glued from the lists
 is_glued : (r o : Body) (own cuts : ℕ) → length r.free.items ≡ own + cuts → length o.free.items ≡ cuts → (rest part new : List OwnEnd) → rest ≡ r.free.items → part ≡ o.free.items →
     ((n : ℕ) → length rest ≡ n + length part → new ≡ glued n rest part) → new ≡ glued own r.free.items o.free.items
 is_glued r o own cuts many_rest many_part rest part new of_rest of_part h =
