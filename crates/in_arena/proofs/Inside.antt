@@ -351,11 +351,6 @@ new_free cells ws c l e is = subst (ListsFree (width c) (row_in cells ws c)) (sy
 pub new_states : (at : Ptr) (cells : ℕ) (ws : List Word) → ws ≡ replicate (words_each * cells) (Some None) → (view_of at cells ws).states ≡ replicate (length classes * cells) Vacant
 new_states at cells ws e = alike (λ c. at) cells (λ c. states (row_in cells ws c)) Vacant (λ c. ap states (new_row_is cells ws c e) ∙ (new_row (width c) cells).1)
 
-pub all_alike : (l : FreeList) (c : CellClass) → list_in (record { small = l; large = l; wide = l }) c ≡ l
-all_alike l Small = refl
-all_alike l Large = refl
-all_alike l Wide = refl
-
 -- ---- a cell that was used and is here
 
 pub record UsedCell (cells : ℕ) (ws : List Word) (c : CellClass) (i : ℕ) : Type 0 where

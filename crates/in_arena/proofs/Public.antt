@@ -1,4 +1,5 @@
 -- The lemmas that proofs of other crates cite. They import this module alone, so all others may be renamed and cut anew.
+pub use Rattle.in_arena.proofs.Again.{begun_again}
 pub use Rattle.in_arena.proofs.Arenas.{changed_same, live_inside, placed_here, state_inside, vacant_inside, word_live}
 pub use Rattle.in_arena.proofs.Bags.{changed_twice, empty_is_of, lease_to_takes_one, leased_or, live_in, vacant_apart}
 pub use Rattle.in_arena.proofs.Rows.{stays}

@@ -33,3 +33,15 @@ pub record FitsEnd (bits : ℕ) : Type 0 where
   pub number : number_in bits < numbers
   pub near : bits / above ≡ 0 → bits % 4 < 3
   pub others : (bits / above ≡ 0 → ⊥) → (bits % 4 ≡ 3) × (3 ≤ bits / above) × (bits / above ≤ free_place)
+
+-- ---- the step from the principal port of a cell to a place of it: the word that is added to the port's
+
+abbrev pub place_of_step : ℕ → ℕ
+place_of_step bits = if nat_eq (bits / above) 0 then bits else bits / above
+
+abbrev pub step_to : ℕ → ℕ
+step_to place = if nat_lt place 3 then place else place * above + 3
+
+pub record FitsStep (bits : ℕ) : Type 0 where
+  pub near : bits / above ≡ 0 → bits < 3
+  pub others : (bits / above ≡ 0 → ⊥) → (bits % above ≡ 3) × (3 ≤ bits / above) × (bits / above < free_place)

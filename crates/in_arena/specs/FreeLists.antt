@@ -1,11 +1,11 @@
 -- The cells of one class, and which of them are free.
 use Rattle.std.specs.Prelude.{◌≡◌, ◌≢◌, ◌≤◌, ◌<◌, ◌+◌, ℕ, zero, suc, List, [], ◌∷◌, length, map, take, sum_by, get_or, Some, None}
 use Rattle.std.specs.List.{AllByRecursion}
+use Rattle.in_arena.specs.Classes.{class_no}
 use Rattle.in_arena.specs.States.{State, Vacant, Leased, Live}
 use Rattle.in_arena.specs.Words.{Content, CellWords}
 use Rattle.in_arena.specs.declared.content.End.{End}
 use Rattle.in_arena.specs.declared.content.CellClass.{CellClass}
-use Rattle.in_arena.specs.declared.content.CellClass.TheVariants.{Small, Large, Wide}
 use Rattle.in_arena.specs.declared.free_list.FreeList.{FreeList}
 use Rattle.in_arena.specs.declared.free_list.FreeLists.{FreeLists}
 
@@ -78,6 +78,4 @@ pub record ListsFree (most : ℕ) (cells : List CellWords) (l : FreeList) : Type
   pub count : l.free + l.fresh ≡ length free + length cells
 
 abbrev pub list_in : FreeLists → CellClass → FreeList
-list_in l Small = l.small
-list_in l Large = l.large
-list_in l Wide = l.wide
+list_in l c = get_or l.lists (class_no c) (record { next = 0; fresh = 0; free = 0 })

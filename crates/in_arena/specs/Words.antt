@@ -83,6 +83,14 @@ abbrev pub IsHead : End → Type 0
 IsHead (Cell s n) = Unit {0}
 IsHead (Free k) = ⊥
 
+-- both
+pub record Head : Type 0 where
+  pub word : ℕ
+  pub count : ℕ
+
+abbrev pub head_in : End → Head
+head_in e = record { word = word_in e; count = count_in e }
+
 -- the end in a word that is written
 abbrev pub end_of : Word → End
 end_of None = Free 0

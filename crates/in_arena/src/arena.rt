@@ -13,6 +13,7 @@ ghost use Rattle.in_arena.specs.Limiting.{most_cells};
 use crate::bag::Bag;
 use crate::content::{CellClass, CellNo, End, SymbolWord};
 use crate::free_list::{FreeList, FreeLists};
+use crate::head::HeadWord;
 use crate::lease::Lease;
 use crate::row::{head_of, is_ready, take_back};
 use crate::spot::{HEAD, Spot, near_word, spot_of};
@@ -87,11 +88,7 @@ impl Arena {
             deed,
             alloc,
             cells,
-            lists: FreeLists {
-                small: all,
-                large: all,
-                wide: all,
-            },
+            lists: FreeLists::all(all),
         })
     }
 
@@ -295,12 +292,12 @@ impl Arena {
         }
     }
 
-    /// Makes a free cell of this class, any one, live with this symbol word and this many places. They include the principal port's; the class is for
-    /// that many. Their ends are open until they are written. If no cell of the class is free, nothing changes.
+    /// Makes a free cell of this class, any one, live with this head, which has as many places as the class is for. Their ends are open until they are
+    /// written. Nothing changes if none of the class is free.
     #[inline(always)]
-    pub fn begin(&mut self, class: CellClass, symbol: SymbolWord, places: u8) -> Option<CellNo>
-        requires { Holds class places }
-        ensures { MatchOption result ((free_of self.old class ≡ 0) × (self.new ≡ self.old)) (λ c. BeginsCell class symbol places self.old c.0 self.new) }
+    pub fn begin(&mut self, class: CellClass, head: HeadWord) -> Option<CellNo>
+        requires { Holds class head.count }
+        ensures { MatchOption result ((free_of self.old class ≡ 0) × (self.new ≡ self.old)) (λ c. BeginsCell class head.word head.count self.old c.0 self.new) }
     {
         if !is_ready(
             &mut self.words,
@@ -320,8 +317,7 @@ impl Arena {
         let cell = spot.cell();
         let at = near_word(cell, HEAD);
         let next = self.words.get(self.base, at).number();
-        self.words
-            .write(self.base, at, EndWord::port(CellNo(symbol), places));
+        self.words.write(self.base, at, head.word());
         self.lists.set(
             class,
             FreeList {
@@ -333,41 +329,15 @@ impl Arena {
         Some(cell)
     }
 
-    /// If this live cell is of this class, begins it anew, as `begin` does, and returns true. Otherwise nothing changes.
+    /// Gives a live cell this head, which has as many places as the cell's class is for. Their ends are open until they are written.
     #[inline(always)]
-    pub fn begin_again(
-        &mut self,
-        cell: CellNo,
-        class: CellClass,
-        symbol: SymbolWord,
-        places: u8,
-    ) -> bool
+    pub fn renew(&mut self, cell: CellNo, head: HeadWord)
         requires live { IsLive (state_at self.old cell.0) }
-        requires many { Holds class places }
-        ensures begun { result ≡ true → BeginsCell class symbol places (changed self.old cell.0 Vacant) cell.0 self.new }
-        ensures other { result ≡ false → (self.new ≡ self.old) × (IsNumberOf self.old.cells class cell.0 → ⊥) }
+        requires many { IsFor self.old.cells cell.0 head.count }
+        ensures { (x : State) × IsBegun head.word head.count x × (self.new ≡ changed self.old cell.0 x) }
     {
-        let own = spot_of(self.cells, cell).class;
-        if own.number() == class.number() {
-            self.renew(cell, symbol, places);
-            return true;
-        }
-        false
-    }
-
-    /// Gives a live cell this symbol word and this many places, with the principal port's: as many as its class is for. Their ends are open until
-    /// they are written.
-    #[inline(always)]
-    pub fn renew(&mut self, cell: CellNo, symbol: SymbolWord, places: u8)
-        requires live { IsLive (state_at self.old cell.0) }
-        requires many { IsFor self.old.cells cell.0 places }
-        ensures { (x : State) × IsBegun symbol places x × (self.new ≡ changed self.old cell.0 x) }
-    {
-        self.words.write(
-            self.base,
-            near_word(cell, HEAD),
-            EndWord::port(CellNo(symbol), places),
-        );
+        self.words
+            .write(self.base, near_word(cell, HEAD), head.word());
     }
 
     /// Frees a live cell.

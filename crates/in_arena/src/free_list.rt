@@ -14,25 +14,26 @@ pub struct FreeList {
     pub free: u32,
 }
 
-/// The free cells of all classes.
+/// The free cells of all classes, by the numbers of the classes.
 #[derive(Clone, Copy)]
 pub struct FreeLists {
-    pub small: FreeList,
-    pub large: FreeList,
-    pub wide: FreeList,
+    lists: [FreeList; 3],
 }
 
 impl FreeLists {
+    /// The same free cells for each class.
+    pub fn all(list: FreeList) -> FreeLists
+        ensures { (c : Class) → list_in result c ≡ list }
+    {
+        FreeLists { lists: [list; 3] }
+    }
+
     /// The free cells of a class.
     #[inline(always)]
     pub fn of(&self, class: CellClass) -> FreeList
         ensures { result ≡ list_in self.now class }
     {
-        match class {
-            CellClass::Small => self.small,
-            CellClass::Large => self.large,
-            CellClass::Wide => self.wide,
-        }
+        self.lists[class.number() as usize]
     }
 
     /// Makes these the free cells of a class.
@@ -41,10 +42,6 @@ impl FreeLists {
         ensures class { list_in self.new class ≡ list }
         ensures others { (c : Class) → c ≢ class → list_in self.new c ≡ list_in self.old c }
     {
-        match class {
-            CellClass::Small => self.small = list,
-            CellClass::Large => self.large = list,
-            CellClass::Wide => self.wide = list,
-        }
+        self.lists[class.number() as usize] = list;
     }
 }

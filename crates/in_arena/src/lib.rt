@@ -4,7 +4,7 @@
 //! class: three places and a head, which names the symbol and the number of ends. So the word of an end that is one of these places is
 //! the place's own number in the row, and an end is written by one test and one store. The further places of large and of wide cells come after.
 //!
-//! From below: `content`, the classes of cells and ends; `word`, an end in one word; `free_list`, the free cells of each class; `spot`, where the
+//! From below: `content`, the classes of cells and ends; `word`, an end in one word; `head`, a cell's head in one; `free_list`, the free cells of each class; `spot`, where the
 //! words of a cell are; `row`, the words of a row, cell by cell; `lease`, the owner of one cell; `bag`, the owner of several cells by their numbers,
 //! which takes no bytes for a cell; `arena`.
 //!
@@ -16,6 +16,7 @@ mod arena;
 mod bag;
 mod content;
 mod free_list;
+mod head;
 pub mod laws;
 mod lease;
 mod row;
@@ -25,5 +26,6 @@ mod word;
 pub use arena::Arena;
 pub use bag::Bag;
 pub use content::{CellClass, CellNo, End, SymbolWord};
+pub use head::HeadWord;
 pub use lease::Lease;
-pub use word::EndWord;
+pub use word::{EndWord, PlaceStep};

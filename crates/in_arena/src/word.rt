@@ -129,22 +129,15 @@ impl EndWord {
         }
     }
 
-    /// The word of this place of the cell whose principal port the end leads to. Place 0 of any end is the end itself.
+    /// The word of the place to which this step leads from the principal port that it leads to. The step to place 0 leads from any end to itself.
     #[inline(always)]
-    pub fn at(self, place: u8) -> EndWord
-        requires { (place ≡ 0) ⊎ ((c : Number) × (self ≡ Cell c 0)) }
-        ensures same { place ≡ 0 → result ≡ self }
-        ensures moved { (c : Number) → self ≡ Cell c 0 → result ≡ Cell c place }
+    pub fn at(self, step: PlaceStep) -> EndWord
+        requires { (step ≡ 0) ⊎ ((c : Number) × (self ≡ Cell c 0)) }
+        ensures same { step ≡ 0 → result ≡ self }
+        ensures moved { (c : Number) → self ≡ Cell c 0 → result ≡ Cell c step }
     {
-        let place = u64::from(place);
-        if place < 3 {
-            EndWord {
-                bits: self.bits + place,
-            }
-        } else {
-            EndWord {
-                bits: self.bits + (place * ABOVE + NOT_NEAR),
-            }
+        EndWord {
+            bits: self.bits + step.bits,
         }
     }
 
@@ -157,6 +150,42 @@ impl EndWord {
             Some(self.bits as usize)
         } else {
             None
+        }
+    }
+}
+
+/// The step from the principal port of a cell to a place of it, in one word, so that a wire's end is found by one addition. Contracts see the place.
+#[derive(Clone, Copy)]
+pub struct PlaceStep {
+    bits: u64,
+}
+
+impl Model for PlaceStep {
+    ghost use Rattle.std.specs.Prelude.{ℕ};
+    ghost use Rattle.in_arena.specs.EndWords.{FitsStep, place_of_step, step_to};
+
+    ghost Value = { ℕ };
+
+    ghost view = { λ s. place_of_step s.bits };
+
+    ghost invariant = { λ s. FitsStep s.bits };
+
+    ghost inverse = { λ p. record { bits = step_to p } };
+}
+
+impl PlaceStep {
+    /// The step to this place.
+    #[inline(always)]
+    pub fn to(place: u8) -> PlaceStep
+        ensures { result ≡ place }
+    {
+        let place = u64::from(place);
+        if place < 3 {
+            PlaceStep { bits: place }
+        } else {
+            PlaceStep {
+                bits: place * ABOVE + NOT_NEAR,
+            }
         }
     }
 }

@@ -8,7 +8,7 @@ ghost use Rattle.in_arena.specs.declared.content.CellClass.{CellClass as Class};
 ghost use Rattle.in_cells.specs.Copying.{AreBelow, ArePart, HasCellsFor};
 ghost use Rattle.in_cells.specs.CopyingSteps.{TakesCell, HaveCellsBelow};
 
-use in_arena::{Arena, CellClass, CellNo};
+use in_arena::{Arena, CellClass, CellNo, HeadWord};
 
 // Takes a cell for an agent. Its symbol word is written, and its ends are open.
 fn take_cell(from: &Arena, cell: CellNo, to: &mut Arena) -> CellNo
@@ -19,7 +19,8 @@ fn take_cell(from: &Arena, cell: CellNo, to: &mut Arena) -> CellNo
 {
     let places = from.places(cell);
     let class = CellClass::for_places(places);
-    let Some(new) = to.begin(class, from.symbol(cell), places) else {
+    let head = HeadWord::of(from.symbol(cell), places);
+    let Some(new) = to.begin(class, head) else {
         // A cell of that class is free.
         unreachable!()
     };

@@ -38,10 +38,10 @@ AreNarrow ps = (k : ℕ) (q : Point) → slice_get ps k ≡ Some q → IsNarrow 
 
 -- an agent's joints are in a row
 abbrev pub ends_from : List Joint → MemberAgent → List Joint
-ends_from joints a = take a.places (drop a.first joints)
+ends_from joints a = take a.head.count (drop a.first joints)
 
 abbrev pub agent_from : List Joint → MemberAgent → AgentParts
-agent_from joints a = record { symbol = a.symbol; class = a.class; ends = ends_from joints a }
+agent_from joints a = record { symbol = record { 0 = a.head.word }; class = a.class; ends = ends_from joints a }
 
 abbrev pub agents_from : List Joint → List MemberAgent → List AgentParts
 agents_from joints agents = map (agent_from joints) agents
@@ -49,7 +49,7 @@ agents_from joints agents = map (agent_from joints) agents
 -- the joints of the agents are in the list, and numbers fit
 pub record IsLaidOut (agents : List MemberAgent) (joints : List Joint) (boundary : ℕ) (pairs : List (ℕ × ℕ)) : Type 0 where
   pub ends : boundary ≤ length joints
-  pub places : (k : ℕ) (a : MemberAgent) → slice_get agents k ≡ Some a → a.first + a.places ≤ length joints
+  pub places : (k : ℕ) (a : MemberAgent) → slice_get agents k ≡ Some a → a.first + a.head.count ≤ length joints
   pub few : length agents < 2 ^ 32
   pub few_ends : boundary < 2 ^ 16
   pub few_pairs : length pairs < 2 ^ 32
@@ -75,9 +75,9 @@ IsSmallJoint (ToBoundary e) = e < first_agent_slot
 
 -- this stored agent has the symbol and places of that agent of a net, and its joints lead where that agent's ends do
 pub record IsAgentOf (t : Tables) (joints : List Joint) (c : Cell) (a : MemberAgent) : Type 0 where
-  pub symbol : a.symbol ≡ c.symbol
+  pub symbol : a.head.word ≡ c.symbol.0
   pub class : is_of t a.class c.symbol.0 ≡ true
-  pub within : a.first + a.places ≤ length joints
+  pub within : a.first + a.head.count ≤ length joints
   pub ends : ends_from joints a ≡ map joint_of c.ends
 
 -- one more agent, with its joints

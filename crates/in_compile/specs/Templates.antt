@@ -1,5 +1,5 @@
 -- Templates: a rule's right member, with the data that join it in the place of an active pair.
-use Rattle.std.specs.Prelude.{◌≡◌, ◌⊎◌, ◌↔◌, ◌≤◌, ℕ, Bool, IsTrue, List, length, map, Option, Some, option_and_then, slice_get}
+use Rattle.std.specs.Prelude.{◌≡◌, ◌⊎◌, ◌↔◌, ◌≤◌, ℕ, Bool, true, IsTrue, List, length, map, Option, Some, option_and_then, slice_get}
 use Rattle.in_arena.specs.declared.content.CellClass.{CellClass}
 use Rattle.in_symbols.specs.declared.symbols.SymbolNo.{SymbolNo}
 use Rattle.in_symbols.specs.Tables.{Tables, arity_of}
@@ -10,15 +10,16 @@ use Rattle.in_cover.specs.Cover.{IsTableOf}
 use Rattle.in_cover.specs.Table as table
 use Rattle.in_check.specs.Programs.{Program}
 use Rattle.in_compile.specs.declared.cells.Need.{Need}
-use Rattle.in_compile.specs.Cells.{count_of}
+use Rattle.in_compile.specs.Cells.{count_of, is_of}
 use Rattle.in_compile.specs.Members.{MemberParts, IsMemberOf}
 
 -- ---- a template
 
--- the rule's two symbols; the number of boundary ends that are places of the first one, which come first; whether neither symbol is marked; for each
+-- the rule's two symbols; the classes of their agents' cells; the number of boundary ends that are places of the first one, which come first; whether neither symbol is marked; for each
 -- boundary end, whether it is an output of the pair; and the right member
 pub record TemplateParts : Type 0 where
   pub heads : SymbolNo × SymbolNo
+  pub classes : CellClass × CellClass
   pub first_ends : ℕ
   pub unmarked : Bool
   pub outputs : List Bool
@@ -31,6 +32,7 @@ AreUnmarked t heads = (IsMarkedSymbol (signature_of t) heads.0.0 → ⊥) × (Is
 -- the template is the rule's, with its right member
 pub record IsTemplateOf (t : Tables) (r : RuleParts) (p : TemplateParts) : Type 0 where
   pub heads : p.heads ≡ r.heads
+  pub classes : (is_of t p.classes.0 r.heads.0.0 ≡ true) × (is_of t p.classes.1 r.heads.1.0 ≡ true)
   pub first_ends : p.first_ends ≡ arity_of t r.heads.0.0
   pub unmarked : IsTrue p.unmarked ↔ AreUnmarked t r.heads
   pub outputs : p.outputs ≡ map (λ f. f.kind.output) r.member.free

@@ -1,5 +1,5 @@
 // Cells by their classes: the class for an agent, and the numbers that are needed.
-ghost use Rattle.std.specs.Prelude.{◌≡◌, ◌≤◌, ◌<◌, ◌+◌, ◌^◌, ◌↔◌, IsTrue, length, max, MatchOption};
+ghost use Rattle.std.specs.Prelude.{◌≡◌, ◌≤◌, ◌<◌, ◌+◌, ◌^◌, ◌↔◌, IsTrue, true, length, max, MatchOption};
 ghost use Rattle.in_arena.specs.Arenas.{free_of};
 ghost use Rattle.in_symbols.specs.Tables.{IsSymbol};
 ghost use Rattle.in_net.specs.Built.{IsOver};
@@ -111,6 +111,14 @@ pub fn is_of(symbols: &Symbols, class: CellClass, symbol: SymbolNo) -> bool
     ensures { result ≡ is_of symbols.now class symbol.0 }
 {
     class.holds(symbols.arity(symbol) as usize + 1)
+}
+
+/// The class of the cell that an agent of this symbol takes.
+pub(crate) fn class_of(symbols: &Symbols, symbol: SymbolNo) -> CellClass
+    requires { IsSymbol symbols.now symbol.0 }
+    ensures { is_of symbols.now result symbol.0 ≡ true }
+{
+    CellClass::for_places(symbols.arity(symbol) + 1)
 }
 
 /// The number of agents of the net that take a cell of this class. The net is as built: each of its numbers has an agent.

@@ -5,19 +5,18 @@ ghost use Rattle.in_compile.specs.Members.{symbol_at, class_at, places_at, joint
 
 use crate::cells::Need;
 use crate::joints::{Joint, StoredJoint};
-use in_arena::CellClass;
+use in_arena::{CellClass, HeadWord};
 use in_base::use_invariant;
 use in_symbols::SymbolNo;
 use sqlite_items::Items;
 use std::marker::Model;
 
-/// A stored agent: its joints follow each other in the member's list, from number `first` on.
+/// A stored agent: the head of its cell, which has its symbol and its places. Its joints follow each other in the member's list, from number `first` on.
 #[derive(Clone, Copy)]
 pub(crate) struct MemberAgent {
-    pub(crate) symbol: SymbolNo,
+    pub(crate) head: HeadWord,
     pub(crate) first: u32,
     pub(crate) class: CellClass,
-    pub(crate) places: u8,
 }
 
 /// The right member of a rule or the initial net of a program, as a machine over cells places it: its agents with their numbers in the
@@ -74,7 +73,17 @@ impl Member {
         requires { agent < length self.now.agents }
         ensures { symbol_at self.now agent ≡ Some result }
     {
-        self.agents.as_slice()[agent as usize].symbol
+        SymbolNo(self.head(agent).symbol())
+    }
+
+    /// The head of this agent's cell: its symbol, and how many places it has.
+    #[inline(always)]
+    pub fn head(&self, agent: u32) -> HeadWord
+        requires { agent < length self.now.agents }
+        ensures symbol { symbol_at self.now agent ≡ Some (record { 0 = result.word }) }
+        ensures places { places_at self.now agent ≡ Some result.count }
+    {
+        self.agents.as_slice()[agent as usize].head
     }
 
     /// The class of the cell that this agent takes.
@@ -90,7 +99,7 @@ impl Member {
         requires { agent < length self.now.agents }
         ensures { places_at self.now agent ≡ Some result }
     {
-        self.agents.as_slice()[agent as usize].places
+        self.head(agent).places()
     }
 
     /// The other end of the wire at this place of this agent. The principal port is place 0.

@@ -1,6 +1,7 @@
 // From a net to its member, and from a rule to its template.
-ghost use Rattle.std.specs.Prelude.{◌≡◌, ◌+◌, ◌≤◌, ◌<◌, ◌^◌, ◌++◌, map, length, Some, IfOk, OnOk};
+ghost use Rattle.std.specs.Prelude.{◌≡◌, ◌+◌, ◌≤◌, ◌<◌, ◌^◌, ◌++◌, ◌↔◌, IsTrue, map, length, Some, IfOk, OnOk};
 ghost use Rattle.in_syntax.specs.Grammar.{max_ports};
+ghost use Rattle.in_symbols.specs.Tables.{IsSymbol};
 ghost use Rattle.in_net.specs.Built.{IsOver, IsCellOver};
 ghost use Rattle.in_net.specs.NetFaults.{max_agents};
 ghost use Rattle.in_net.specs.Parts.{IsWhole};
@@ -10,18 +11,18 @@ ghost use Rattle.in_open_nets_of_programs.specs.Opening.{AreAllThere};
 ghost use Rattle.in_open_nets_of_programs.specs.OpeningRules.{IsRuleWhole};
 ghost use Rattle.in_compile.specs.Storing.{AreNarrow, AddsAgent, AreLaidBelow};
 ghost use Rattle.in_compile.specs.Members.{joint_of, IsMemberOf};
-ghost use Rattle.in_compile.specs.Templates.{IsTemplateOf};
+ghost use Rattle.in_compile.specs.Templates.{AreUnmarked, IsTemplateOf};
 
-use crate::cells::need_of_net;
+use crate::cells::{class_of, need_of_net};
 use crate::joints::{Joint, StoredJoint};
 use crate::member::{Member, MemberAgent};
 use crate::template::Template;
 use crate::wires::{over_wires, within_wires};
-use in_arena::CellClass;
+use in_arena::{CellClass, HeadWord};
 use in_base::use_promise;
 use in_net::{Cell, Net, Point, Rule};
 use in_overwriting::is_marked;
-use in_symbols::Symbols;
+use in_symbols::{SymbolNo, Symbols};
 use sqlite_items::Items;
 use std::alloc::{AllocError, Global};
 
@@ -75,10 +76,9 @@ fn add_agent(
     let places = symbols.arity(cell.symbol) + 1;
     add_joints(joints, cell.ends.as_slice())?;
     agents.push(MemberAgent {
-        symbol: cell.symbol,
+        head: HeadWord::of(cell.symbol.0, places),
         first,
         class: CellClass::for_places(places),
-        places,
     })
 }
 
@@ -141,6 +141,29 @@ pub(crate) fn member_of(alloc: Global, symbols: &Symbols, net: &Net) -> Result<M
     })
 }
 
+/// Whether neither symbol is marked.
+fn are_unmarked(symbols: &Symbols, first: SymbolNo, second: SymbolNo) -> bool
+    requires first { IsSymbol symbols.now first.0 }
+    requires second { IsSymbol symbols.now second.0 }
+    ensures { IsTrue result ↔ AreUnmarked symbols.now (first, second) }
+{
+    !is_marked(symbols, first) && !is_marked(symbols, second)
+}
+
+/// 1 if there is an agent of this number, and it takes a cell of this class, else 0.
+fn one_if_of(member: &Member, agent: u32, class: CellClass) -> u8
+    ensures { result ≤ 1 }
+{
+    u8::from(agent < member.agents() && member.class(agent) == class)
+}
+
+/// Whether the first two agents fit cells of these classes better if the first one has the second cell.
+fn are_turned(member: &Member, classes: (CellClass, CellClass)) -> bool {
+    let straight = one_if_of(member, 0, classes.0) + one_if_of(member, 1, classes.1);
+    let turned = one_if_of(member, 0, classes.1) + one_if_of(member, 1, classes.0);
+    straight < turned
+}
+
 /// The template of a rule that is over these tables and as it was built.
 pub(crate) fn template(
     alloc: Global,
@@ -155,15 +178,19 @@ pub(crate) fn template(
     let (first, second) = rule.heads();
     let first_ends = symbols.arity(first);
     use_promise!(symbols.arity(second));
-    let unmarked = !is_marked(symbols, first) && !is_marked(symbols, second);
+    let classes = (class_of(symbols, first), class_of(symbols, second));
+    let unmarked = are_unmarked(symbols, first, second);
     let over = over_wires(alloc, &member)?;
     let within = within_wires(alloc, &member)?;
     let outputs = outputs_of(alloc, rule.member())?;
+    let turned = are_turned(&member, classes);
     Ok(Template {
         member,
         first_ends,
         unmarked,
         heads: (first, second),
+        classes,
+        turned,
         over,
         within,
         outputs,

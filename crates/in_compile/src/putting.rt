@@ -2,6 +2,7 @@
 ghost use Rattle.std.specs.Prelude.{◌≡◌, ◌≤◌, ◌<◌, ℕ, [], length, Some, slice_get, vec_capacity};
 ghost use Rattle.in_arena.specs.Arenas.{ArenaView, changed, free_of, state_at};
 ghost use Rattle.in_arena.specs.Changes.{HasAllCells};
+ghost use Rattle.in_arena.specs.Classes.{IsNumberOf};
 ghost use Rattle.in_arena.specs.States.{Vacant, IsBegun, IsLive};
 ghost use Rattle.in_arena.specs.declared.content.CellNo.{CellNo as Number};
 ghost use Rattle.in_compile.specs.Cells.{count_of, IsEnough};
@@ -12,7 +13,7 @@ ghost use Rattle.in_compile.specs.Putting.{AreBegunBelow, BeginsAgent, IsPut};
 use crate::member::Member;
 use crate::placed::Placed;
 use crate::placing::end_of;
-use in_arena::{Arena, CellNo};
+use in_arena::{Arena, CellClass, CellNo};
 
 impl Member {
     /// Makes a free cell live for the agent of that number: a cell of its class, with its symbol and its places, whose ends are open. Such a cell has
@@ -25,7 +26,7 @@ impl Member {
         ensures { (a : AgentParts) → slice_get self.now.agents agent ≡ Some a → BeginsAgent a arena.old result.0 arena.new }
     {
         self.is_sound();
-        let begun = arena.begin(self.class(agent), self.symbol(agent).0, self.places(agent));
+        let begun = arena.begin(self.class(agent), self.head(agent));
         let Some(cell) = begun else {
             // A cell of that class is free.
             unreachable!()
@@ -33,18 +34,19 @@ impl Member {
         cell
     }
 
-    /// The same once a live cell is freed: the agent gets this cell if it is one of its class.
+    /// The same once a live cell, which is of the class `own`, is free. That agent then has it where it takes a cell of this class.
     #[inline(always)]
-    pub fn begin_in(&self, agent: u32, cell: CellNo, arena: &mut Arena) -> CellNo
+    pub fn begin_in(&self, agent: u32, cell: CellNo, own: CellClass, arena: &mut Arena) -> CellNo
         requires there { agent < length self.now.agents }
         requires live { IsLive (state_at arena.old cell.0) }
+        requires own { IsNumberOf arena.old.cells own cell.0 }
         requires all { HasAllCells arena.old }
         requires free { (a : AgentParts) → slice_get self.now.agents agent ≡ Some a → 0 < free_of (changed arena.old cell.0 Vacant) a.class }
         ensures { (a : AgentParts) → slice_get self.now.agents agent ≡ Some a → BeginsAgent a (changed arena.old cell.0 Vacant) result.0 arena.new }
     {
         self.is_sound();
-        let class = self.class(agent);
-        if arena.begin_again(cell, class, self.symbol(agent).0, self.places(agent)) {
+        if self.class(agent).number() == own.number() {
+            arena.renew(cell, self.head(agent));
             return cell;
         }
         arena.retire(cell);

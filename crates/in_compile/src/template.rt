@@ -23,6 +23,8 @@ pub struct Template {
     pub(crate) first_ends: u8,
     pub(crate) unmarked: bool,
     pub(crate) heads: (SymbolNo, SymbolNo),
+    pub(crate) classes: (CellClass, CellClass),
+    pub(crate) turned: bool,
     pub(crate) over: Items<OverWire>,
     pub(crate) within: Items<WithinWire>,
     pub(crate) outputs: Items<bool>,
@@ -35,7 +37,7 @@ impl Model for Template {
 
     ghost Value = { TemplateParts };
 
-    ghost view = { λ t. record { heads = t.heads; first_ends = t.first_ends; unmarked = t.unmarked; outputs = t.outputs; member = t.member } };
+    ghost view = { λ t. record { heads = t.heads; classes = t.classes; first_ends = t.first_ends; unmarked = t.unmarked; outputs = t.outputs; member = t.member } };
 
     ghost invariant = { IsTemplate };
 }
@@ -46,6 +48,20 @@ impl Template {
         ensures { result ≡ self.now.heads }
     {
         self.heads
+    }
+
+    /// The classes of the cells that agents of these symbols take.
+    #[inline(always)]
+    pub fn classes(&self) -> (CellClass, CellClass)
+        ensures { result ≡ self.now.classes }
+    {
+        self.classes
+    }
+
+    /// Whether more of its first two agents take a cell of the class of one of the pair's cells if the first one has the second cell. For speed alone.
+    #[inline(always)]
+    pub fn is_turned(&self) -> bool {
+        self.turned
     }
 
     /// Its boundary ends and its agents are few enough that each has its own slot, for proofs. The call does nothing.

@@ -9,6 +9,7 @@ ghost use Rattle.in_compile.specs.Wires.{first_agent_slot, is_from_first, is_fro
 
 use crate::joints::Joint;
 use crate::member::Member;
+use in_arena::PlaceStep;
 use sqlite_items::Items;
 use std::alloc::{AllocError, Global};
 use std::marker::Model;
@@ -16,12 +17,12 @@ use std::marker::Model;
 /// The slot of agent 0. Those before it are for boundary ends: a pair has at most 32 auxiliary ports.
 pub const FIRST_AGENT_SLOT: u8 = 32;
 
-/// An end of a wire of a right member, in two bytes: a slot, which is a boundary end's number or `FIRST_AGENT_SLOT` and the agent's number,
-/// and the place in it, which is 0 at a boundary end. So a machine that keeps its cells by slots finds the wire's end without a test.
+/// Where a wire of a right member leads: a slot, which is a boundary end's number or `FIRST_AGENT_SLOT` and the agent's number, and the step to the
+/// place in it, which is 0 at a boundary end. So a machine that keeps its cells by slots finds the wire's end without a test.
 #[derive(Drop)]
 pub struct SmallJoint {
     slot: u8,
-    place: u8,
+    step: PlaceStep,
 }
 
 impl Model for SmallJoint {
@@ -30,13 +31,13 @@ impl Model for SmallJoint {
 
     ghost Value = { Joint };
 
-    ghost view = { λ s. joint_at_slot s.slot s.place };
+    ghost view = { λ s. joint_at_slot s.slot s.step };
 
-    ghost invariant = { λ s. FitsSlot s.slot s.place };
+    ghost invariant = { λ s. FitsSlot s.slot s.step };
 }
 
 impl SmallJoint {
-    /// This joint, in two bytes.
+    /// This joint, by its slot.
     fn of(joint: Joint) -> SmallJoint
         requires { IsSmallJoint joint }
         ensures { result ≡ joint }
@@ -44,11 +45,11 @@ impl SmallJoint {
         match joint {
             Joint::ToAgent(agent, place) => SmallJoint {
                 slot: FIRST_AGENT_SLOT + agent as u8,
-                place,
+                step: PlaceStep::to(place),
             },
             Joint::ToBoundary(end) => SmallJoint {
                 slot: end,
-                place: 0,
+                step: PlaceStep::to(0),
             },
         }
     }
@@ -62,13 +63,13 @@ impl SmallJoint {
         self.slot
     }
 
-    /// Its place, at most 16.
+    /// The step to its place, at most 16.
     #[inline(always)]
-    pub fn place(&self) -> u8
+    pub fn step(&self) -> PlaceStep
         ensures place { result ≡ place_in self.now }
         ensures few { result ≤ max_ports }
     {
-        self.place
+        self.step
     }
 }
 
@@ -110,13 +111,13 @@ impl OverWire {
         self.to.slot()
     }
 
-    /// The place in that slot, at most 16.
+    /// The step to the place in that slot, at most 16.
     #[inline(always)]
-    pub fn place(&self) -> u8
+    pub fn step(&self) -> PlaceStep
         ensures place { result ≡ place_in self.now.1 }
         ensures few { result ≤ max_ports }
     {
-        self.to.place()
+        self.to.step()
     }
 }
 

@@ -23,4 +23,5 @@ pub mod StepsOn
 pub mod StillNet
 pub mod Taken
 pub mod TakesNeed
+pub mod Turned
 pub mod Wired

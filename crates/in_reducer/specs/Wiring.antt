@@ -6,6 +6,7 @@ use Rattle.in_arena.specs.Arenas.{ArenaView, changed, free_of, state_at}
 use Rattle.in_arena.specs.Changes.{AreListedOnce, HasAllCells, UnlistedStay}
 use Rattle.in_arena.specs.Classes.{IsNumberOf}
 use Rattle.in_arena.specs.States.{Vacant, IsBegun, IsLive, word_of, end_at, places}
+use Rattle.in_arena.specs.declared.content.CellClass.{CellClass}
 use Rattle.in_arena.specs.declared.content.CellNo.{CellNo}
 use Rattle.in_arena.specs.declared.content.End.{End}
 use Rattle.in_arena.specs.declared.content.End.TheVariants.{Cell}
@@ -165,6 +166,18 @@ retired p a = changed (changed a p.one.0 Vacant) p.other.0 Vacant
 abbrev pub AreLive : Pair → ArenaView → Type 0
 AreLive p a = IsLive (state_at a p.one.0) × IsLive (state_at (changed a p.one.0 Vacant) p.other.0)
 
+-- they are cells of these classes
+abbrev pub AreOfClasses : CellClass × CellClass → Pair → ArenaView → Type 0
+AreOfClasses classes p a = IsNumberOf a.cells classes.0 p.one.0 × IsNumberOf a.cells classes.1 p.other.0
+
+-- the same with its agents exchanged
+abbrev pub turned : Pair → Pair
+turned p = record { one = p.other; other = p.one; first_ends = p.first_ends }
+
+-- these are the pair and the classes of its cells, both as they are or both exchanged
+abbrev pub AreOwnCells : Pair → CellClass × CellClass → Pair → CellClass × CellClass → Type 0
+AreOwnCells p classes q own = ((q ≡ p) × (own ≡ classes)) ⊎ ((q ≡ turned p) × (own ≡ (classes.1, classes.0)))
+
 -- the agents were begun beside the pair, the pair was retired, and all wires are written, for any net
 pub record IsWiredUp (t : Tables) (p : TemplateParts) (pair : Pair) (old : ArenaView) (old_ends : List End) (old_queue : List (ℕ × ℕ)) (new : ArenaView) (new_ends points : List End) (new_queue : List (ℕ × ℕ)) : Type 0 where
   pub cells : List CellNo
@@ -191,13 +204,14 @@ pub record IsSetAside (t : Tables) (s : PairSetting) (a : ArenaView) (n : Parts)
 abbrev pub aside_of : PairSetting → Parts → (ℕ → ℕ) → PairSetting
 aside_of s n f = record { net = n; rule = s.rule; one = record { 0 = f s.one.0 }; two = record { 0 = f s.two.0 } }
 
--- the cells show a net with this pair, which is of this template; neither of its symbols is marked; the pair can be set aside; and the agents can be
--- begun
+-- the cells show a net with this pair, which is of this template and of its classes; neither of its symbols is marked; the pair can be set aside; and
+-- the agents can be begun
 pub record CanWireAnew (t : Tables) (p : TemplateParts) (pair : Pair) (a : ArenaView) (ends points : List End) : Type 0 where
   pub setting : PairSetting
   pub own : ℕ
   pub about : IsAbout t setting p pair own a ends
   pub aside : (n : Parts) × (f : ℕ → ℕ) × IsSetAside t setting a n f
+  pub classed : AreOfClasses p.classes pair a
   pub unmarked : IsTrue p.unmarked
   pub begin : CanBegin p.member a points
   pub few : length p.member.joints ≤ most_ends

@@ -12,12 +12,12 @@ ghost use Rattle.in_compile.specs.Wires.{over_of, over_point};
 ghost use Rattle.in_reducer.specs.Inside.{most_ends};
 ghost use Rattle.in_reducer.specs.Interacting.{PairSetting, interaction_of, named};
 ghost use Rattle.in_reducer.specs.Sides.{end_there, port_at};
-ghost use Rattle.in_reducer.specs.Wiring.{AddsInOrder, AreAtAgents, AreLive, AreOwnPairs, CanBegin, CanRead, CanWireAnew, CanWireUp, HasBegun, HasBegunBelow, HasPortsFor, HasPortsIn, HasQueued, IsAtPlace, IsWiredAnew, IsWiredUp, IsWiring, retired, wires_of};
+ghost use Rattle.in_reducer.specs.Wiring.{AddsInOrder, AreAtAgents, AreLive, AreOfClasses, AreOwnCells, AreOwnPairs, CanBegin, CanRead, CanWireAnew, CanWireUp, HasBegun, HasBegunBelow, HasPortsFor, HasPortsIn, HasQueued, IsAtPlace, IsWiredAnew, IsWiredUp, IsWiring, retired, wires_of};
 
 use crate::limits::MOST_ENDS;
 use crate::pair_queue::PairQueue;
 use crate::sides::Pair;
-use in_arena::{Arena, CellNo, EndWord};
+use in_arena::{Arena, CellClass, CellNo, EndWord, PlaceStep};
 use in_cells::exchange;
 use in_compile::{Member, Template};
 use in_net::MAX_MEMBER_AGENTS;
@@ -73,19 +73,17 @@ fn read_agent(arena: &Arena, cell: CellNo, first: u8, to: u8, points: &mut [EndW
     requires { HasPortsFor arena.now cell first to (length points.old) }
     ensures { HasPortsIn arena.now cell first to points.old points.new }
 {
-    let many = to - first;
     // Most agents have at most two auxiliary ports: these are read without a loop.
-    if many > 2 {
-        for number in first..to {
-            points[number as usize] = arena.word(cell, number - first + 1);
-        }
+    if first == to {
         return;
     }
-    if many > 0 {
-        points[first as usize] = arena.word(cell, 1);
+    points[first as usize] = arena.word(cell, 1);
+    if first + 1 == to {
+        return;
     }
-    if many > 1 {
-        points[first as usize + 1] = arena.word(cell, 2);
+    points[first as usize + 1] = arena.word(cell, 2);
+    for number in first + 2..to {
+        points[number as usize] = arena.word(cell, number - first + 1);
     }
 }
 
@@ -102,11 +100,11 @@ fn read_ports(arena: &Arena, pair: Pair, many: u8, points: &mut [EndWord])
 
 /// The side of a wire at this point and place.
 #[inline(always)]
-fn side(points: &[EndWord], slot: u8, place: u8) -> EndWord
-    requires { (x : End) × (y : End) × (slice_get points.now slot ≡ Some x) × IsAtPlace x place y }
-    ensures { (x y : End) → slice_get points.now slot ≡ Some x → IsAtPlace x place y → result ≡ y }
+fn side(points: &[EndWord], slot: u8, step: PlaceStep) -> EndWord
+    requires { (x : End) × (y : End) × (slice_get points.now slot ≡ Some x) × IsAtPlace x step y }
+    ensures { (x y : End) → slice_get points.now slot ≡ Some x → IsAtPlace x step y → result ≡ y }
 {
-    points[slot as usize].at(place)
+    points[slot as usize].at(step)
 }
 
 /// Queues the pair that a wire with this lowest boundary end makes, if both its sides are principal ports. If the boundary end is an output, its
@@ -150,7 +148,7 @@ fn write_over(
     for number in 0..wires.len() {
         let wire = &wires[number];
         let outer = points[wire.end() as usize];
-        let inner = side(points, wire.slot(), wire.place());
+        let inner = side(points, wire.slot(), wire.step());
         exchange(arena, ends, outer, inner);
         queue_pair(template, wire.end(), outer, inner, queue);
     }
@@ -167,8 +165,8 @@ fn write_within(template: &Template, points: &[EndWord], arena: &mut Arena, ends
     let wires = template.within();
     for number in 0..wires.len() {
         let wire = &wires[number];
-        let one = side(points, wire.one().slot(), wire.one().place());
-        let other = side(points, wire.other().slot(), wire.other().place());
+        let one = side(points, wire.one().slot(), wire.one().step());
+        let other = side(points, wire.other().slot(), wire.other().step());
         exchange(arena, ends, one, other);
     }
 }
@@ -199,10 +197,16 @@ pub(crate) fn wire_up(
     write_within(template, points, arena, ends);
 }
 
-/// Begins a cell for each agent once the pair's cells are free: the first two agents get these if they are of their classes.
+/// Begins a cell for each agent once the pair's cells, which are of these classes, are free: the first two agents get these if they are of theirs.
 #[inline(always)]
-fn begin_in(member: &Member, pair: Pair, arena: &mut Arena, points: &mut [EndWord])
-    requires { AreLive pair arena.old × CanBegin member.now arena.old points.old }
+fn begin_in(
+    member: &Member,
+    pair: Pair,
+    classes: (CellClass, CellClass),
+    arena: &mut Arena,
+    points: &mut [EndWord],
+)
+    requires { AreLive pair arena.old × CanBegin member.now arena.old points.old × AreOfClasses classes pair arena.old }
     ensures begun { (ns : List Number) × HasBegun member.now ns (retired pair arena.old) arena.new × AreAtAgents ns points.new }
     ensures ends { (e : ℕ) → e < most_ends → slice_get points.new e ≡ slice_get points.old e }
     ensures long { length points.new ≡ length points.old }
@@ -215,16 +219,33 @@ fn begin_in(member: &Member, pair: Pair, arena: &mut Arena, points: &mut [EndWor
         begin_rest(member, 0, arena, points);
         return;
     }
-    let first = member.begin_in(0, pair.one, arena);
+    let first = member.begin_in(0, pair.one, classes.0, arena);
     points[MOST_ENDS] = EndWord::port(first, 0);
     if many == 1 {
         arena.retire(pair.other);
         begin_rest(member, 1, arena, points);
         return;
     }
-    let second = member.begin_in(1, pair.other, arena);
+    let second = member.begin_in(1, pair.other, classes.1, arena);
     points[MOST_ENDS + 1] = EndWord::port(second, 0);
     begin_rest(member, 2, arena, points);
+}
+
+/// The pair's cells with their classes, in the order in which the first two agents take them.
+#[inline(always)]
+fn own_cells(template: &Template, pair: Pair) -> (Pair, (CellClass, CellClass))
+    ensures { AreOwnCells pair template.now.classes result.0 result.1 }
+{
+    let classes = template.classes();
+    if template.is_turned() {
+        let turned = Pair {
+            one: pair.other,
+            other: pair.one,
+            first_ends: pair.first_ends,
+        };
+        return (turned, (classes.1, classes.0));
+    }
+    (pair, classes)
 }
 
 /// Retires a pair to which no wire leads back, places the right member's agents, which reuse its cells if they can, and writes the wires, as
@@ -246,7 +267,8 @@ pub(crate) fn wire_anew(
     ensures capacity { queue.new.room ≡ queue.old.room }
 {
     read_ports(arena, pair, template.boundary_ends(), points);
-    begin_in(template.member(), pair, arena, points);
+    let own = own_cells(template, pair);
+    begin_in(template.member(), own.0, own.1, arena, points);
     write_over(template, points, arena, ends, queue);
     write_within(template, points, arena, ends);
 }

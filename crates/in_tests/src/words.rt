@@ -5,7 +5,7 @@ ghost use Rattle.in_arena.specs.Classes.{Holds};
 ghost use Rattle.in_arena.specs.States.{places};
 
 use crate::leases::{expect, expect_cell, expect_free};
-use in_arena::{Arena, CellClass, CellNo, End, EndWord};
+use in_arena::{Arena, CellClass, CellNo, End, EndWord, HeadWord, PlaceStep};
 use std::process::Abort;
 
 // An end is the one that its word encodes, and it is the principal port of that cell or of none.
@@ -22,7 +22,7 @@ pub fn expect_end(rt: &impl Abort, found: End, wanted: End) {
 
 // The word of a principal port, moved to this place.
 pub fn moved(cell: CellNo, place: u8) -> End {
-    EndWord::port(cell, 0).at(place).end()
+    EndWord::port(cell, 0).at(PlaceStep::to(place)).end()
 }
 
 // Begins all `count` free cells of a class, while `others.1` of the class `others.0` are free, and retires them.
@@ -36,7 +36,7 @@ pub fn begin_all(
     ensures { arena.new ≡ arena.old }
 {
     expect_free(rt, arena, class, count);
-    match arena.begin(class, count, class.least()) {
+    match arena.begin(class, HeadWord::of(count, class.least())) {
         Some(cell) => {
             assert!(rt; count > 0);
             begin_all(rt, arena, class, count - 1, others);
@@ -64,11 +64,11 @@ pub fn make_twice(
     ensures { NoneLeased arena.new × (places (state_at arena.new result.0) ≡ length second.now) }
 {
     let cell = arena
-        .begin(class, symbols.0, first.len() as u8)
+        .begin(class, HeadWord::of(symbols.0, first.len() as u8))
         .expect(rt, "a free cell");
     write_words(arena, cell, first);
     expect_cell(rt, arena, cell, symbols.0, first);
-    arena.renew(cell, symbols.1, second.len() as u8);
+    arena.renew(cell, HeadWord::of(symbols.1, second.len() as u8));
     write_words(arena, cell, second);
     cell
 }

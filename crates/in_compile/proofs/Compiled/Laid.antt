@@ -30,11 +30,14 @@ end_joint None = refl
 end_joint (Some f) = refl
 
 -- the ends in a list stay when the list gets longer
-pub ends_kept : (joints more : List Joint) (a : MemberAgent) → a.first + a.places ≤ length joints → ends_from (joints ++ more) a ≡ ends_from joints a
+pub ends_kept : (joints more : List Joint) (a : MemberAgent) → a.first + a.head.count ≤ length joints → ends_from (joints ++ more) a ≡ ends_from joints a
 ends_kept joints more a within =
-    let room : a.places ≤ length (drop a.first joints) = omega (arith, within, length-drop a.first joints) in
+    let room : a.head.count ≤ length (drop a.first joints) = omega (arith, within, length-drop a.first joints) in
     let begin : a.first ≤ length joints = omega (arith, within) in
-    ap (take a.places) (drop-append-le a.first joints more begin) ∙ take-append-le a.places (drop a.first joints) more room
+    ap (take a.head.count) (drop-append-le a.first joints more begin) ∙ take-append-le a.head.count (drop a.first joints) more room
+
+abbrev symbol_numbered : ℕ → SymbolNo
+symbol_numbered s = record { 0 = s }
 
 module _ (t : Tables) where
   pub agent_kept : (joints more : List Joint) (c : Cell) (a : MemberAgent) → IsAgentOf t joints c a → IsAgentOf t (joints ++ more) c a
@@ -95,7 +98,7 @@ module _ (t : Tables) where
           go : (k < length agents) ⊎ (length agents ≤ k) → option_map (λ (a : AgentParts). a.symbol) (slice_get (agents_from joints agents) k) ≡ symbol_in n k
           go (inl l) =
               let f = found k l in
-              ap (option_map (λ (a : AgentParts). a.symbol)) f.2 ∙ ap (λ (s : SymbolNo). Some s) f.4.symbol ∙ sym (ap (option_map (λ (c : Cell). c.symbol)) f.3)
+              ap (option_map (λ (a : AgentParts). a.symbol)) f.2 ∙ ap (λ (s : ℕ). Some (symbol_numbered s)) f.4.symbol ∙ sym (ap (option_map (λ (c : Cell). c.symbol)) f.3)
           go (inr l) = let f = past k l in ap (option_map (λ (a : AgentParts). a.symbol)) f.0 ∙ sym (ap (option_map (λ (c : Cell). c.symbol)) f.1)
 
       pub classes_are : (k : ℕ) (a : AgentParts) → slice_get (agents_from joints agents) k ≡ Some a → is_of t a.class a.symbol.0 ≡ true
@@ -107,7 +110,7 @@ module _ (t : Tables) where
           go : (k < length agents) ⊎ (length agents ≤ k) → is_of t a.class a.symbol.0 ≡ true
           go (inl l) =
               let f = found k l in
-              subst (λ (b : AgentParts). is_of t b.class b.symbol.0 ≡ true) (same (agent_from joints f.0) f.2) (ap (λ (z : SymbolNo). is_of t f.0.class z.0) f.4.symbol ∙ f.4.class)
+              subst (λ (b : AgentParts). is_of t b.class b.symbol.0 ≡ true) (same (agent_from joints f.0) f.2) (ap (is_of t f.0.class) f.4.symbol ∙ f.4.class)
           go (inr l) = let e : None ≡ Some a = sym (past k l).0 ∙ s in cc
 
       pub ends_are : (x i : ℕ) → option_and_then (λ (a : AgentParts). slice_get a.ends i) (slice_get (agents_from joints agents) x) ≡ option_map joint_of (option_and_then (λ (c : Cell). slice_get c.ends i) (cell_in n x))

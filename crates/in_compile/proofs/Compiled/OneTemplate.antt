@@ -105,6 +105,9 @@ module _ (t : Tables) (r : RuleParts) (p q : TemplateParts) (a : IsTemplateOf t 
   heads : p.heads ≡ q.heads
   heads = a.heads ∙ sym b.heads
 
+  classes : p.classes ≡ q.classes
+  classes = λ i. (one_class _ p.classes.0 q.classes.0 a.classes.0 b.classes.0 i, one_class _ p.classes.1 q.classes.1 a.classes.1 b.classes.1 i)
+
   first_ends : p.first_ends ≡ q.first_ends
   first_ends = a.first_ends ∙ sym b.first_ends
 
@@ -112,7 +115,7 @@ module _ (t : Tables) (r : RuleParts) (p q : TemplateParts) (a : IsTemplateOf t 
   unmarked = same_truth p.unmarked q.unmarked ((λ h. b.unmarked.1 (a.unmarked.0 h)), (λ h. a.unmarked.1 (b.unmarked.0 h)))
 
   pub one_template : p ≡ q
-  one_template = λ i. record { heads = heads i; first_ends = first_ends i; unmarked = unmarked i; outputs = (a.outputs ∙ sym b.outputs) i; member = one_member t r.member p.member q.member a.member b.member i }
+  one_template = λ i. record { heads = heads i; classes = classes i; first_ends = first_ends i; unmarked = unmarked i; outputs = (a.outputs ∙ sym b.outputs) i; member = one_member t r.member p.member q.member a.member b.member i }
 
 -- ---- the template of two symbols
 

@@ -9,9 +9,10 @@ use Rattle.in_arena.specs.States.{State, Leased, Live, IsBegun, places, with_end
 use Rattle.in_arena.specs.declared.content.CellNo.{CellNo}
 use Rattle.in_arena.specs.declared.content.End.{End}
 use Rattle.in_arena.proofs.Public.{changed_twice}
+use Rattle.in_symbols.specs.declared.symbols.SymbolNo.{SymbolNo}
 use Rattle.in_compile.specs.declared.joints.Joint.{Joint}
 use Rattle.in_compile.specs.declared.joints.Joint.TheVariants.{ToAgent, ToBoundary}
-use Rattle.in_compile.specs.Members.{AgentParts, MemberParts, joint_at, places_at, IsSoundMember}
+use Rattle.in_compile.specs.Members.{AgentParts, MemberParts, joint_at, places_at, symbol_at, IsSoundMember}
 use Rattle.in_compile.specs.Placing.{end_in, content}
 use Rattle.in_compile.specs.PlacingSteps.{IsBeingWritten, IsInside}
 use Rattle.in_compile.proofs.Placements.Stocked.{in_range}
@@ -30,6 +31,12 @@ module _ (m : MemberParts) (sound : IsSoundMember m) where
 -- as many places as ends
 pub places_are : (m : MemberParts) (k count : ℕ) (a : AgentParts) → slice_get m.agents k ≡ Some a → places_at m k ≡ Some count → length a.ends ≡ count
 places_are m k count a stands is = same_Some (length a.ends) count (sym (ap (option_map (λ (a : AgentParts). length a.ends)) stands) ∙ is)
+
+-- the symbol that was read
+pub symbol_is : (m : MemberParts) (k word : ℕ) (a : AgentParts) → slice_get m.agents k ≡ Some a → symbol_at m k ≡ Some (record { 0 = word }) → a.symbol.0 ≡ word
+symbol_is m k word a stands is =
+    let same : Some a.symbol ≡ Some (record { 0 = word }) = sym (ap (option_map (λ (a : AgentParts). a.symbol)) stands) ∙ is in
+    ap (λ (s : SymbolNo). s.0) (same_Some a.symbol (record { 0 = word }) same)
 
 module _ (m : MemberParts) (ns : List CellNo) (k : ℕ) (n : CellNo) (first : ArenaView) where
   -- no end is written

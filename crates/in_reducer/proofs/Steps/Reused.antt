@@ -1,15 +1,18 @@
 -- An interaction of a reducer whose new agents may be in the cells of the pair: the goals of its steps, and its result. It is one of the reducer in
 -- which the pair has numbers of no cell.
-use Rattle.std.proofs.Common.{◌≡◌, ◌≢◌, ◌≤◌, ◌+◌, ℕ, suc, List, ◌++◌, map, take, remove, length, length-append, Option, Some, None, refl, sym, ap, subst, ◌∙◌, append_assoc, arith}
+use Rattle.std.proofs.Common.{◌≡◌, ◌≢◌, ◌≤◌, ◌+◌, ℕ, suc, true, List, ◌++◌, map, take, remove, length, length-append, Option, Some, None, refl, sym, ap, subst, ◌∙◌, append_assoc, arith}
 use Rattle.std.proofs.lemmas.List.{length-map, length-set, take_all}
 use Rattle.std.specs.Prelude.{option_map, IsTrue}
 use Rattle.in_base.proofs.Places.{to_mapped, is_some as there}
-use Rattle.in_arena.specs.Arenas.{ArenaView, NoneLeased, changed}
+use Rattle.in_arena.specs.Arenas.{ArenaView, NoneLeased, changed, state_at}
 use Rattle.in_arena.specs.Changes.{HasAllCells}
-use Rattle.in_arena.specs.States.{Vacant}
+use Rattle.in_arena.specs.Classes.{IsNumberOf}
+use Rattle.in_arena.specs.States.{Vacant, word_of}
+use Rattle.in_arena.specs.declared.content.CellClass.{CellClass}
 use Rattle.in_arena.specs.declared.content.CellClass.TheVariants.{Small}
 use Rattle.in_arena.specs.declared.content.CellNo.{CellNo}
 use Rattle.in_arena.specs.declared.content.End.{End}
+use Rattle.in_arena.proofs.Public.{class_of_number, live_inside, word_live}
 use Rattle.in_symbols.specs.declared.symbols.SymbolNo.{SymbolNo}
 use Rattle.in_symbols.specs.Tables.{Tables}
 use Rattle.in_net.specs.declared.nets.AgentNo.{AgentNo}
@@ -28,10 +31,10 @@ use Rattle.in_order.proofs.Public.{sound_steps}
 use Rattle.in_cells.specs.Between.{IsDone}
 use Rattle.in_cells.specs.Shown.{IsShown}
 use Rattle.in_cells.proofs.Public.{shown_is_step}
-use Rattle.in_compile.specs.Cells.{count_of}
+use Rattle.in_compile.specs.Cells.{count_of, is_of}
 use Rattle.in_compile.specs.Templates.{TemplateParts}
 use Rattle.in_compile.specs.Wires.{over_of, over_point}
-use Rattle.in_compile.proofs.Public.{over_ends}
+use Rattle.in_compile.proofs.Public.{one_class, over_ends}
 use Rattle.in_overwriting.specs.MadeByWires.{MakeInTurn}
 use Rattle.in_overwriting.proofs.Public.{wires_make_pairs_in_turn}
 use Rattle.in_reducer.specs.declared.body.Body.{Body}
@@ -59,6 +62,13 @@ use Rattle.in_reducer.proofs.Steps.CanWire as can
 use Rattle.in_reducer.proofs.Steps.StillNet as still
 use Rattle.in_reducer.proofs.Steps.Stepped as stepped
 use Rattle.in_reducer.proofs.Steps.StepsOn as steps
+
+-- the cell of an agent is of its symbol's class
+of_its_class : (t : Tables) (a : ArenaView) → IsNetIn t (at_rest a) → HasAllCells a → (n s : ℕ) → word_of (state_at a n) ≡ Some s → (c : CellClass) → is_of t c s ≡ true → IsNumberOf a.cells c n
+of_its_class t a net all n s word c is =
+    let low = live_inside a n (word_live (state_at a n) s word) in
+    let d = class_of_number a.cells n (omega (arith, low, all)) in
+    subst (λ (z : CellClass). IsNumberOf a.cells z n) (one_class _ d.0 c (still.good_of t a net n d.0 s d.1 word) is) d.1
 
 module _ (r : Body) (k : KeepsNet r) (i : ℕ) (p : TemplateParts) (at : IsTemplateAt (reducer_view r) i p) where
   abbrev t : Tables
@@ -147,12 +157,22 @@ module _ (r : Body) (k : KeepsNet r) (i : ℕ) (p : TemplateParts) (at : IsTempl
   -- ---- the results of the interaction
 
   module _ (room : HasRoomAt m i) (none : NoneLeased r.arena) (all : HasAllCells r.arena) (pair : Pair) (own : ℕ) (ends : List End) (tables : Tables) (is_tables : tables ≡ t) (about : IsAbout tables setting p pair own r.arena ends) where
+    one_word : word_of (state_at r.arena pair.one.0) ≡ Some at.rule.heads.0.0
+    one_word = ap (λ y. word_of (state_at r.arena y)) about.one ∙ sym (about.shown.agents a) ∙ about.redex.one
+
+    other_word : word_of (state_at r.arena pair.other.0) ≡ Some at.rule.heads.1.0
+    other_word = ap (λ y. word_of (state_at r.arena y)) about.two ∙ sym (about.shown.agents b) ∙ about.redex.two
+
     pub can_wire_anew : IsTrue p.unmarked → (points : List End) → most_points ≤ length points → CanWireAnew tables p pair r.arena ends points
     can_wire_anew unmarked points long = record {
       setting = setting;
       own = own;
       about = about;
       aside = (parts_of s, f, subst (λ (u : Tables). IsSetAside u setting r.arena (parts_of s) f) (sym is_tables) set);
+      classed = (
+        of_its_class t r.arena k.net all pair.one.0 at.rule.heads.0.0 one_word p.classes.0 at.template.classes.0,
+        of_its_class t r.arena k.net all pair.other.0 at.rule.heads.1.0 other_word p.classes.1 at.template.classes.1,
+      );
       unmarked = unmarked;
       begin = record { all = all; free = stepped.enough r k i p at none room; few = stepped.few_agents r k i p at; long = long };
       few = stepped.few_joints r k i p at;

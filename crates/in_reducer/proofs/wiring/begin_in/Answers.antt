@@ -3,6 +3,7 @@ use Rattle.std.proofs.lemmas.List.{length-set}
 use Rattle.in_base.proofs.Each.{at_index}
 use Rattle.in_base.proofs.Places.{set_there}
 use Rattle.in_arena.specs.Arenas.{ArenaView, changed}
+use Rattle.in_arena.specs.Classes.{IsNumberOf}
 use Rattle.in_arena.specs.States.{Vacant}
 use Rattle.in_arena.specs.declared.content.CellNo.{CellNo}
 use Rattle.in_arena.specs.declared.content.End.{End}
@@ -89,6 +90,15 @@ begin_in-second-requires-clause-live c =
     let m = c.args.member.now in
     let x = at_index m.agents 0 (let many = c.agents-many.ensures in let f = c.if-many-eq0.false in omega (arith, many, f)) in
     taken.other_live m c.is_sound.ensures c.args.pair c.args.arena.now c.requires.0 c.args.points.now c.requires.1 x.0 x.1 c.begin_in-first.result c.begin_in-first.new.arena (c.begin_in-first.ensures x.0 x.1)
+
+pub begin_in-first-requires-clause-own : goal.begin_in-first-requires-clause-own
+begin_in-first-requires-clause-own c = c.requires.2.0
+
+pub begin_in-second-requires-clause-own : goal.begin_in-second-requires-clause-own
+begin_in-second-requires-clause-own c =
+    let m = c.args.member.now in
+    let x = at_index m.agents 0 (let many = c.agents-many.ensures in let f = c.if-many-eq0.false in omega (arith, many, f)) in
+    subst (λ (v : ArenaView). IsNumberOf v.cells c.args.classes.1 c.args.pair.other.0) (sym (c.begin_in-first.ensures x.0 x.1).arena) c.requires.2.1
 
 pub begin_in-second-requires-clause-all : goal.begin_in-second-requires-clause-all
 begin_in-second-requires-clause-all c =

@@ -31,7 +31,7 @@ side-inner-requires c =
     let w = c.index-wires-number.result in
     let at = listed_at (over_of c.args.template.now.member) c.over-wires.result.now c.loop-number.number w c.over-wires.ensures c.loop-number-test.true c.index-wires-number.is in
     one.over_can_read q.0 q.1 c.args.template.now q.2 q.3 c.args.points.now c.loop-number.number c.loop-number.arena c.loop-number.ends (c.loop-number.invariant.written q.0 q.1 q.2 q.3 q.4) w at
-    c.slot.result c.place.result c.slot.ensures.slot c.place.ensures.place
+    c.slot.result c.step.result c.slot.ensures.slot c.step.ensures.place
 
 pub exchange-requires-clause-one : goal.exchange-requires-clause-one
 exchange-requires-clause-one c =
@@ -42,10 +42,10 @@ exchange-requires-clause-one c =
     c.index-points-end.result c.side-inner.result (record {
       end = c.end.result;
       slot = c.slot.result;
-      place = c.place.result;
+      place = c.step.result;
       is_end = c.end.ensures.end;
       is_slot = c.slot.ensures.slot;
-      is_place = c.place.ensures.place;
+      is_place = c.step.ensures.place;
       outer = c.index-points-end.is;
       inner = c.side-inner.ensures;
     })
@@ -59,10 +59,10 @@ exchange-requires-clause-other c =
     c.index-points-end.result c.side-inner.result (record {
       end = c.end.result;
       slot = c.slot.result;
-      place = c.place.result;
+      place = c.step.result;
       is_end = c.end.ensures.end;
       is_slot = c.slot.ensures.slot;
-      is_place = c.place.ensures.place;
+      is_place = c.step.ensures.place;
       outer = c.index-points-end.is;
       inner = c.side-inner.ensures;
     })
@@ -93,10 +93,10 @@ loop-number-preserved c =
     let read : one.HasReadOver points w u v = record {
       end = c.end.result;
       slot = c.slot.result;
-      place = c.place.result;
+      place = c.step.result;
       is_end = c.end.ensures.end;
       is_slot = c.slot.ensures.slot;
-      is_place = c.place.ensures.place;
+      is_place = c.step.ensures.place;
       outer = c.index-points-end.is;
       inner = c.side-inner.ensures;
     } in

@@ -12,7 +12,7 @@ side-one-requires c =
     let w = c.index-wires-number.result in
     let at = listed_at (within_of c.args.template.now.member) c.within-wires.result.now c.loop-number.number w c.within-wires.ensures c.loop-number-test.true c.index-wires-number.is in
     one.one_can_read q.0 q.1 c.args.template.now q.2 q.3 c.args.points.now c.loop-number.number c.loop-number.arena c.loop-number.ends (c.loop-number.invariant.written q.0 q.1 q.2 q.3 q.4) w at
-    c.slot.result c.place.result (c.slot.ensures.slot ∙ ap slot_of c.one.ensures) (c.place.ensures.place ∙ ap place_in c.one-in-loop-number.ensures)
+    c.slot.result c.step.result (c.slot.ensures.slot ∙ ap slot_of c.one.ensures) (c.step.ensures.place ∙ ap place_in c.one-in-loop-number.ensures)
 
 pub side-other-requires : goal.side-other-requires
 side-other-requires c =
@@ -20,7 +20,7 @@ side-other-requires c =
     let w = c.index-wires-number.result in
     let at = listed_at (within_of c.args.template.now.member) c.within-wires.result.now c.loop-number.number w c.within-wires.ensures c.loop-number-test.true c.index-wires-number.is in
     one.other_can_read q.0 q.1 c.args.template.now q.2 q.3 c.args.points.now c.loop-number.number c.loop-number.arena c.loop-number.ends (c.loop-number.invariant.written q.0 q.1 q.2 q.3 q.4) w at
-    c.slot-in-loop-number.result c.place-in-loop-number.result (c.slot-in-loop-number.ensures.slot ∙ ap slot_of c.other.ensures) (c.place-in-loop-number.ensures.place ∙ ap place_in c.other-in-loop-number.ensures)
+    c.slot-in-loop-number.result c.step-in-loop-number.result (c.slot-in-loop-number.ensures.slot ∙ ap slot_of c.other.ensures) (c.step-in-loop-number.ensures.place ∙ ap place_in c.other-in-loop-number.ensures)
 
 pub exchange-requires-clause-one : goal.exchange-requires-clause-one
 exchange-requires-clause-one c =
@@ -30,13 +30,13 @@ exchange-requires-clause-one c =
     one.within_place_u q.0 q.1 c.args.template.now q.2 q.3 c.args.points.now c.loop-number.number c.loop-number.arena c.loop-number.ends (c.loop-number.invariant.written q.0 q.1 q.2 q.3 q.4) w at c.side-one.result c.side-other.result
     (record {
       slot = c.slot.result;
-      place = c.place.result;
+      place = c.step.result;
       other_slot = c.slot-in-loop-number.result;
-      other_place = c.place-in-loop-number.result;
+      other_place = c.step-in-loop-number.result;
       is_slot = c.slot.ensures.slot ∙ ap slot_of c.one.ensures;
-      is_place = c.place.ensures.place ∙ ap place_in c.one-in-loop-number.ensures;
+      is_place = c.step.ensures.place ∙ ap place_in c.one-in-loop-number.ensures;
       is_other_slot = c.slot-in-loop-number.ensures.slot ∙ ap slot_of c.other.ensures;
-      is_other_place = c.place-in-loop-number.ensures.place ∙ ap place_in c.other-in-loop-number.ensures;
+      is_other_place = c.step-in-loop-number.ensures.place ∙ ap place_in c.other-in-loop-number.ensures;
       one = c.side-one.ensures;
       other = c.side-other.ensures;
     })
@@ -49,13 +49,13 @@ exchange-requires-clause-other c =
     one.within_place_v q.0 q.1 c.args.template.now q.2 q.3 c.args.points.now c.loop-number.number c.loop-number.arena c.loop-number.ends (c.loop-number.invariant.written q.0 q.1 q.2 q.3 q.4) w at c.side-one.result c.side-other.result
     (record {
       slot = c.slot.result;
-      place = c.place.result;
+      place = c.step.result;
       other_slot = c.slot-in-loop-number.result;
-      other_place = c.place-in-loop-number.result;
+      other_place = c.step-in-loop-number.result;
       is_slot = c.slot.ensures.slot ∙ ap slot_of c.one.ensures;
-      is_place = c.place.ensures.place ∙ ap place_in c.one-in-loop-number.ensures;
+      is_place = c.step.ensures.place ∙ ap place_in c.one-in-loop-number.ensures;
       is_other_slot = c.slot-in-loop-number.ensures.slot ∙ ap slot_of c.other.ensures;
-      is_other_place = c.place-in-loop-number.ensures.place ∙ ap place_in c.other-in-loop-number.ensures;
+      is_other_place = c.step-in-loop-number.ensures.place ∙ ap place_in c.other-in-loop-number.ensures;
       one = c.side-one.ensures;
       other = c.side-other.ensures;
     })
@@ -77,13 +77,13 @@ loop-number-preserved c =
     let at = listed_at (within_of p.member) c.within-wires.result.now n w c.within-wires.ensures c.loop-number-test.true c.index-wires-number.is in
     let read : one.HasReadWithin points w u v = record {
       slot = c.slot.result;
-      place = c.place.result;
+      place = c.step.result;
       other_slot = c.slot-in-loop-number.result;
-      other_place = c.place-in-loop-number.result;
+      other_place = c.step-in-loop-number.result;
       is_slot = c.slot.ensures.slot ∙ ap slot_of c.one.ensures;
-      is_place = c.place.ensures.place ∙ ap place_in c.one-in-loop-number.ensures;
+      is_place = c.step.ensures.place ∙ ap place_in c.one-in-loop-number.ensures;
       is_other_slot = c.slot-in-loop-number.ensures.slot ∙ ap slot_of c.other.ensures;
-      is_other_place = c.place-in-loop-number.ensures.place ∙ ap place_in c.other-in-loop-number.ensures;
+      is_other_place = c.step-in-loop-number.ensures.place ∙ ap place_in c.other-in-loop-number.ensures;
       one = c.side-one.ensures;
       other = c.side-other.ensures;
     } in

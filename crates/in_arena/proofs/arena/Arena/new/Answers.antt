@@ -1,17 +1,16 @@
 use Rattle.std.proofs.Common.{refl}
 use Rattle.in_arena.specs.FreeLists.{list_in}
-use Rattle.in_arena.proofs.FreeLists.{list_with}
-use Rattle.in_arena.proofs.Inside.{all_alike, new_free, new_states, new_whole}
+use Rattle.in_arena.proofs.Inside.{new_free, new_states, new_whole}
 use Rattle.in_arena.proofs.arena.Arena.new.Goals as goal
 
 pub invariant_of-result : goal.invariant_of-result
 invariant_of-result c =
-    let made = c.in_ok-base.ensures in let cells = c.args.cells in let ws = c.in_ok-base.words.slots in let l = list_with cells 0 cells in
+    let made = c.in_ok-base.ensures in let cells = c.args.cells in let ws = c.in_ok-base.words.slots in
     record {
       few = c.requires;
       block = (made.0, made.2, made.3, made.4);
       whole = new_whole cells ws made.1;
-      free = λ k. new_free cells ws k (list_in (record { small = l; large = l; wide = l }) k) made.1 (all_alike l k);
+      free = λ k. new_free cells ws k (list_in c.all.result k) made.1 (c.all.ensures k);
     }
 
 pub returns : goal.returns

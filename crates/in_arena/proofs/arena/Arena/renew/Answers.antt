@@ -16,12 +16,12 @@ pub invariant_of-self : goal.invariant_of-self
 invariant_of-self c =
     let a = c.self.inside in let h = c.self.invariant in let n = c.args.cell.0 in let v = c.args.self.now in let l = live_of a h v c.self.view_is n c.requires.live in
     let for = c.requires.many in let same = numbers_apart v.cells n for.0 l.class for.1 (subst (λ (w : ArenaView). IsNumberOf w.cells l.class n) c.self.view_is (number_of_place a.cells n l.class l.index l.place)) in
-    (head_set a h v c.self.view_is n l c.write.new.self c.write.ensures.0 (Cell (record { 0 = c.args.symbol }) c.args.places) c.near_word.result tt (held_some for.0 c.args.places for.2) (subst (λ k. c.args.places ≤ width k) same for.2.1)
-    (c.near_word.ensures ∙ near_spot a.cells n l.class l.index 3 l.place (omega arith)) (c.write.ensures.1 ∙ ap (λ e. set a.words.slots c.near_word.result (Some (Some e))) c.port.ensures)).0
+    (head_set a h v c.self.view_is n l c.write.new.self c.write.ensures.0 (Cell (record { 0 = c.args.head.word }) c.args.head.count) c.near_word.result tt (held_some for.0 c.args.head.count for.2) (subst (λ k. c.args.head.count ≤ width k) same for.2.1)
+    (c.near_word.ensures ∙ near_spot a.cells n l.class l.index 3 l.place (omega arith)) (c.write.ensures.1 ∙ ap (λ e. set a.words.slots c.near_word.result (Some (Some e))) c.word.ensures)).0
 
 pub returns : goal.returns
 returns c =
     let a = c.self.inside in let h = c.self.invariant in let n = c.args.cell.0 in let v = c.args.self.now in let l = live_of a h v c.self.view_is n c.requires.live in
     let for = c.requires.many in let same = numbers_apart v.cells n for.0 l.class for.1 (subst (λ (w : ArenaView). IsNumberOf w.cells l.class n) c.self.view_is (number_of_place a.cells n l.class l.index l.place)) in
-    (head_set a h v c.self.view_is n l c.write.new.self c.write.ensures.0 (Cell (record { 0 = c.args.symbol }) c.args.places) c.near_word.result tt (held_some for.0 c.args.places for.2) (subst (λ k. c.args.places ≤ width k) same for.2.1)
-    (c.near_word.ensures ∙ near_spot a.cells n l.class l.index 3 l.place (omega arith)) (c.write.ensures.1 ∙ ap (λ e. set a.words.slots c.near_word.result (Some (Some e))) c.port.ensures)).1
+    (head_set a h v c.self.view_is n l c.write.new.self c.write.ensures.0 (Cell (record { 0 = c.args.head.word }) c.args.head.count) c.near_word.result tt (held_some for.0 c.args.head.count for.2) (subst (λ k. c.args.head.count ≤ width k) same for.2.1)
+    (c.near_word.ensures ∙ near_spot a.cells n l.class l.index 3 l.place (omega arith)) (c.write.ensures.1 ∙ ap (λ e. set a.words.slots c.near_word.result (Some (Some e))) c.word.ensures)).1

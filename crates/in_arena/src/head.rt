@@ -1,0 +1,60 @@
+// The head of a live cell in one word.
+ghost use Rattle.std.specs.Prelude.{◌≡◌};
+ghost use Rattle.in_arena.specs.declared.content.End.TheVariants.{Cell};
+
+use crate::content::{CellNo, SymbolWord};
+use crate::word::EndWord;
+use std::marker::Model;
+
+/// The symbol word of a live cell, and how many places it has, in one word, which is written as it is. Contracts see both.
+#[derive(Clone, Copy)]
+pub struct HeadWord {
+    word: EndWord,
+}
+
+impl Model for HeadWord {
+    ghost use Rattle.in_arena.specs.declared.content.End.TheVariants.{Cell};
+    ghost use Rattle.in_arena.specs.Words.{Head, IsHead, head_in};
+
+    ghost Value = { Head };
+
+    ghost view = { λ h. head_in h.word };
+
+    ghost invariant = { λ h. IsHead h.word };
+
+    ghost inverse = { λ h. record { word = Cell (record { 0 = h.word }) h.count } };
+}
+
+impl HeadWord {
+    /// The head of a cell with this symbol word and this many places, the principal port's among them.
+    #[inline(always)]
+    pub fn of(symbol: SymbolWord, places: u8) -> HeadWord
+        ensures { (result.word ≡ symbol) × (result.count ≡ places) }
+    {
+        HeadWord {
+            word: EndWord::port(CellNo(symbol), places),
+        }
+    }
+
+    // As an end names a cell and a place.
+    #[inline(always)]
+    pub(crate) fn word(self) -> EndWord
+        ensures { result ≡ Cell (record { 0 = self.word }) self.count }
+    {
+        self.word
+    }
+
+    /// The symbol word.
+    pub fn symbol(self) -> SymbolWord
+        ensures { result ≡ self.word }
+    {
+        self.word.number()
+    }
+
+    /// How many places there are, the principal port's among them.
+    pub fn places(self) -> u8
+        ensures { result ≡ self.count }
+    {
+        self.word.place()
+    }
+}
