@@ -1,7 +1,6 @@
 -- Three numbers have one answer.
 use Rattle.std.proofs.Common.{◌≡◌, ℕ, ◌≤◌, Some, None, refl, sym, ◌∙◌, ap, subst}
 use Rattle.std.proofs.Math.Bridge.{le_prop}
-use Rattle.in_limits.specs.AllowedLimits.{AreLimits}
 use Rattle.in_limits.specs.Laws.{LimitsAreOne}
 use Rattle.in_limits.specs.Limiting.{least_cells, most_cells, most_interactions, most_workers}
 use Rattle.in_limits.specs.declared.limits.Limits.{Limits}

@@ -1,13 +1,11 @@
 -- Words that are written, owners that are parted, and free cells have one result.
-use Rattle.std.proofs.Common.{◌≡◌, ◌≢◌, ◌⊎◌, inl, inr, ℕ, zero, suc, ◌+◌, ◌*◌, ◌<◌, List, [], ◌∷◌, ◌++◌, Some, None, get_or, set, refl, sym, ap, subst, ◌∙◌, arith}
+use Rattle.std.proofs.Common.{◌≡◌, ℕ, ◌*◌, ◌<◌, List, [], ◌∷◌, ◌++◌, Some, None, get_or, set, refl, sym, ap, subst, ◌∙◌, arith}
 use Rattle.std.proofs.lemmas.Option.{same_Some}
-use Rattle.in_memory.specs.declared.cells.Base.{Base}
 use Rattle.in_memory.specs.declared.cells.Cells.{Cells}
 use Rattle.in_row.specs.Leasing.{IsFreeChain, run_of, FreeCellsAreOne, LeasedCellsAreOne}
 use Rattle.in_row.specs.Rows.{OwnersAreOne}
 use Rattle.in_row.specs.Shown.{Slots}
 use Rattle.in_row.specs.Words.{MendsAreOne, WordsAreOne}
-use Rattle.in_row.specs.declared.row.RowPart.{RowPart}
 
 -- ---- words and owners
 
