@@ -34,7 +34,7 @@ mends_are_one old new other a b r s h g =
 
 -- ---- free cells
 
--- a list has one end
+-- the words from this one on list the same cells each time
 one_chain : (ws : Slots) (next last : ℕ) (fs gs : List ℕ) → IsFreeChain ws next last fs → IsFreeChain ws next last gs → fs ≡ gs
 one_chain ws next last [] [] h k = refl
 one_chain ws next last [] (g ∷ gs) h k = absurd (k.1 (sym k.0 ∙ h))

@@ -28,6 +28,6 @@ MendsInto old a b new r =
 abbrev pub WordsAreOne : Type 0
 WordsAreOne = (old new other : Cells ℕ) (slots : Slots) → HasWords old slots new → HasWords old slots other → new ≡ other
 
--- .. and the words and the two ends what mending makes of them, and the two words that are linked
+-- the words and the two free ends determine the words after mending, and the two that it returns
 abbrev pub MendsAreOne : Type 0
 MendsAreOne = (old new other : Cells ℕ) (a b : ℕ) (r s : ℕ × ℕ) → MendsInto old a b new r → MendsInto old a b other s → (new ≡ other) × (r ≡ s)
