@@ -1,4 +1,5 @@
--- The claims under the rule of a board: none is made twice, none is left out once a seat is done, and none was made while all seats are new.
+-- The claims under the rule of a board: none is made twice, none is left out once a seat is done, none was made while all seats are new, and their
+-- number is one.
 use Rattle.std.proofs.Common.{◌≡◌, inl, inr, ℕ, zero, suc, ◌≤◌, ◌<◌, min, true, false, cond, nat_lt, Some, List, [], ◌∷◌, map, length, get_or, replicate, refl, sym, ap, subst, ◌∙◌, arith, eqb, Contains, count_by, slice_get}
 use Rattle.std.proofs.Math.ListN.{get_or-eq_default}
 use Rattle.std.proofs.lemmas.Bool.{cases_lt, cases_eq}
@@ -10,7 +11,7 @@ use Rattle.std.proofs.lemmas.List.Sums.{sum_by-cons, get_or-le-sum_by}
 use Rattle.std.proofs.lemmas.Option.{slice_get_within, get_or_from_slice_get, slice_get-get_or}
 use Rattle.in_claims.specs.declared.hands.Hand.{Hand}
 use Rattle.in_claims.specs.Rule.{hand, times_claimed, done_count, AreClaims}
-use Rattle.in_claims.specs.Laws.{numbers_of, ClaimsAreApart, ClaimsAreBelowTheLimit, DoneMeansAllClaimed, NewBoardsAreUnclaimed, TwoSeatsShareTheNumbers}
+use Rattle.in_claims.specs.Laws.{numbers_of, ClaimCountsAreOne, ClaimsAreApart, ClaimsAreBelowTheLimit, DoneMeansAllClaimed, NewBoardsAreUnclaimed, TwoSeatsShareTheNumbers}
 use Rattle.in_claims.specs.Seats.{BoardView, fresh, hand_of}
 use Rattle.in_claims.proofs.Sums.{at_most, if_below, two_of_sum, some_term, counted_at, stands_counted}
 
@@ -155,3 +156,18 @@ unclaimed board word claims =
       | inl some ↦ absurd (omega (arith, counted_below 0 (min word board.limit) some, claims.once 0, none))
       | inr ended ↦ omega (arith, claims.done, not_done)
     ]
+
+not_below : (k n : ℕ) → n ≤ k → cond (nat_lt k n) 1 0 ≤ 0
+not_below k n h = grind (arith, nat_tests)
+
+-- numbers are claimed as far by the one word as by the other
+as_far : (limit word other : ℕ) (hands : List Hand) → AreClaims limit word hands → AreClaims limit other hands → min word limit ≤ min other limit
+as_far limit word other hands one two =
+    elim (cases_lt (min other limit) (min word limit)) [
+      | inl less ↦ absurd (omega (arith, counted_below (min other limit) (min word limit) less, not_below (min other limit) (min other limit) (omega arith), one.once (min other limit), two.once (min other limit)))
+      | inr far ↦ far
+    ]
+
+pub counted_once : ClaimCountsAreOne
+counted_once limit word other hands one two =
+    omega (arith, as_far limit word other hands one two, as_far limit other word hands two one, one.done, two.done)

@@ -32,3 +32,7 @@ TwoSeatsShareTheNumbers = (limit word : ℕ) (a b : Hand) → AreClaims limit wo
 -- the seats of a new board have claimed nothing: the word is 0
 abbrev pub NewBoardsAreUnclaimed : Type 0
 NewBoardsAreUnclaimed = (board : BoardView) (word : ℕ) → AreClaims board.limit word (map hand_of (replicate board.seats (fresh board))) → word ≡ 0
+
+-- the limit and the hands of the seats determine the word, which is the number of claims
+abbrev pub ClaimCountsAreOne : Type 0
+ClaimCountsAreOne = (limit word other : ℕ) (hands : List Hand) → AreClaims limit word hands → AreClaims limit other hands → word ≡ other

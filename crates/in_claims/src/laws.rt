@@ -3,7 +3,7 @@
 
 ghost use Rattle.std.specs.Prelude.{List, slice_index};
 ghost use Rattle.atomic_table.specs.Table.{State};
-ghost use Rattle.in_claims.specs.Laws.{ClaimsAreApart, ClaimsAreBelowTheLimit, DoneMeansAllClaimed, NewBoardsAreUnclaimed, TwoSeatsShareTheNumbers};
+ghost use Rattle.in_claims.specs.Laws.{ClaimCountsAreOne, ClaimsAreApart, ClaimsAreBelowTheLimit, DoneMeansAllClaimed, NewBoardsAreUnclaimed, TwoSeatsShareTheNumbers};
 ghost use Rattle.in_claims.specs.Rule.{AreClaims, all_hands};
 ghost use Rattle.in_claims.specs.declared.hands.Hand.{Hand};
 ghost use Rattle.in_claims.specs.declared.hands.Size.{Size};
@@ -39,4 +39,10 @@ pub fn done_means_all_claimed()
 /// No number is in the lists of both of two seats of a board. If both are done, each number below the limit is in one of them.
 pub fn two_seats_share_the_numbers()
     ensures { TwoSeatsShareTheNumbers }
+{}
+
+/// The limit of a board and what its seats claimed have one number of claims, which `Board::take_back` returns. Which seat claims which number is
+/// open.
+pub fn claim_counts_are_one()
+    ensures { ClaimCountsAreOne }
 {}

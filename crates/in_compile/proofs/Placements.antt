@@ -4,6 +4,7 @@ pub mod Back
 pub mod EndByEnd
 pub mod Held
 pub mod OnePut
+pub mod OneRegained
 pub mod Put
 pub mod Settled
 pub mod Standing

@@ -10,6 +10,7 @@ pub use Rattle.in_compile.proofs.Needs.Classes.{one_short, same_need, short_need
 pub use Rattle.in_compile.proofs.Placements.EndByEnd.{inside_of}
 pub use Rattle.in_compile.proofs.Compiled.OneTemplate.{has_template, held, one_class, one_for}
 pub use Rattle.in_compile.proofs.Placements.OnePut.{one_put}
+pub use Rattle.in_compile.proofs.Placements.OneRegained.{one_arena}
 pub use Rattle.in_compile.proofs.Placements.Put.{begins, none_begun, one_more_begun, some_free}
 pub use Rattle.in_compile.proofs.Placements.Settled.{settled}
 pub use Rattle.in_compile.proofs.Compiled.Sound.{few_agents, joints_many, sound}

@@ -25,6 +25,10 @@ MembersAreOne = (t : Tables) (n : Parts) (p q : MemberParts) → IsMemberOf t n 
 abbrev pub MemberPutsAreOne : Type 0
 MemberPutsAreOne = (m : MemberParts) (ns : List CellNo) (old new other : ArenaView) → IsPut m ns old new → IsPut m ns old other → new ≡ other
 
+-- .. and the arena that regains the cells of a bag by the arena, the bag and the states of its cells
+abbrev pub RegainsAreOne : Type 0
+RegainsAreOne = (f : State → State) (a b new other : ArenaView) → Regains f a b new → Regains f a b other → new ≡ other
+
 -- ---- no cell is lost
 
 -- after leasing, each class has as many cells that are free or held as before

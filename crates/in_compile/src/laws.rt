@@ -1,7 +1,7 @@
 //! Laws on templates, stocks and placed members, for proofs above them. No function here does anything.
 
 ghost use Rattle.in_compile.specs.Laws.{EachPairHasOneTemplate, TemplatesAreOne, TemplatesOfAreOne, LargestNeedsAreOne, WiresOverAreListed, WiresWithinAreListed, WiresAreListedOnce};
-ghost use Rattle.in_compile.specs.PlacingLaws.{MembersAreOne, MemberPutsAreOne, LeasingKeepsAll, GivingBackKeepsAll, AllGoBack, PlacingLosesNone, SettlingLosesNone, PlacingSharesOut, OtherBagsStay, SettledMembersStand};
+ghost use Rattle.in_compile.specs.PlacingLaws.{MembersAreOne, MemberPutsAreOne, RegainsAreOne, LeasingKeepsAll, GivingBackKeepsAll, AllGoBack, PlacingLosesNone, SettlingLosesNone, PlacingSharesOut, OtherBagsStay, SettledMembersStand};
 
 /// In an accepted program, every two matching symbols have exactly one template, in either order, and it is that of their rule.
 pub fn each_pair_has_one_template()
@@ -46,6 +46,11 @@ pub fn wires_are_listed_once()
 /// The result of putting a member into an arena is determined by the cells that its agents get.
 pub fn puts_are_one()
     ensures { MemberPutsAreOne }
+{}
+
+/// An arena that regains the cells of a bag becomes one arena: so spending and settling have one result.
+pub fn regains_are_one()
+    ensures { RegainsAreOne }
 {}
 
 /// Leasing into a stock loses no cell: each class has as many cells that are free or held as before.

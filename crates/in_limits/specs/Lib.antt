@@ -1,2 +1,3 @@
 pub mod AllowedLimits
+pub mod Laws
 pub mod Limiting

@@ -2,6 +2,7 @@
 //! without one.
 #![tactic(auto)]
 
+pub mod laws;
 mod limits;
 
 pub use limits::{LEAST_CELLS, Limits, MOST_CELLS, MOST_INTERACTIONS, MOST_WORKERS};

@@ -1,13 +1,9 @@
 -- Interactions of the first pairs, one after another: their end, and that they have one result. This project's own choice.
-use Rattle.std.specs.Prelude.{◌≡◌, ◌⊎◌, ◌<◌, ◌≤◌, ℕ, []}
+use Rattle.std.specs.Prelude.{◌≡◌, ◌<◌, ◌≤◌, ℕ}
 use Rattle.in_reducer.specs.Machines.{MachineParts}
-use Rattle.in_reducer.specs.Steps.{HasRoomAt}
+pub use Rattle.in_reducer.specs.ResultLaws.{TakesNoFirst}
 use Rattle.in_reducer.specs.Same.{AreSame, RunsUpToNumbers}
 use Rattle.in_machine.specs.Machines.{IsMachine}
-
--- no pair is left, or the cells for the first one aren't free
-abbrev pub TakesNoFirst : MachineParts → Type 0
-TakesNoFirst m = (m.queue ≡ []) ⊎ (HasRoomAt m 0 → ⊥)
 
 -- the number of interactions (at most as many as requested, and fewer only if no further one is possible) is determined, and they lead to one machine
 -- up to numbers

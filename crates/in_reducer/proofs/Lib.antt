@@ -6,5 +6,6 @@ pub mod Pairs
 pub mod Parts
 pub mod Picking
 pub mod Public
+pub mod Results
 pub mod Starts
 pub mod Steps

@@ -5,6 +5,7 @@ pub use Rattle.in_reducer.proofs.Starts.Accepted.{few_ports, net_over_at, net_th
 pub use Rattle.in_reducer.proofs.Pairs.Queues.{agent_numbers, all_classes, as_many, numbered, numbered_once, numbered_only, reducer_promised, reducer_queue, short_queue}
 pub use Rattle.in_reducer.proofs.Cuts.Reduced.{cuts_are_undone, parts_reduce_the_whole, reductions_go_on, stays_reduce, steps_reduce}
 pub use Rattle.in_reducer.proofs.Pairs.Requeued.{other_pair, was_there}
+pub use Rattle.in_reducer.proofs.Results.{first_steps_are_one, needs_are_one, passes, room_moved}
 pub use Rattle.in_reducer.proofs.Starts.Begun.{each_push}
 pub use Rattle.in_reducer.proofs.Starts.Started.{lives, queue_moved, symbol_back, symbol_moved}
 pub use Rattle.in_reducer.proofs.Steps.Ahead.{symbols_stay}

@@ -16,6 +16,7 @@ pub mod PartingLaws
 pub mod Placed
 pub mod Reducers
 pub mod Reserved
+pub mod ResultLaws
 pub mod Runs
 pub mod Same
 pub mod Sides

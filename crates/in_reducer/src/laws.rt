@@ -3,6 +3,7 @@
 ghost use Rattle.in_reducer.specs.Cutting.{JointsUndoCuts};
 ghost use Rattle.in_reducer.specs.Laws.{ReducersAsPromised, StepsKeepReducers, StartsAreReducers};
 ghost use Rattle.in_reducer.specs.PartingLaws.{CutsAreUndone, GluingsAreAlike, PartsReduceTheWhole, ReductionsGoOn, SplitsAreAlike, StaysReduce, StepsReduce};
+ghost use Rattle.in_reducer.specs.ResultLaws.{CutsAreOne, FirstStepsAreOne, HeadsAreOne, JointsAreOne, NeedsAreOne};
 
 /// The net that a reducer shows is as promised. It is typed, has one rule for each active pair, and has no crossing circle and no vicious one. Each
 /// interaction ends. Each agent leads on. The net is written whole.
@@ -61,4 +62,29 @@ pub fn gluings_are_alike()
 /// net, by as many interactions.
 pub fn cuts_are_undone()
     ensures { CutsAreUndone }
+{}
+
+/// A pair needs one number of cells of each class.
+pub fn needs_are_one()
+    ensures { NeedsAreOne }
+{}
+
+/// A pair has two symbols, in one order.
+pub fn heads_are_one()
+    ensures { HeadsAreOne }
+{}
+
+/// `cut` has one result, with the same numbers of agents.
+pub fn cuts_are_one()
+    ensures { CutsAreOne }
+{}
+
+/// So has `join_last`: which pair it adds, if any, is determined, since what it leaves is a reducer.
+pub fn joints_are_one()
+    ensures { JointsAreOne }
+{}
+
+/// `take_first` has one result: one number of interactions, and one reducer up to the numbers of its agents.
+pub fn first_steps_are_one()
+    ensures { FirstStepsAreOne }
 {}

@@ -7,7 +7,8 @@ use Rattle.in_reducer.specs.Machines.{MachineParts}
 use Rattle.in_reducer.specs.Runs.{Runs}
 use Rattle.in_rounds.specs.Dones.{DoneParts}
 use Rattle.in_rounds.specs.Gathers.{GatherParts, Puts, TakesDone, bags_of}
-use Rattle.in_rounds.specs.Holding.{holders}
+use Rattle.in_rounds.specs.Holding.{Returns, holders}
+use Rattle.in_rounds.specs.Lending.{AreLentOut}
 use Rattle.in_rounds.specs.Rounds.{IsFront, IsRound}
 use Rattle.in_rounds.specs.declared.gather.Why.{Why}
 
@@ -30,6 +31,14 @@ PutsAreOne = (g h i : GatherParts) (d : DoneParts) (r s : Result (Unit {0}) (Don
 
 abbrev pub TakesAreOne : Type 0
 TakesAreOne = (g h i : GatherParts) (job : ℕ) (r s : Option DoneParts) → TakesDone g job r h → TakesDone g job s i → (r ≡ s) × (h ≡ i)
+
+-- .. and the bags before and after, and the arena, determine the arena to which cells are given back
+abbrev pub ReturnsAreOne : Type 0
+ReturnsAreOne = (before after : List ArenaView) (a new other : ArenaView) → Returns before after a new → Returns before after a other → new ≡ other
+
+-- .. and the arena and the bags that are lent determine the arena after. (Which cells are lent is open.)
+abbrev pub LentArenasAreOne : Type 0
+LentArenasAreOne = (bs : List ArenaView) (a new other : ArenaView) → AreLentOut bs a new → AreLentOut bs a other → new ≡ other
 
 -- ---- rounds
 

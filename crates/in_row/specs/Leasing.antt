@@ -1,5 +1,5 @@
 -- The free cells of one class, in the order in which they are leased: those of a list, and then those that were never used.
-use Rattle.std.specs.Prelude.{◌≡◌, ◌≢◌, ℕ, zero, suc, ◌+◌, ◌*◌, List, [], ◌∷◌, ◌++◌, get_or, slice_set, Some, None}
+use Rattle.std.specs.Prelude.{◌≡◌, ◌≢◌, ◌<◌, ℕ, zero, suc, ◌+◌, ◌*◌, List, [], ◌∷◌, ◌++◌, get_or, slice_set, Some, None}
 use Rattle.std.specs.List.{AllByRecursion}
 use Rattle.in_row.specs.Shown.{Slots}
 use Rattle.in_row.specs.declared.free_cells.FreeCells.{FreeCells}
@@ -43,8 +43,16 @@ Appends ws s o vs t =
     (size : ℕ) (free listed : List ℕ) → AreFree size ws s free → IsFreeChain ws o.next o.last listed → IsNotAmong o.last free → o.last ≢ s.last → IsNotAmong s.last listed
     → AreFree size vs t (listed ++ o.last ∷ free)
 
--- ---- the law
+-- ---- the laws
 
 -- free cells stay free, in their order, while another word is written
 abbrev pub FreeCellsStay : Type 0
 FreeCellsStay = (size : ℕ) (ws : Slots) (s : FreeCells) (free : List ℕ) (c x : ℕ) → IsNotAmong c free → AreFree size ws s free → AreFree size (slice_set ws c (Some (Some x))) s free
+
+-- the words and the owner's numbers determine which cells are free, in their order, if a cell of the class has a word
+abbrev pub FreeCellsAreOne : Type 0
+FreeCellsAreOne = (size : ℕ) (ws : Slots) (s : FreeCells) (free others : List ℕ) → 0 < size → AreFree size ws s free → AreFree size ws s others → free ≡ others
+
+-- .. and which cell is leased
+abbrev pub LeasedCellsAreOne : Type 0
+LeasedCellsAreOne = (size : ℕ) (ws : Slots) (s t u : FreeCells) (leased other : ℕ) → CanLease size ws s → LeasesFirst size ws s leased t → LeasesFirst size ws s other u → leased ≡ other

@@ -16,3 +16,9 @@ IsDeedOf d p = (d.deed.at ≡ p.base.ptr) × (d.deed.len ≡ d.len) × (d.deed.a
 -- no word is another owner's
 abbrev pub AreAllHere : Slots → Type 0
 AreAllHere ws = (i : ℕ) → i < length ws → IsHere ws i
+
+-- ---- the law
+
+-- the row and the words determine the owner
+abbrev pub OwnersAreOne : Type 0
+OwnersAreOne = (p new other : RowPart) (slots : Slots) → OwnsWords p slots new → OwnsWords p slots other → new ≡ other

@@ -21,3 +21,13 @@ CanMend ws a b = (x : ℕ) × (y : ℕ) × (get_or ws a None ≡ Some (Some x)) 
 abbrev pub MendsInto : Cells ℕ → ℕ → ℕ → Cells ℕ → ℕ × ℕ → Type 0
 MendsInto old a b new r =
     (get_or old.slots a None ≡ Some (Some r.0)) × (get_or old.slots b None ≡ Some (Some r.1)) × HasWords old (slice_set (slice_set old.slots r.0 (Some (Some r.1))) r.1 (Some (Some r.0))) new
+
+-- ---- the laws
+
+-- the row and the words determine the owner of these words
+abbrev pub WordsAreOne : Type 0
+WordsAreOne = (old new other : Cells ℕ) (slots : Slots) → HasWords old slots new → HasWords old slots other → new ≡ other
+
+-- the words and the two free ends determine the words after mending, and the two that it returns
+abbrev pub MendsAreOne : Type 0
+MendsAreOne = (old new other : Cells ℕ) (a b : ℕ) (r s : ℕ × ℕ) → MendsInto old a b new r → MendsInto old a b other s → (new ≡ other) × (r ≡ s)

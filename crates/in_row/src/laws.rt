@@ -1,7 +1,9 @@
-// Laws on a row's layout, on parting it, and on its free cells.
+// Laws on a row's layout, on parting it, on its free cells, and on results of calls.
 ghost use Rattle.in_row.specs.Ends.{EndsHaveWords, WordsAreApart, PrincipalPortsAreTold};
 ghost use Rattle.in_row.specs.Parts.{PartsShowTheirOwn, GluedShowsBoth, WritesStayWithin};
-ghost use Rattle.in_row.specs.Leasing.{FreeCellsStay};
+ghost use Rattle.in_row.specs.Leasing.{FreeCellsAreOne, FreeCellsStay, LeasedCellsAreOne};
+ghost use Rattle.in_row.specs.Rows.{OwnersAreOne};
+ghost use Rattle.in_row.specs.Words.{MendsAreOne, WordsAreOne};
 
 /// The word of an end encodes this end, and an end's word that is decoded and encoded is the same word.
 pub fn ends_have_words()
@@ -37,4 +39,29 @@ pub fn writes_stay_within()
 /// Free cells stay free, in their order, while other words are written.
 pub fn free_cells_stay()
     ensures { FreeCellsStay }
+{}
+
+/// The words and the owner's numbers have one list of free cells, in one order. A cell of the class has a word at least.
+pub fn free_cells_are_one()
+    ensures { FreeCellsAreOne }
+{}
+
+/// `FreeCells::lease` leases one cell.
+pub fn leased_cells_are_one()
+    ensures { LeasedCellsAreOne }
+{}
+
+/// A write, a link and a cut have one result.
+pub fn words_are_one()
+    ensures { WordsAreOne }
+{}
+
+/// So has `mend_wire`: the words, and the two that it returns.
+pub fn mends_are_one()
+    ensures { MendsAreOne }
+{}
+
+/// Parting and joining owners have one result.
+pub fn owners_are_one()
+    ensures { OwnersAreOne }
 {}

@@ -40,7 +40,7 @@ module _ (m : MachineParts) (h : IsMachine m) where
       let free : f ≡ g = b ∙ ap (count_of m.vacant) class ∙ sym k in
       ap (λ (z : CellClass). Full z x f) class ∙ ap (λ (z : ℕ). Full d z f) need ∙ ap (λ (z : ℕ). Full d y z) free
 
-  same_stop : (limit k : ℕ) (s t : Stop) → IsStop limit m k s → IsStop limit m k t → s ≡ t
+  pub same_stop : (limit k : ℕ) (s t : Stop) → IsStop limit m k s → IsStop limit m k t → s ≡ t
   same_stop limit k Normal Normal a b = refl
   same_stop limit k Normal Limit a b = absurd (b.0 a)
   same_stop limit k Normal (Full c x f) a b = absurd (b.0 a)

@@ -16,7 +16,11 @@ use Rattle.in_run.specs.Stops.{IsStop, IsOutcome}
 use Rattle.in_reducer.specs.Same.{AreSame}
 use Rattle.in_machine.specs.Texts.{text_of}
 
--- .. and both stop alike
+-- a machine stops in one way, after a given number of interactions within a limit
+abbrev pub StopsAreOne : Type 0
+StopsAreOne = (m : MachineParts) (limit k : ℕ) (s t : Stop) → IsMachine m → IsStop limit m k s → IsStop limit m k t → s ≡ t
+
+-- .. and machines that are the same up to numbers stop alike
 abbrev pub StopsAreSame : Type 0
 StopsAreSame = (m n : MachineParts) (limit k : ℕ) (s : Stop) → AreSame m n → IsStop limit m k s → IsStop limit n k s
 
@@ -45,3 +49,7 @@ ProgramsEndAlike = (text : List ℕ) (p : Program) (l : Limits) (o u : Outcome) 
 -- a run that stops as `Normal` has reached the only end of its program, with any workers and limits
 abbrev pub NormalOutcomesAreOne : Type 0
 NormalOutcomesAreOne = (text : List ℕ) (p : Program) (l : Limits) (o : Outcome) → IsAccepted text p → RunsTo p l (Ok o) → o.stop ≡ Normal → EndsOnce p o.interactions (text_of o.machine)
+
+-- with any workers, runs of a program within limits that end at machines which are the same up to numbers, after as many interactions, have one stop
+abbrev pub OutcomesStopAlike : Type 0
+OutcomesStopAlike = (p : Program) (l : Limits) (o u : Outcome) → RunsTo p l (Ok o) → RunsTo p l (Ok u) → AreSame o.machine u.machine → o.interactions ≡ u.interactions → o.stop ≡ u.stop

@@ -1,6 +1,17 @@
 //! Laws on runs and their outcomes, for proofs above them. No function here does anything.
 
-ghost use Rattle.in_run.specs.Laws.{NormalOutcomesAreOne, OutcomesAreMachines, OutcomesAreReached, OutcomesAreSame, ProgramsEndAlike, StopsAreSame, TurnsAreAllowed};
+ghost use Rattle.in_run.specs.Laws.{NormalOutcomesAreOne, OutcomesAreMachines, OutcomesAreReached, OutcomesAreSame, OutcomesStopAlike, ProgramsEndAlike, StopsAreOne, StopsAreSame, TurnsAreAllowed};
+
+/// A machine stops in one way, after a given number of interactions within a limit.
+pub fn stops_are_one()
+    ensures { StopsAreOne }
+{}
+
+/// With any number of workers: runs of a program that end at one machine, up to the numbers of its agents, and after as many interactions, have one
+/// stop. At which machine several workers stop, and after how many interactions, is open, unless the stop is `Normal`.
+pub fn outcomes_stop_alike()
+    ensures { OutcomesStopAlike }
+{}
 
 /// Machines that are the same up to the numbers of their agents stop alike.
 pub fn stops_are_same()

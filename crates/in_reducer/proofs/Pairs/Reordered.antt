@@ -55,7 +55,7 @@ module _ (one two m : Net ℕ) (name : ℕ → ℕ) (ends : List (ℕ × ℕ)) (
 abbrev turned : ℕ × ℕ → ℕ × ℕ
 turned q = (q.1, q.0)
 
-both_same : (p q r : ℕ × ℕ) → AreSameTwo p q → AreSameTwo p r → AreSameTwo q r
+pub both_same : (p q r : ℕ × ℕ) → AreSameTwo p q → AreSameTwo p r → AreSameTwo q r
 both_same p q r (inl a) (inl b) = inl (b ∙ sym a)
 both_same p q r (inl a) (inr b) = inr (b ∙ ap turned (sym a))
 both_same p q r (inr a) (inl b) = inr (b ∙ ap turned (sym a))
@@ -79,7 +79,7 @@ one_first t c d a b differ = go (is_constructor t c.0) (is_constructor t d.0) re
     go false false e f = by (e ∙ sym f) (by_number a.0 b.0 differ)
 
 -- as active pairs of nets with the same symbols they are in one order
-one_order : (t : Tables) (n m : Parts) → ((x : ℕ) (s : SymbolNo) → symbol_in n x ≡ Some s → symbol_in m x ≡ Some s) → (p q : ℕ × ℕ) → IsActivePair t n (agents_at p) → IsActivePair t m (agents_at q) → AreSameTwo p q → p ≡ q
+pub one_order : (t : Tables) (n m : Parts) → ((x : ℕ) (s : SymbolNo) → symbol_in n x ≡ Some s → symbol_in m x ≡ Some s) → (p q : ℕ × ℕ) → IsActivePair t n (agents_at p) → IsActivePair t m (agents_at q) → AreSameTwo p q → p ≡ q
 one_order t n m kept p q h g (inl e) = sym e
 one_order t n m kept p q h g (inr e) =
     let k : IsActivePair t m (agents_at (p.1, p.0)) = subst (λ (z : ℕ × ℕ). IsActivePair t m (agents_at z)) e g in

@@ -1,0 +1,2 @@
+pub mod OneLimits
+pub mod Public
