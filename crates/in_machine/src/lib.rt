@@ -14,8 +14,8 @@ mod starting;
 
 pub use in_arena::{CellClass, CellNo, End};
 pub use in_compile::Need;
-pub use in_phases::{Room, Sharing, Worked};
+pub use in_phases::{Room, Sampled, Sharing, Worked};
 pub use in_reducer::{LEAST_CELLS, MOST_CELLS};
 pub use machine::Machine;
-pub use phases::phase;
+pub use phases::{phase, sample};
 pub use starting::StartFault;

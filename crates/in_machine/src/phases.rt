@@ -1,5 +1,5 @@
 // A machine's net is reduced in parts.
-ghost use Rattle.std.specs.Prelude.{◌≤◌};
+ghost use Rattle.std.specs.Prelude.{◌≤◌, length};
 ghost use Rattle.in_phases.specs.Phases.{HasFree};
 ghost use Rattle.in_phases.specs.Rooms.{KeepsRoom};
 ghost use Rattle.in_reducer.specs.Limiting.{most_cells};
@@ -7,7 +7,7 @@ ghost use Rattle.in_machine.specs.Phases.{IsPhase};
 
 use crate::machine::Machine;
 use in_base::use_promise;
-use in_phases::{Room, Sharing, Worked, reduce_in_parts};
+use in_phases::{Room, Sampled, Sharing, Worked, reduce_in_parts};
 use std::alloc::Global;
 use std::thread::Threads;
 
@@ -43,4 +43,33 @@ pub fn phase<R: Threads>(
     );
     use_promise!(machine.reducer.pairs());
     worked
+}
+
+/// The same with one part alone, that of the first `pairs` pairs, which the caller reduces: so it costs little to see how many interactions a part does
+/// for each agent that is moved. There are as many pairs.
+pub fn sample(
+    alloc: Global,
+    machine: &mut Machine,
+    pairs: u32,
+    sharing: Sharing,
+    room: &mut Room,
+) -> Sampled
+    requires pairs { pairs ≤ length machine.old.queue }
+    requires share { sharing.share ≤ most_cells }
+    requires floor { HasFree machine.old sharing.floor }
+    ensures phase { IsPhase machine.old result.interactions machine.new }
+    ensures most { result.interactions ≤ sharing.most }
+    ensures free { HasFree machine.new sharing.floor }
+    ensures room { KeepsRoom room.old room.new }
+{
+    let sampled = in_phases::sample(
+        alloc,
+        &mut machine.reducer,
+        &machine.templates,
+        pairs,
+        sharing,
+        room,
+    );
+    use_promise!(machine.reducer.pairs());
+    sampled
 }

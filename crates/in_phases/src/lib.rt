@@ -3,7 +3,7 @@
 //!
 //! `gathering` gathers the agents of a part in a `branch`: the trees behind some of the pairs. `cutting` cuts the wires that lead out of it, and
 //! undoes cuts; `phases` does all this, a part at a time: it splits a part off, continues with the rest while a thread reduces the part, and glues it
-//! on again. So each step is on two nets alone.
+//! on again. So each step is on two nets alone. `sampling` does so with one small part, to see what parts are worth.
 #![tactic(auto)]
 
 mod branch;
@@ -12,7 +12,9 @@ mod cutting;
 mod gathering;
 mod phases;
 mod room;
+mod sampling;
 mod taking;
 
 pub use phases::{Sharing, Worked, reduce_in_parts};
 pub use room::Room;
+pub use sampling::{Sampled, sample};

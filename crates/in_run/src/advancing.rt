@@ -5,21 +5,24 @@ ghost use Rattle.in_run.specs.Advancing.{RunsAnyhow};
 ghost use Rattle.in_run.specs.Stops.{GoesOn};
 ghost use Rattle.in_reducer.specs.Same.{RunsUpToNumbers};
 
-use crate::pace::{PHASES_FROM, Pace, sharing};
+use crate::pace::{PHASES_FROM, Pace, SAMPLE_PAIRS, are_newest_first, sampling, sharing};
 use in_limits::Limits;
-use in_machine::{Machine, phase};
+use in_machine::{Machine, phase, sample};
 use std::alloc::Global;
 use std::thread::Threads;
 
 /// The number of pairs that are taken before the next test whether a phase pays.
 const TURN: u64 = 1_024;
 
-/// Does some interactions on this thread, at most `most`: of the newest pairs while half of the cells are free, otherwise of the oldest ones. Returns
-/// their number.
+/// Does some interactions on this thread, at most `most`: in a large net of the newest pairs while half of the cells are free, otherwise of the oldest
+/// ones. Returns their number.
 fn take_alone(machine: &mut Machine, limits: Limits, most: u64) -> u64
     ensures goes { (m : MachineParts) (k : ℕ) → RunsAnyhow m k machine.old → RunsAnyhow m (result + k) machine.new }
     ensures most { result ≤ most }
 {
+    if !are_newest_first(machine) {
+        return machine.take_first(most);
+    }
     let count = machine.take_newest(limits.cells() / 2, most);
     if count != 0 {
         return count;
@@ -27,8 +30,8 @@ fn take_alone(machine: &mut Machine, limits: Limits, most: u64) -> u64
     count + machine.take_first(most)
 }
 
-/// Does interactions of a long run by several workers, at most `left`: a phase if one should pay, else some interactions on this thread, the newest
-/// pairs first while no phase is tried. Returns their number.
+/// Does interactions of a long run by several workers, at most `left`: a phase if one should pay, and before the first one, and after one that hasn't
+/// paid, a sample; else some interactions on this thread. Returns their number.
 fn by_parts<R: Threads>(
     rt: &R,
     alloc: Global,
@@ -48,6 +51,21 @@ fn by_parts<R: Threads>(
     let Some(sharing) = sharing(machine, limits, interactions, left) else {
         return machine.take_first(TURN.min(left));
     };
+    if !pace.is_worth {
+        let pairs = SAMPLE_PAIRS.min(machine.pairs());
+        let sampled = sample(
+            alloc,
+            machine,
+            pairs,
+            sampling(sharing, left),
+            &mut pace.room,
+        );
+        pace.note_sample(
+            sampled,
+            interactions.saturating_add(sampled.interactions),
+        );
+        return sampled.interactions;
+    }
     let agents = machine.agents();
     let worked = phase(rt, alloc, machine, sharing, &mut pace.room);
     pace.note(

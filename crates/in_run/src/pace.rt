@@ -5,7 +5,7 @@ ghost use Rattle.in_phases.specs.Phases.{HasFree};
 ghost use Rattle.in_reducer.specs.Limiting.{most_cells};
 
 use in_limits::Limits;
-use in_machine::{MOST_CELLS, Machine, Room, Sharing, Worked};
+use in_machine::{MOST_CELLS, Machine, Room, Sampled, Sharing, Worked};
 use std::alloc::Global;
 
 /// The number of interactions before a phase is tried: a shorter run is over before it could pay, and the pairs are spread far by then.
@@ -36,14 +36,31 @@ const MOST_FOR_EACH_AGENT: u64 = 16;
 
 const MOST_BESIDES: u64 = 32_768;
 
+/// The pairs of a sample.
+pub(crate) const SAMPLE_PAIRS: u32 = 32;
+
+/// The most interactions of a sample, and the free cells of each class for them.
+const SAMPLE_MOST: u64 = 8_192;
+
+const SAMPLE_SHARE: u32 = 4_096;
+
+/// The interactions of a sample for each agent that is moved, so that a phase is tried.
+const WORTH: u64 = 16;
+
+/// The cost of a sample besides that of its agents, in interactions.
+const COST_OF_A_SAMPLE: u64 = 2_000;
+
+/// A smaller net is in the cache in any order, so that the oldest pairs are taken while no phase is tried.
+const SMALL_NET: u32 = 16_384;
+
 /// The cost of a phase for each agent of the net, some of which are copied there and back, in interactions.
-const COST_OF_AN_AGENT: u64 = 4;
+const COST_OF_AN_AGENT: u64 = 8;
 
 /// .. and besides for each thread.
-const COST_OF_A_THREAD: u64 = 4_000;
+const COST_OF_A_THREAD: u64 = 8_000;
 
-/// The wait after a phase that hasn't paid, in multiples of its cost; twice as long after each further one.
-const FIRST_WAIT: u64 = 4;
+/// The wait after a phase that hasn't paid, or a sample that wasn't worth it, in multiples of its cost; twice as long after each further one.
+const FIRST_WAIT: u64 = 16;
 
 /// The state of a run of several workers between two tests: the number of interactions from which on a phase is considered, the wait after the next
 /// phase that doesn't pay, in multiples of its cost, and the room for phases; and the number of phases, and the most threads of one.
@@ -51,6 +68,7 @@ const FIRST_WAIT: u64 = 4;
 pub(crate) struct Pace {
     phase_from: u64,
     wait: u64,
+    pub(crate) is_worth: bool,
     pub(crate) phases: u64,
     pub(crate) threads: u32,
     pub(crate) room: Room,
@@ -62,6 +80,7 @@ impl Pace {
         Pace {
             phase_from: PHASES_FROM,
             wait: FIRST_WAIT,
+            is_worth: false,
             phases: 0,
             threads: 1,
             room: Room::new(alloc),
@@ -84,9 +103,45 @@ impl Pace {
         if gain >= 2 * cost && gain >= worked.interactions / 4 {
             self.wait = FIRST_WAIT;
         } else {
-            self.phase_from = interactions.saturating_add(self.wait.saturating_mul(cost));
-            self.wait = self.wait.saturating_mul(2);
+            self.put_off(cost, interactions);
         }
+    }
+
+    /// Notes a sample, after which `interactions` interactions are done. It was worth it if it did many interactions for each agent that was moved.
+    pub(crate) fn note_sample(&mut self, sampled: Sampled, interactions: u64) {
+        self.is_worth =
+            sampled.agents > 0 && sampled.interactions / WORTH >= sampled.agents;
+        if !self.is_worth {
+            let cost = sampled.agents.saturating_mul(COST_OF_AN_AGENT);
+            self.put_off(cost.saturating_add(COST_OF_A_SAMPLE), interactions);
+        }
+    }
+
+    /// Puts the next phase off, and has a sample before it.
+    fn put_off(&mut self, cost: u64, interactions: u64) {
+        self.is_worth = false;
+        self.phase_from = interactions.saturating_add(self.wait.saturating_mul(cost));
+        self.wait = self.wait.saturating_mul(2);
+    }
+}
+
+/// Whether the newest pairs are taken while no phase is tried: a large net stays small that way, and its newest agents are in the cache.
+pub(crate) fn are_newest_first(machine: &Machine) -> bool {
+    machine.agents() >= SMALL_NET
+}
+
+/// The sharing for a sample in place of this one, with `left` interactions left.
+pub(crate) fn sampling(sharing: Sharing, left: u64) -> Sharing
+    requires { sharing.share ≤ most_cells }
+    ensures share { result.share ≤ most_cells }
+    ensures floor { result.floor ≡ sharing.floor }
+    ensures most { result.most ≤ left }
+{
+    Sharing {
+        parts: 1,
+        share: sharing.share.min(SAMPLE_SHARE),
+        floor: sharing.floor,
+        most: left.min(SAMPLE_MOST),
     }
 }
 

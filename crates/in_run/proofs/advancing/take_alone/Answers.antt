@@ -3,6 +3,9 @@ use Rattle.in_run.specs.Advancing.{RunsAnyhow, then_phase}
 use Rattle.in_run.proofs.StatesOfRuns.{anyhow_further}
 use Rattle.in_run.proofs.advancing.take_alone.Goals as goal
 
+pub returns-then-not-are_newest_first-clause-goes : goal.returns-then-not-are_newest_first-clause-goes
+returns-then-not-are_newest_first-clause-goes c = λ m k run. anyhow_further m c.args.machine.now c.take_first-then-not-are_newest_first.new.self k c.take_first-then-not-are_newest_first.result run c.take_first-then-not-are_newest_first.ensures.runs
+
 pub returns-then-count-ne0-clause-goes : goal.returns-then-count-ne0-clause-goes
 returns-then-count-ne0-clause-goes c = λ m k run. then_phase m c.args.machine.now c.take_newest-count.new.self k c.take_newest-count.result run c.take_newest-count.ensures.phase
 
