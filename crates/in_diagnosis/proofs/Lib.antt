@@ -1,1 +1,2 @@
+pub mod BeginsAlike
 pub mod Told

@@ -1,3 +1,4 @@
 pub mod Data
+pub mod Laws
 pub mod Programs
 pub mod Remedies

@@ -10,12 +10,13 @@
 //! `circles` finds a circle through a part that no node splits. `stuck` describes it, and `remedies` tries declarations with other braces (`braces`
 //! of `in_diagnosis_words` writes them): each alone, and then the usual ones of all symbols.
 //!
-//! A `Report` gets all of this, and becomes a text or data; `heads` writes the refusal before the data.
+//! A `Report` gets all of this, and becomes a text or data; `heads` writes the refusal before the data. `laws` has the law on data.
 #![tactic(auto)]
 
 mod circles;
 mod directed;
 mod heads;
+pub mod laws;
 mod remedies;
 mod sentences;
 mod stuck;
