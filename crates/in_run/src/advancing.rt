@@ -60,10 +60,7 @@ fn by_parts<R: Threads>(
             sampling(sharing, left),
             &mut pace.room,
         );
-        pace.note_sample(
-            sampled,
-            interactions.saturating_add(sampled.interactions),
-        );
+        pace.note_sample(sampled, interactions.saturating_add(sampled.interactions));
         return sampled.interactions;
     }
     let agents = machine.agents();

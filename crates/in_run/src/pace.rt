@@ -109,8 +109,7 @@ impl Pace {
 
     /// Notes a sample, after which `interactions` interactions are done. It was worth it if it did many interactions for each agent that was moved.
     pub(crate) fn note_sample(&mut self, sampled: Sampled, interactions: u64) {
-        self.is_worth =
-            sampled.agents > 0 && sampled.interactions / WORTH >= sampled.agents;
+        self.is_worth = sampled.agents > 0 && sampled.interactions / WORTH >= sampled.agents;
         if !self.is_worth {
             let cost = sampled.agents.saturating_mul(COST_OF_AN_AGENT);
             self.put_off(cost.saturating_add(COST_OF_A_SAMPLE), interactions);
