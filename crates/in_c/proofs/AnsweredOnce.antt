@@ -1,12 +1,11 @@
 -- Each call has one result on a text, if memory didn't run out.
-use Rattle.std.proofs.Common.{◌≡◌, ◌≢◌, ◌⊎◌, inl, inr, ◌≤◌, ℕ, List, ◌++◌, take, drop, length, Bool, true, false, Ok, Err, refl, sym, ◌∙◌, ap, subst}
-use Rattle.std.proofs.Math.Bridge.{le_prop}
+use Rattle.std.proofs.Common.{◌≡◌, ◌≢◌, ◌⊎◌, inl, inr, ℕ, List, ◌++◌, take, drop, length, Bool, true, false, Ok, Err, refl, sym, ◌∙◌, ap, subst}
 use Rattle.in_syntax.specs.declared.faults.Fault.TheVariants.{Refused}
 use Rattle.in_check.specs.Checking.{IsAccepted}
 use Rattle.in_check.specs.Programs.{Program}
 use Rattle.in_check.proofs.Public.{checked_once}
-use Rattle.in_limits.specs.Limiting.{least_cells, most_cells, most_interactions, most_workers}
 use Rattle.in_limits.specs.declared.limits.Limits.{Limits}
+use Rattle.in_limits.proofs.Public.{one_limits}
 use Rattle.in_command_line.specs.declared.action.Action.{Action}
 use Rattle.in_command_line.specs.declared.action.Action.TheVariants.{Run}
 use Rattle.in_export.specs.Exporting.{TextsAreExportedOnce}
@@ -58,19 +57,6 @@ said_once law a text turns one other s t (inr h) had g has = absurd (had h.1)
 
 pub reports_are_one : TextsAreAnsweredOnce → ReportsAreOne
 reports_are_one law a text turns = once (IsSaid a text) (said_once law a text turns)
-
-abbrev limits_of : (workers limit cells : ℕ) → 1 ≤ workers → workers ≤ most_workers → limit ≤ most_interactions → least_cells ≤ cells → cells ≤ most_cells → Limits
-limits_of workers limit cells some few in_range least most =
-    record { workers = workers; limit = limit; cells = cells; some_worker = some; few_workers = few; limit_in_range = in_range; least = least; most = most }
-
--- limits of the same numbers are the same
-pub one_limits : (l k : Limits) → l.workers ≡ k.workers → l.limit ≡ k.limit → l.cells ≡ k.cells → l ≡ k
-one_limits l k as_many same alike =
-    subst (λ (w : ℕ). (x : 1 ≤ w) (y : w ≤ most_workers) → l ≡ limits_of w k.limit k.cells x y k.limit_in_range k.least k.most) as_many
-    (λ x y. subst (λ (n : ℕ). (a : n ≤ most_interactions) → l ≡ limits_of l.workers n k.cells x y a k.least k.most) same
-    (λ a. subst (λ (m : ℕ). (b : least_cells ≤ m) (d : m ≤ most_cells) → l ≡ limits_of l.workers l.limit m x y a b d) alike
-    (λ b d. λ i. limits_of l.workers l.limit l.cells (le_prop l.some_worker x i) (le_prop l.few_workers y i) (le_prop l.limit_in_range a i) (le_prop l.least b i) (le_prop l.most d i))
-    k.least k.most) k.limit_in_range) k.some_worker k.few_workers
 
 run_said_once : TextsAreAnsweredOnce → (limit cells : ℕ) (text : List ℕ) → IsOneAnswer (IsRunSaid limit cells text)
 run_said_once law limit cells text one other s t (inl (l, are, says)) had (inl (k, too, tells)) has =

@@ -9,6 +9,7 @@ use Rattle.in_check.specs.Laws.{AreOneProgram}
 use Rattle.in_check.specs.Programs.{Program}
 use Rattle.in_check.proofs.Public.{checked_once}
 use Rattle.in_limits.specs.declared.limits.Limits.{Limits}
+use Rattle.in_limits.proofs.Public.{one_limits}
 use Rattle.in_reducer.specs.Machines.{MachineParts, parts_of}
 use Rattle.in_reducer.specs.Runs.{Runs, at_start, then_step}
 use Rattle.in_reducer.specs.Same.{AreSame, IsSameMachine, RunsUpToNumbers}
@@ -28,7 +29,7 @@ use Rattle.in_c.specs.declared.choosing.RunNumbers.{RunNumbers}
 use Rattle.in_c.specs.declared.choosing.Shown.{Shown}
 use Rattle.in_c.specs.Choosing.{AreGivenOut, EndsSo, normal, limited, short, IsEndBy, IsRunBy, ShowsProgram, ShowsText, run_numbers}
 use Rattle.in_c.specs.Laws.{RunByAnswersAreOne}
-use Rattle.in_c.proofs.AnsweredOnce.{given_alike, number_of, one_limits}
+use Rattle.in_c.proofs.AnsweredOnce.{given_alike, number_of}
 
 -- ---- another table of rules
 
