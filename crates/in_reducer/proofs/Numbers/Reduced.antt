@@ -1,5 +1,5 @@
 -- An interaction up to numbers reduces the net, and takes no more cells than its pair needs.
-use Rattle.std.proofs.Common.{◌≡◌, ◌≤◌, ◌+◌, ℕ, ap, arith}
+use Rattle.std.proofs.Common.{◌≤◌, ◌+◌, ℕ, ap, arith}
 use Rattle.in_arena.specs.declared.content.CellClass.{CellClass}
 use Rattle.in_check.specs.Runs.{at_start}
 use Rattle.in_compile.specs.declared.cells.Need.{Need}

@@ -1,5 +1,5 @@
 -- A pair's cells may be taken in either order.
-use Rattle.std.proofs.Common.{◌≡◌, ◌≢◌, ◌⊎◌, inl, inr, ℕ, List, set, sym, ap, subst, ◌∙◌, get_or-set_same, get_or-set_other}
+use Rattle.std.proofs.Common.{◌≡◌, ◌≢◌, inl, inr, List, sym, ap, subst, ◌∙◌, get_or-set_same, get_or-set_other}
 use Rattle.std.proofs.lemmas.List.{set_comm}
 use Rattle.in_arena.specs.Arenas.{ArenaView, changed, state_at}
 use Rattle.in_arena.specs.States.{State, Vacant, Leased, IsLive}

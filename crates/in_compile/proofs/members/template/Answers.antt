@@ -1,5 +1,5 @@
-use Rattle.std.proofs.Common.{◌≡◌, ◌↔◌, ap, subst, ◌∙◌, true, map, List}
-use Rattle.std.specs.Prelude.{IsTrue, Bool}
+use Rattle.std.proofs.Common.{◌≡◌, ◌↔◌, ap, subst, ◌∙◌, true, map}
+use Rattle.std.specs.Prelude.{IsTrue}
 use Rattle.in_symbols.specs.Tables.{arity_of}
 use Rattle.in_symbols.specs.declared.symbols.SymbolNo.{SymbolNo}
 use Rattle.in_net.specs.Parts.{Parts}
