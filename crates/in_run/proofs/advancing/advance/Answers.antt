@@ -1,4 +1,4 @@
-use Rattle.std.proofs.Common.{◌≡◌, ◌+◌, ◌-◌, ℕ, subst, arith}
+use Rattle.std.proofs.Common.{◌≡◌, ◌+◌, ℕ, subst, arith}
 use Rattle.in_run.specs.Advancing.{RunsAnyhow, no_step, then_any}
 use Rattle.in_run.proofs.StatesOfRuns.{takes_some, up_to_numbers_anyhow}
 use Rattle.in_run.proofs.advancing.advance.Goals as goal

@@ -8,5 +8,5 @@ returns-in_default-clause-goes g c = λ m k run. anyhow_further m c.args.machine
 pub returns-clause-goes : goal.returns-clause-goes
 returns-clause-goes g c = λ m k run. then_phase m c.args.machine.now c.phase-worked.new.machine k c.phase-worked.result.interactions run c.phase-worked.ensures.phase
 
-pub returns-then-not-is_worth-clause-goes : goal.returns-then-not-is_worth-clause-goes
-returns-then-not-is_worth-clause-goes g c = λ m k run. then_phase m c.args.machine.now c.sample-sampled.new.machine k c.sample-sampled.result.interactions run c.sample-sampled.ensures.phase
+pub returns-then-not-pace-clause-goes : goal.returns-then-not-pace-clause-goes
+returns-then-not-pace-clause-goes g c = λ m k run. then_phase m c.args.machine.now c.sample-sampled.new.machine k c.sample-sampled.result.interactions run c.sample-sampled.ensures.phase
