@@ -7,7 +7,7 @@ ghost use Rattle.in_machine.specs.Phases.{IsPhase};
 
 use crate::machine::Machine;
 use in_base::use_promise;
-use in_phases::{Room, Sampled, Sharing, Worked, reduce_in_parts};
+use in_phases::{Room, Sampled, Sharing, Worked, reduce_a_part, reduce_in_parts};
 use std::alloc::Global;
 use std::thread::Threads;
 
@@ -62,7 +62,7 @@ pub fn sample(
     ensures free { HasFree machine.new sharing.floor }
     ensures room { KeepsRoom room.old room.new }
 {
-    let sampled = in_phases::sample(
+    let sampled = reduce_a_part(
         alloc,
         &mut machine.reducer,
         &machine.templates,

@@ -17,4 +17,4 @@ mod taking;
 
 pub use phases::{Sharing, Worked, reduce_in_parts};
 pub use room::Room;
-pub use sampling::{Sampled, sample};
+pub use sampling::{Sampled, reduce_a_part};

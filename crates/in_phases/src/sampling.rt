@@ -23,7 +23,7 @@ pub struct Sampled {
 /// Splits off the trees behind the first `pairs` pairs as a part, reduces it on this thread, and glues it on again. So it costs little to see how many
 /// interactions a part does for each agent that is moved. It is never refused: if memory or cells run out, there is no interaction. The cells that have
 /// to stay free are free before.
-pub fn sample(
+pub fn reduce_a_part(
     alloc: Global,
     reducer: &mut Reducer,
     templates: &Templates,

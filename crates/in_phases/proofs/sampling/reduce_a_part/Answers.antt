@@ -4,7 +4,7 @@ use Rattle.in_compile.specs.Cells.{agents_of}
 use Rattle.in_reducer.specs.Parting.{ReducesTo}
 use Rattle.in_reducer.proofs.Public.{stays_reduce}
 use Rattle.in_phases.proofs.Coming.{comes_reduced}
-use Rattle.in_phases.proofs.sampling.sample.Goals as goal
+use Rattle.in_phases.proofs.sampling.reduce_a_part.Goals as goal
 
 pub bring_back-requires : goal.bring_back-requires
 bring_back-requires c =
