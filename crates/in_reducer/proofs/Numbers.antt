@@ -3,7 +3,6 @@ pub mod Aside
 pub mod Before
 pub mod Between
 pub mod OfSame
-pub mod Reduced
 pub mod Renamed
 pub mod SameKind
 pub mod SameStep
