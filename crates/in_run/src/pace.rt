@@ -51,7 +51,7 @@ const WORTH: u64 = 16;
 const COST_OF_A_SAMPLE: u64 = 2_000;
 
 /// A smaller net is in the cache in any order, so that the oldest pairs are taken while no phase is tried.
-const SMALL_NET: u32 = 16_384;
+const SMALL_NET: u32 = 65_536;
 
 /// The cost of a phase for each agent of the net, some of which are copied there and back, in interactions.
 const COST_OF_AN_AGENT: u64 = 8;
