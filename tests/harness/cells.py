@@ -4,6 +4,7 @@ import itertools
 import re
 from functools import partial
 
+from harness.generated import with_threads
 from harness.programs import ACCEPTED, FULL, LIMIT, ROWS, answering, text_of
 
 WORKERS = (1, 2, 64)
@@ -27,8 +28,6 @@ DOUBLINGS = 21
 WITH_FIGURES = ("sum_of_two_and_one", "copies_added", "agent_with_a_large_cell", "as_many_wide_agents_as_cells")
 EXAMPLES_WITH_FIGURES = ("queue", "sum", "double")
 SHORT_RUN = 1_000
-# One whose run with several workers starts threads.
-WITH_THREADS = "tree_of_large_leaves"
 FIGURES = re.compile(
     rb"time to check: \d+\.\d{3} s\ntime to run: \d+\.\d{3} s\n(?:interactions a second: \d+\n)?"
     rb"most cells in use: (\d+) small, (\d+) large, (\d+) wide\nthreads: (\d+)\nphases: (\d+)\n"
@@ -109,7 +108,7 @@ def wrong_figures(program, text):
 
 def wrong_threads(program, workers):
     """What is wrong with the figures of a long run by several workers: it has phases, with as many threads as workers at most, and two at least."""
-    answer = program.run(["run", "--no-net", "--stats", "--cells", "200000", "--workers", str(workers)], text_of(WITH_THREADS, ROWS))
+    answer = program.run(["run", "--no-net", "--stats", "--cells", "200000", "--workers", str(workers)], with_threads())
     figures = FIGURES.search(answer.errors)
     if answer.status != ACCEPTED or not figures:
         return f"{answer}, {answer.errors!r}; wanted: a run that ends, and its figures"
@@ -121,7 +120,7 @@ def figures(program):
     for text, name in [*((text_of(name, ROWS), name) for name in WITH_FIGURES), *((text_of(name), name) for name in EXAMPLES_WITH_FIGURES)]:
         yield f"figures of {name}", partial(wrong_figures, program, text)
     for workers in (2, 4):
-        yield f"figures of {WITH_THREADS}, {workers} workers", partial(wrong_threads, program, workers)
+        yield f"figures of many jobs, {workers} workers", partial(wrong_threads, program, workers)
 
 
 def doubled_text():

@@ -7,13 +7,13 @@ import subprocess
 from dataclasses import dataclass
 from functools import partial
 
+from harness.generated import with_threads
 from harness.programs import (
     ACCEPTED, COMMANDS, HERE, MEMORY, REFUSED, ROWS, STREAM, WRONG_WORDS, answering, differing, failing, text_of, wrong_stream
 )
 
-# Four programs that are accepted and one that is refused; and one whose runs start threads.
+# Four programs that are accepted and one that is refused.
 EXAMPLES = ["queue", "sum", "double", "insertion_sort", "waits_for_itself"]
-WITH_THREADS = "tree_of_large_leaves"
 # Rows of which requests for memory are refused, these apart.
 OF_ROWS, APART = ["sum_of_two_and_one", "copies_added", "two_sums_and_a_zero", "agent_with_a_large_cell", "copies_side_by_side"], 3
 
@@ -165,7 +165,7 @@ def threads(program):
     Only what it asks for after the check is refused.
     """
     refuser = Refuser(program)
-    text = text_of(WITH_THREADS, ROWS)
+    text = with_threads()
     one = program.run(["run", "--cells", "200000"], text)
     checked = refuser.run(["check"], text)[1].memory
     for workers in (2, 64):
@@ -228,7 +228,7 @@ def wrong_in_small_space(answer, usual):
 
 def address_spaces(program):
     """Memory that really runs out, in small address spaces: for the most cells, and for the stacks of threads."""
-    for text, count in ((text_of("sum"), "1048576"), (text_of(WITH_THREADS, ROWS), "200000")):
+    for text, count in ((text_of("sum"), "1048576"), (with_threads(), "200000")):
         usual = program.run(["run", "--cells", count], text)
         for kilobytes, workers in itertools.product(SPACES, ("1", "2", "64")):
             words = ["run", "--cells", count, "--workers", workers]
