@@ -38,11 +38,11 @@ LONG_CELLS = ["--cells", "200000"]
 LONGEST_SHORT_RUN = 100_000
 LONG = {
     "tree summed": generated.tree_summed(13),
-    "tree summed in binary": generated.tree_summed_in_binary(14),
+    "tree summed in binary": generated.tree_summed_in_binary(15),
     "tree grown": generated.tree_grown(15),
     "Fibonacci": generated.fibonacci(20),
     "Fibonacci in binary": generated.fibonacci_in_binary(21),
-    "jobs": generated.jobs(9, 9),
+    "jobs": generated.jobs(10, 9),
     "sorting network": generated.sorting_network(9),
     "Ackermann": generated.ackermann(3, 6),
     "pipeline": generated.pipeline(500, 20),
@@ -52,8 +52,8 @@ LONG = {
     "insertion sort": generated.insertion_sort([(k * 69_069 + 5) % 14 for k in range(150)]),
 }
 SIDE_BY_SIDE = 8
-# A long run of two workers of which requests are refused, and the words of a forced one.
-REFUSED, REFUSED_CELLS = generated.tree_summed_in_binary(13), ["--cells", "60000"]
+# The words of a long run of two workers of which requests are refused, and those of a forced one.
+REFUSED_CELLS = ["--cells", "200000"]
 REFUSED_WAY, REFUSED_FORCED = (3, 1, 5), generated.jobs(2, 3)
 
 FORCED_ANSWER = re.compile(rb"(?s)(.*)interactions: (\d+)\nphases: (\d+)\n")
@@ -249,7 +249,7 @@ def long_runs(program):
 def long_refusals(program):
     """A long run of two workers, which does phases: each request for memory after the check refused changes no answer but to `memory`."""
     refuser = Refuser(program)
-    text = generated.program(REFUSED).encode()
+    text = generated.with_threads()
     one = program.run(["run", *REFUSED_CELLS], text)
     checked = refuser.run(["check"], text)[1].memory
     words = ["run", *REFUSED_CELLS, "--workers", "2"]
