@@ -321,6 +321,11 @@ places_live Vacant p lt = absurd (omega arith)
 places_live Leased p lt = absurd (omega arith)
 places_live (Live w es) p lt = tt
 
+-- a place of a cell is one for which it has room
+pub place_within : (n w : ℕ) (es : List End) (p most : ℕ) → p < places (with_ends n w es) → n ≤ most → most ≡ length es → p < most
+place_within zero w es p most lt few long = absurd (omega arith)
+place_within (suc n) w es p most lt few long = omega (arith, lt, few, long, length-take-le (suc n) es (omega (arith, few, long)))
+
 pub take_set : {X : Type 0} (n : ℕ) (xs : List X) (i : ℕ) (y : X) → take n (set xs i y) ≡ set (take n xs) i y
 take_set zero xs i y = refl
 take_set (suc n) [] i y = refl

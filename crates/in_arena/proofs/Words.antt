@@ -2,11 +2,11 @@
 use Rattle.std.proofs.Common.{◌≡◌, ◌≢◌, ℕ, zero, suc, ◌+◌, ◌-◌, ◌*◌, ◌<◌, ◌≤◌, List, map, length, get_or, None, refl, sym, ap, ◌∙◌, subst, ⊎_elim, arith}
 use Rattle.std.specs.Prelude.{◌/◌, ◌%◌}
 use Rattle.std.specs.List.{range_with_len}
-use Rattle.std.proofs.lemmas.Bool.{cases_lt}
+use Rattle.std.proofs.lemmas.Bool.{cases_lt, cond_below, cond_above}
 use Rattle.std.proofs.lemmas.List.{ext_get_or}
 use Rattle.std.proofs.lemmas.List.FromFn.{length-map-range_with_len, get_or-map-range_with_len}
 use Rattle.in_arena.specs.Classes.{class_no, width}
-use Rattle.in_arena.specs.Words.{Word, words_each, far_of, spot, slots, head, slot_of, IsHead, end_of, cell_of, word_at, ends_in, cell_in, row_in, IsInOneState, Gone, New, Filled, ChangesCell}
+use Rattle.in_arena.specs.Words.{Word, words_each, middle_of, far_of, spot, slots, head, slot_of, IsHead, end_of, cell_of, word_at, ends_in, cell_in, row_in, IsInOneState, Gone, New, Filled, ChangesCell}
 use Rattle.in_arena.specs.declared.content.CellClass.{CellClass}
 use Rattle.in_arena.specs.declared.content.CellClass.TheVariants.{Small, Large, Wide}
 use Rattle.in_arena.specs.declared.content.End.{End}
@@ -20,12 +20,23 @@ spot_near c cells i (suc (suc zero)) lt = refl
 spot_near c cells i (suc (suc (suc zero))) lt = refl
 spot_near c cells i (suc (suc (suc (suc q)))) lt = absurd (omega arith)
 
-pub spot_far : (c : CellClass) (cells i q : ℕ) → 4 ≤ q → spot c cells i q ≡ far_of c cells i + (q - 4)
+pub spot_middle : (c : CellClass) (cells i q : ℕ) → 4 ≤ q → q < 10 → spot c cells i q ≡ middle_of c cells i + (q - 4)
+spot_middle c cells i zero le lt = absurd (omega arith)
+spot_middle c cells i (suc zero) le lt = absurd (omega arith)
+spot_middle c cells i (suc (suc zero)) le lt = absurd (omega arith)
+spot_middle c cells i (suc (suc (suc zero))) le lt = absurd (omega arith)
+spot_middle c cells i (suc (suc (suc (suc q)))) le lt =
+    let e : suc (suc (suc (suc q))) - 4 ≡ q = omega arith in
+    sym (cond_below q 6 (middle_of c cells i + q) (far_of c cells i + (q - 6)) (omega (arith, lt))) ∙ ap (λ k. middle_of c cells i + k) (sym e)
+
+pub spot_far : (c : CellClass) (cells i q : ℕ) → 10 ≤ q → spot c cells i q ≡ far_of c cells i + (q - 10)
 spot_far c cells i zero le = absurd (omega arith)
 spot_far c cells i (suc zero) le = absurd (omega arith)
 spot_far c cells i (suc (suc zero)) le = absurd (omega arith)
 spot_far c cells i (suc (suc (suc zero))) le = absurd (omega arith)
-spot_far c cells i (suc (suc (suc (suc q)))) le = let e : suc (suc (suc (suc q))) - 4 ≡ q = omega arith in ap (λ k. far_of c cells i + k) (sym e)
+spot_far c cells i (suc (suc (suc (suc q)))) le =
+    let e : suc (suc (suc (suc q))) - 10 ≡ q - 6 = omega arith in
+    sym (cond_above q 6 (middle_of c cells i + q) (far_of c cells i + (q - 6)) (far_of c cells i + (q - 6)) (omega (arith, le)) refl) ∙ ap (λ k. far_of c cells i + k) (sym e)
 
 pub slot_near : (p : ℕ) → p < 3 → slot_of p ≡ p
 slot_near zero lt = refl
@@ -66,17 +77,45 @@ near_below Large cells i lt = omega (arith, lt)
 near_below Wide cells i lt = omega (arith, lt)
 
 -- further words of a cell, by their bounds
-far_bounds : (c : CellClass) (cells i k : ℕ) → i < cells → k + 4 < slots c → (12 * cells ≤ far_of c cells i + k) × (far_of c cells i + k < 32 * cells)
+middle_bounds : (c : CellClass) (cells i k : ℕ) → i < cells → k < 6 → k + 4 < slots c → (12 * cells ≤ middle_of c cells i + k) × (middle_of c cells i + k < 24 * cells)
+middle_bounds Small cells i k lt few in_it = absurd (omega (arith, in_it))
+middle_bounds Large cells i k lt few in_it = (omega arith, omega (arith, lt, few))
+middle_bounds Wide cells i k lt few in_it = (omega arith, omega (arith, lt, few))
+
+far_bounds : (c : CellClass) (cells i k : ℕ) → i < cells → k + 10 < slots c → (24 * cells ≤ far_of c cells i + k) × (far_of c cells i + k < 32 * cells)
 far_bounds Small cells i k lt in_it = absurd (omega (arith, in_it))
-far_bounds Large cells i k lt in_it = (omega arith, omega (arith, lt, in_it))
+far_bounds Large cells i k lt in_it = absurd (omega (arith, in_it))
 far_bounds Wide cells i k lt in_it = (omega arith, omega (arith, lt, in_it))
 
-pub spot_inside : (c : CellClass) (cells i q : ℕ) → i < cells → q < slots c → spot c cells i q < words_each * cells
-spot_inside c cells i q lt in_it =
+-- a word of a cell is in one of the three parts of the row
+data IsInPart (c : CellClass) (cells i q : ℕ) : Type 0 where
+  Near : q < 4 → spot c cells i q ≡ 4 * (class_no c * cells + i) + q → spot c cells i q < 12 * cells → IsInPart c cells i q
+  Middle : 4 ≤ q → q < 10 → spot c cells i q ≡ 6 * (class_no c * cells + i + cells) + (q - 4) → 12 * cells ≤ spot c cells i q → spot c cells i q < 24 * cells → IsInPart c cells i q
+  Far : 10 ≤ q → q < 18 → spot c cells i q ≡ 8 * (class_no c * cells + i + cells) + (q - 10) → 24 * cells ≤ spot c cells i q → spot c cells i q < 32 * cells → IsInPart c cells i q
+
+slots_few : (c : CellClass) → slots c ≤ 18
+slots_few Small = omega arith
+slots_few Large = omega arith
+slots_few Wide = omega arith
+
+in_part : (c : CellClass) (cells i q : ℕ) → i < cells → q < slots c → IsInPart c cells i q
+in_part c cells i q lt in_it =
     ⊎_elim
-    (λ near. omega (arith, spot_near c cells i q near, near_below c cells i lt, near))
-    (λ far. let b = far_bounds c cells i (q - 4) lt (omega (arith, far, in_it)) in let high = b.1 in omega (arith, spot_far c cells i q far, high))
+    (λ near. let at = spot_near c cells i q near in Near near at (omega (arith, at, near_below c cells i lt, near)))
+    (λ further.
+    ⊎_elim
+    (λ middle. let at = spot_middle c cells i q further middle in let b = middle_bounds c cells i (q - 4) lt (omega (arith, further, middle)) (omega (arith, further, in_it)) in Middle further middle at (subst (λ x. 12 * cells ≤ x) (sym at) b.0) (subst (λ x. x < 24 * cells) (sym at) b.1))
+    (λ far. let at = spot_far c cells i q far in let b = far_bounds c cells i (q - 10) lt (omega (arith, far, in_it)) in Far far (omega (arith, in_it, slots_few c)) at (subst (λ x. 24 * cells ≤ x) (sym at) b.0) (subst (λ x. x < 32 * cells) (sym at) b.1))
+    (cases_lt q 10))
     (cases_lt q 4)
+
+pub spot_inside : (c : CellClass) (cells i q : ℕ) → i < cells → q < slots c → spot c cells i q < words_each * cells
+spot_inside c cells i q lt in_it = by (in_part c cells i q lt in_it)
+  where
+    by : IsInPart c cells i q → spot c cells i q < words_each * cells
+    by (Near few at below) = omega (arith, below)
+    by (Middle some few at above below) = omega (arith, below)
+    by (Far some few at above below) = below
 
 -- the classes, and the numbers within them, of one number
 pub one_number : (c d : CellClass) (cells i j : ℕ) → i < cells → j < cells → class_no c * cells + i ≡ class_no d * cells + j → (c ≡ d) × (i ≡ j)
@@ -90,38 +129,22 @@ one_number Wide Small cells i j li lj e = absurd (omega (arith, li, lj, e))
 one_number Wide Large cells i j li lj e = absurd (omega (arith, li, lj, e))
 one_number Wide Wide cells i j li lj e = (refl, omega (arith, e))
 
-one_far : (c d : CellClass) (cells i j k l : ℕ) → i < cells → j < cells → k + 4 < slots c → l + 4 < slots d → far_of c cells i + k ≡ far_of d cells j + l → (c ≡ d) × (i ≡ j) × (k ≡ l)
-one_far Small d cells i j k l li lj in_c in_d e = absurd (omega (arith, in_c))
-one_far Large Small cells i j k l li lj in_c in_d e = absurd (omega (arith, in_d))
-one_far Large Large cells i j k l li lj in_c in_d e = (refl, omega (arith, in_c, in_d, e), omega (arith, in_c, in_d, e))
-one_far Large Wide cells i j k l li lj in_c in_d e = absurd (omega (arith, li, in_c, e))
-one_far Wide Small cells i j k l li lj in_c in_d e = absurd (omega (arith, in_d))
-one_far Wide Large cells i j k l li lj in_c in_d e = absurd (omega (arith, lj, in_d, e))
-one_far Wide Wide cells i j k l li lj in_c in_d e = (refl, omega (arith, in_c, in_d, e), omega (arith, in_c, in_d, e))
-
 pub apart : (c d : CellClass) (cells i j q r : ℕ) → i < cells → j < cells → q < slots c → r < slots d → spot c cells i q ≡ spot d cells j r → (c ≡ d) × (i ≡ j) × (q ≡ r)
-apart c d cells i j q r li lj in_c in_d e =
-    ⊎_elim
-    (λ near_q.
-    ⊎_elim
-    (λ near_r.
-    let a = spot_near c cells i q near_q in let b = spot_near d cells j r near_r in
-    let one = one_number c d cells i j li lj (omega (arith, a, b, e, near_q, near_r)) in (one.0, one.1, omega (arith, a, b, e, near_q, near_r)))
-    (λ far_r.
-    let a = spot_near c cells i q near_q in let b = spot_far d cells j r far_r in let low = (far_bounds d cells j (r - 4) lj (omega (arith, far_r, in_d))).0 in
-    absurd (omega (arith, a, b, e, near_q, near_below c cells i li, low)))
-    (cases_lt r 4))
-    (λ far_q.
-    ⊎_elim
-    (λ near_r.
-    let a = spot_far c cells i q far_q in let b = spot_near d cells j r near_r in let low = (far_bounds c cells i (q - 4) li (omega (arith, far_q, in_c))).0 in
-    absurd (omega (arith, a, b, e, near_r, near_below d cells j lj, low)))
-    (λ far_r.
-    let a = spot_far c cells i q far_q in let b = spot_far d cells j r far_r in
-    let one = one_far c d cells i j (q - 4) (r - 4) li lj (omega (arith, far_q, in_c)) (omega (arith, far_r, in_d)) (omega (arith, a, b, e)) in
-    let same = one.2 in (one.0, one.1, omega (arith, same, far_q, far_r)))
-    (cases_lt r 4))
-    (cases_lt q 4)
+apart c d cells i j q r li lj in_c in_d e = by (in_part c cells i q li in_c) (in_part d cells j r lj in_d)
+  where
+    of_numbers : class_no c * cells + i ≡ class_no d * cells + j → q ≡ r → (c ≡ d) × (i ≡ j) × (q ≡ r)
+    of_numbers same slot = let one = one_number c d cells i j li lj same in (one.0, one.1, slot)
+
+    by : IsInPart c cells i q → IsInPart d cells j r → (c ≡ d) × (i ≡ j) × (q ≡ r)
+    by (Near a at x) (Near b to y) = of_numbers (omega (arith, e, at, to, a, b)) (omega (arith, e, at, to, a, b))
+    by (Near a at x) (Middle b b' to y y') = absurd (omega (arith, e, x, y))
+    by (Near a at x) (Far b b' to y y') = absurd (omega (arith, e, x, y))
+    by (Middle a a' at x x') (Near b to y) = absurd (omega (arith, e, x, y))
+    by (Middle a a' at x x') (Middle b b' to y y') = of_numbers (omega (arith, e, at, to, a, a', b, b')) (omega (arith, e, at, to, a, a', b, b'))
+    by (Middle a a' at x x') (Far b b' to y y') = absurd (omega (arith, e, x', y))
+    by (Far a a' at x x') (Near b to y) = absurd (omega (arith, e, x, y))
+    by (Far a a' at x x') (Middle b b' to y y') = absurd (omega (arith, e, x, y'))
+    by (Far a a' at x x') (Far b b' to y y') = of_numbers (omega (arith, e, at, to, a, a', b, b')) (omega (arith, e, at, to, a, a', b, b'))
 
 -- ---- each word is some cell's
 
@@ -155,10 +178,16 @@ all_some cells x lt = let s = some in (s.class, s.index, s.slot, s.inside, s.in_
         ⊎_elim
         (λ f.
         let y = x - 12 * cells in let few : y % 6 < 6 = omega arith in
-        record { class = Large; index = y / 6; slot = y % 6 + 4; inside = omega (arith, e, f); in_it = omega (arith, few); is = omega (arith, e, spot_far Large cells (y / 6) (y % 6 + 4) (omega arith)) })
+        record { class = Large; index = y / 6; slot = y % 6 + 4; inside = omega (arith, e, f); in_it = omega (arith, few); is = omega (arith, e, few, spot_middle Large cells (y / 6) (y % 6 + 4) (omega arith) (omega (arith, few))) })
         (λ f.
-        let y = x - 18 * cells in let few : y % 14 < 14 = omega arith in
-        record { class = Wide; index = y / 14; slot = y % 14 + 4; inside = omega (arith, f, lt); in_it = omega (arith, few); is = omega (arith, f, spot_far Wide cells (y / 14) (y % 14 + 4) (omega arith)) })
+        ⊎_elim
+        (λ g.
+        let y = x - 18 * cells in let few : y % 6 < 6 = omega arith in
+        record { class = Wide; index = y / 6; slot = y % 6 + 4; inside = omega (arith, f, g); in_it = omega (arith, few); is = omega (arith, f, few, spot_middle Wide cells (y / 6) (y % 6 + 4) (omega arith) (omega (arith, few))) })
+        (λ g.
+        let y = x - 24 * cells in let few : y % 8 < 8 = omega arith in
+        record { class = Wide; index = y / 8; slot = y % 8 + 10; inside = omega (arith, g, lt); in_it = omega (arith, few); is = omega (arith, g, few, spot_far Wide cells (y / 8) (y % 8 + 10) (omega arith)) })
+        (cases_lt x (24 * cells)))
         (cases_lt x (18 * cells)))
         (cases_lt x (12 * cells)))
         (cases_lt x (8 * cells)))

@@ -1,9 +1,8 @@
 -- The row of words of an arena: the words of each cell in it, and their meaning.
-use Rattle.std.specs.Prelude.{◌≡◌, ◌≢◌, ◌<◌, ◌+◌, ◌*◌, ℕ, zero, suc, Bool, false, ◌||◌, eqb, List, length, map, get_or, Option, Some, None}
+use Rattle.std.specs.Prelude.{◌≡◌, ◌≢◌, ◌<◌, ◌+◌, ◌-◌, ◌*◌, ℕ, zero, suc, Bool, false, cond, nat_lt, ◌||◌, eqb, List, length, map, get_or, Option, Some, None}
 use Rattle.std.specs.List.{range_with_len}
 use Rattle.in_arena.specs.Classes.{class_no, width}
 use Rattle.in_arena.specs.declared.content.CellClass.{CellClass}
-use Rattle.in_arena.specs.declared.content.CellClass.TheVariants.{Small, Large, Wide}
 use Rattle.in_arena.specs.declared.content.End.{End}
 use Rattle.in_arena.specs.declared.content.End.TheVariants.{Cell, Free}
 
@@ -27,23 +26,24 @@ CellWords = Option (Option Content)
 abbrev pub words_each : ℕ
 words_each = 32
 
--- the first word of a cell, where there are `cells` cells of each class: the first four words of all cells come one after another
+-- the words of a cell lie in three parts of the row, by its number among all cells, where there are `cells` cells of each class: the first four of
+-- all cells, then six of each large and each wide cell, then eight of each wide cell
 abbrev pub near_of : CellClass → ℕ → ℕ → ℕ
 near_of c cells i = 4 * (class_no c * cells + i)
 
--- .. and the first of its words for further places; these come class by class after the first four of all cells
-abbrev pub far_of : CellClass → ℕ → ℕ → ℕ
-far_of Small cells i = 0
-far_of Large cells i = 12 * cells + 6 * i
-far_of Wide cells i = 18 * cells + 14 * i
+abbrev pub middle_of : CellClass → ℕ → ℕ → ℕ
+middle_of c cells i = 6 * (class_no c * cells + i + cells)
 
--- the words of a cell in their order: places 0 to 2, the head, the further places
+abbrev pub far_of : CellClass → ℕ → ℕ → ℕ
+far_of c cells i = 8 * (class_no c * cells + i + cells)
+
+-- the words of a cell in their order: places 0 to 2, the head, places 3 to 8, places 9 to 16
 abbrev pub spot : CellClass → ℕ → ℕ → ℕ → ℕ
 spot c cells i zero = near_of c cells i
 spot c cells i (suc zero) = near_of c cells i + 1
 spot c cells i (suc (suc zero)) = near_of c cells i + 2
 spot c cells i (suc (suc (suc zero))) = near_of c cells i + 3
-spot c cells i (suc (suc (suc (suc q)))) = far_of c cells i + q
+spot c cells i (suc (suc (suc (suc q)))) = cond (nat_lt q 6) (middle_of c cells i + q) (far_of c cells i + (q - 6))
 
 -- the number of its words
 abbrev pub slots : CellClass → ℕ

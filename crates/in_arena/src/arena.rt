@@ -16,14 +16,15 @@ use crate::free_list::{FreeList, FreeLists};
 use crate::head::HeadWord;
 use crate::lease::Lease;
 use crate::row::{head_of, is_ready, take_back};
-use crate::spot::{HEAD, Spot, near_word, spot_of};
+use crate::spot::{HEAD, Spot, near_word, place_word, spot_of};
 use crate::word::EndWord;
 use in_memory::{Base, Cells, Deed, allocate, deallocate};
 use std::alloc::{AllocError, Global};
 use std::marker::Model;
 use std_alloc::room::may_hold;
 
-// The number of words that the row has for each number of cells of a class: four for each cell, and six and fourteen more for a large and a wide one.
+// The number of words that the row has for each number of cells of a class: four for each cell, six more for a large and a wide one, and eight more for a
+// wide one.
 const WORDS: usize = 32;
 
 /// Cells in raw memory, the same number of each class, numbered class by class from 0. Contracts see the state of each cell, by its number: free,
@@ -242,11 +243,9 @@ impl Arena {
         requires { place < places (state_at self.now cell.0) }
         ensures { end_at (state_at self.now cell.0) place ≡ Some result }
     {
-        if place < HEAD {
-            return *self.words.get(self.base, near_word(cell, place));
-        }
-        let spot = spot_of(self.cells, cell);
-        *self.words.get(self.base, spot.far_word(place))
+        *self
+            .words
+            .get(self.base, place_word(self.cells, cell, place))
     }
 
     /// Writes the other end of the wire at a place of a live cell.
@@ -264,12 +263,8 @@ impl Arena {
         requires { place < places (state_at self.old cell.0) }
         ensures { self.new ≡ changed self.old cell.0 (with_end (state_at self.old cell.0) place end) }
     {
-        if place < HEAD {
-            self.words.write(self.base, near_word(cell, place), end);
-            return;
-        }
-        let spot = spot_of(self.cells, cell);
-        self.words.write(self.base, spot.far_word(place), end);
+        self.words
+            .write(self.base, place_word(self.cells, cell, place), end);
     }
 
     /// Writes the end at the place to which `at` leads, if that is one of a live cell, and returns true. If `at` is a free end, returns false.

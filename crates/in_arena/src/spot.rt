@@ -1,9 +1,10 @@
 // Where the words of a cell are in the row.
 ghost use Rattle.std.specs.Prelude.{◌≡◌, ◌≤◌, ◌<◌, ◌+◌, ◌*◌, ℕ, length};
 ghost use Rattle.in_arena.specs.ByClass.{IsPlace};
-ghost use Rattle.in_arena.specs.Classes.{class_no, classes, width};
+ghost use Rattle.in_arena.specs.Classes.{class_no, classes};
 ghost use Rattle.in_arena.specs.Limiting.{most_cells};
 ghost use Rattle.in_arena.specs.Words.{slot_of, spot};
+ghost use Rattle.in_arena.specs.declared.content.CellClass.{CellClass as Class};
 
 use crate::content::{CellClass, CellNo};
 
@@ -42,6 +43,9 @@ pub fn spot_of(cells: u32, cell: CellNo) -> Spot
     }
 }
 
+/// The slot of the head among the first words of a cell.
+pub const HEAD: u8 = 3;
+
 /// The word of one of the first three places of a cell, or of its head, which comes after these.
 #[inline(always)]
 pub fn near_word(cell: CellNo, slot: u8) -> usize
@@ -50,8 +54,21 @@ pub fn near_word(cell: CellNo, slot: u8) -> usize
     4 * cell.0 as usize + slot as usize
 }
 
-/// The slot of the head among the first words of a cell.
-pub const HEAD: u8 = 3;
+/// The word of a place of a cell, where there are `cells` cells of each class. It depends on the cell's number alone, so that the class isn't needed.
+#[inline(always)]
+pub fn place_word(cells: u32, cell: CellNo, place: u8) -> usize
+    ensures { (c : Class) (i : ℕ) → IsPlace cells cell.0 c i → result ≡ spot c cells i (slot_of place) }
+{
+    if place < HEAD {
+        return near_word(cell, place);
+    }
+    let number = cell.0 as usize + cells as usize;
+    if place < 9 {
+        6 * number + (place as usize - 3)
+    } else {
+        8 * number + (place as usize - 9)
+    }
+}
 
 impl Spot {
     /// The number of the cell among all cells.
@@ -72,35 +89,12 @@ impl Spot {
         near_word(self.cell(), HEAD)
     }
 
-    /// The word of a place past the first three.
-    #[inline(always)]
-    pub fn far_word(self, place: u8) -> usize
-        requires cells { (self.cells ≤ most_cells) × (self.index < self.cells) }
-        requires place { (3 ≤ place) × (place < width self.class) }
-        ensures { result ≡ spot self.class self.cells self.index (slot_of place) }
-    {
-        let cells = self.cells as usize;
-        let index = self.index as usize;
-        let place = place as usize - 3;
-        match self.class {
-            // A small cell has no such place.
-            CellClass::Small => 0,
-            CellClass::Large => 12 * cells + 6 * index + place,
-            CellClass::Wide => 18 * cells + 14 * index + place,
-        }
-    }
-
     /// The word of a place.
     #[inline(always)]
     pub fn word(self, place: u8) -> usize
-        requires cells { (self.cells ≤ most_cells) × (self.index < self.cells) }
-        requires place { place < width self.class }
+        requires { (self.cells ≤ most_cells) × (self.index < self.cells) }
         ensures { result ≡ spot self.class self.cells self.index (slot_of place) }
     {
-        if place < 3 {
-            near_word(self.cell(), place)
-        } else {
-            self.far_word(place)
-        }
+        place_word(self.cells, self.cell(), place)
     }
 }

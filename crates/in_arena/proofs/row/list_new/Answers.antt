@@ -23,8 +23,8 @@ loop-place-init c =
     let free : ListsFree (width k) (row_in c.args.cells ws k) l = subst (ListsFree (width k) (row_in c.args.cells ws k)) (sym c.of-list.ensures) (c.requires.lists k) in
     record { same = refl; filled = filled_none c.args.cells ws k l.fresh (fresh_new c.args.cells ws k l c.requires.words.2 free c.if-list-cells.false) }
 
-pub word-requires-clause-cells : goal.word-requires-clause-cells
-word-requires-clause-cells c =
+pub word-requires : goal.word-requires
+word-requires c =
     let k = c.args.class in let ws = c.args.words.now.slots in let l = c.of-list.result in
     (c.requires.words.1, fresh_below c.args.cells ws k l (subst (ListsFree (width k) (row_in c.args.cells ws k)) (sym c.of-list.ensures) (c.requires.lists k)) c.if-list-cells.false)
 

@@ -1,66 +1,24 @@
-use Rattle.std.proofs.Common.{◌<◌, ◌∙◌, sym, subst, Some}
+use Rattle.std.proofs.Common.{sym, Some}
 use Rattle.in_arena.specs.Arenas.{state_at}
-use Rattle.in_arena.specs.Classes.{width}
-use Rattle.in_arena.specs.Words.{slot_of}
-use Rattle.in_arena.proofs.Arenas.{live_inside}
 use Rattle.in_arena.proofs.FreeLists.{places_live}
-use Rattle.in_arena.proofs.Inside.{end_set, inside_all, live_of, near_place, one_class, place_found, same_spot, width_of}
+use Rattle.in_arena.proofs.Inside.{end_set, live_of, place_found, width_of}
 use Rattle.in_arena.proofs.arena.Arena.set_word.Goals as goal
 
 pub write-requires : goal.write-requires
 write-requires c =
     let a = c.self.inside in let h = c.self.invariant in let n = c.args.cell.0 in let p = c.args.place in let v = c.args.self.now in
     let l = live_of a h v c.self.view_is n (places_live (state_at v n) p c.requires) in
-    let e = place_found a.words a.cells n h.whole l p c.near_word.result (width_of a h v c.self.view_is n l p c.requires) (c.near_word.ensures ∙ near_place a.cells n l.class l.index p l.place c.if-place-lt-HEAD.true) in
+    let e = place_found a.words a.cells n h.whole l p c.place_word.result (width_of a h v c.self.view_is n l p c.requires) (c.place_word.ensures l.class l.index l.place) in
     (sym h.block.0, (Some e.0, e.1))
 
 pub invariant_of-self : goal.invariant_of-self
 invariant_of-self c =
     let a = c.self.inside in let h = c.self.invariant in let n = c.args.cell.0 in let p = c.args.place in let v = c.args.self.now in
     let l = live_of a h v c.self.view_is n (places_live (state_at v n) p c.requires) in
-    (end_set a h v c.self.view_is n l c.write.new.self c.write.ensures.0 p c.args.end c.near_word.result (width_of a h v c.self.view_is n l p c.requires)
-    (c.near_word.ensures ∙ near_place a.cells n l.class l.index p l.place c.if-place-lt-HEAD.true) c.write.ensures.1).0
-
-pub returns-then-place-lt-HEAD : goal.returns-then-place-lt-HEAD
-returns-then-place-lt-HEAD c =
-    let a = c.self.inside in let h = c.self.invariant in let n = c.args.cell.0 in let p = c.args.place in let v = c.args.self.now in
-    let l = live_of a h v c.self.view_is n (places_live (state_at v n) p c.requires) in
-    (end_set a h v c.self.view_is n l c.write.new.self c.write.ensures.0 p c.args.end c.near_word.result (width_of a h v c.self.view_is n l p c.requires)
-    (c.near_word.ensures ∙ near_place a.cells n l.class l.index p l.place c.if-place-lt-HEAD.true) c.write.ensures.1).1
-
-pub spot_of-spot-requires : goal.spot_of-spot-requires
-spot_of-spot-requires c =
-    let v = c.args.self.now in let n = c.args.cell.0 in
-    (c.self.invariant.few, inside_all c.self.inside c.self.invariant v c.self.view_is n (live_inside v n (places_live (state_at v n) c.args.place c.requires)))
-
-pub far_word-requires-clause-place : goal.far_word-requires-clause-place
-far_word-requires-clause-place c =
-    let a = c.self.inside in let h = c.self.invariant in let n = c.args.cell.0 in let p = c.args.place in let v = c.args.self.now in
-    let l = live_of a h v c.self.view_is n (places_live (state_at v n) p c.requires) in
-    let same = one_class a.cells n l.class c.spot_of-spot.result.class l.index c.spot_of-spot.result.index l.place c.spot_of-spot.ensures.1 in
-    (c.if-place-lt-HEAD.false, subst (λ k. p < width k) same.0 (width_of a h v c.self.view_is n l p c.requires))
-
-pub write-requires-2 : goal.write-requires-2
-write-requires-2 c =
-    let a = c.self.inside in let h = c.self.invariant in let n = c.args.cell.0 in let p = c.args.place in let v = c.args.self.now in
-    let l = live_of a h v c.self.view_is n (places_live (state_at v n) p c.requires) in let s = c.spot_of-spot.result in
-    let same = one_class a.cells n l.class s.class l.index s.index l.place c.spot_of-spot.ensures.1 in
-    let e = place_found a.words a.cells n h.whole l p c.far_word.result (width_of a h v c.self.view_is n l p c.requires)
-    (same_spot l.class s.class a.cells s.cells l.index s.index (slot_of p) c.far_word.result same.0 c.spot_of-spot.ensures.0 same.1 c.far_word.ensures) in
-    (sym h.block.0, (Some e.0, e.1))
-
-pub invariant_of-self-2 : goal.invariant_of-self-2
-invariant_of-self-2 c =
-    let a = c.self.inside in let h = c.self.invariant in let n = c.args.cell.0 in let p = c.args.place in let v = c.args.self.now in
-    let l = live_of a h v c.self.view_is n (places_live (state_at v n) p c.requires) in let s = c.spot_of-spot.result in
-    let same = one_class a.cells n l.class s.class l.index s.index l.place c.spot_of-spot.ensures.1 in
-    (end_set a h v c.self.view_is n l c.write-2.new.self c.write-2.ensures.0 p c.args.end c.far_word.result (width_of a h v c.self.view_is n l p c.requires)
-    (same_spot l.class s.class a.cells s.cells l.index s.index (slot_of p) c.far_word.result same.0 c.spot_of-spot.ensures.0 same.1 c.far_word.ensures) c.write-2.ensures.1).0
+    (end_set a h v c.self.view_is n l c.write.new.self c.write.ensures.0 p c.args.end c.place_word.result (width_of a h v c.self.view_is n l p c.requires) (c.place_word.ensures l.class l.index l.place) c.write.ensures.1).0
 
 pub returns : goal.returns
 returns c =
     let a = c.self.inside in let h = c.self.invariant in let n = c.args.cell.0 in let p = c.args.place in let v = c.args.self.now in
-    let l = live_of a h v c.self.view_is n (places_live (state_at v n) p c.requires) in let s = c.spot_of-spot.result in
-    let same = one_class a.cells n l.class s.class l.index s.index l.place c.spot_of-spot.ensures.1 in
-    (end_set a h v c.self.view_is n l c.write-2.new.self c.write-2.ensures.0 p c.args.end c.far_word.result (width_of a h v c.self.view_is n l p c.requires)
-    (same_spot l.class s.class a.cells s.cells l.index s.index (slot_of p) c.far_word.result same.0 c.spot_of-spot.ensures.0 same.1 c.far_word.ensures) c.write-2.ensures.1).1
+    let l = live_of a h v c.self.view_is n (places_live (state_at v n) p c.requires) in
+    (end_set a h v c.self.view_is n l c.write.new.self c.write.ensures.0 p c.args.end c.place_word.result (width_of a h v c.self.view_is n l p c.requires) (c.place_word.ensures l.class l.index l.place) c.write.ensures.1).1

@@ -1,15 +1,12 @@
-use Rattle.std.proofs.Common.{◌≡◌, ◌≤◌, ◌<◌, ℕ, length, set, sym, subst, ap, refl, arith, ◌∙◌, Some}
+use Rattle.std.proofs.Common.{◌≡◌, ◌<◌, set, sym, subst, ap, refl, ◌∙◌, Some}
 use Rattle.in_arena.specs.Arenas.{state_at}
 use Rattle.in_arena.specs.Classes.{width}
-use Rattle.in_arena.specs.FreeLists.{state_in, state_of, with_ends}
+use Rattle.in_arena.specs.FreeLists.{state_in, state_of}
 use Rattle.in_arena.specs.States.{places, with_end}
 use Rattle.in_arena.specs.Words.{Content, cell_in}
-use Rattle.in_arena.specs.declared.content.End.{End}
-use Rattle.std.specs.Prelude.{List, zero, suc}
-use Rattle.std.proofs.lemmas.List.{length-take-le}
 use Rattle.in_arena.proofs.Arenas.{placed_here}
 use Rattle.in_arena.proofs.Bags.{placed_in}
-use Rattle.in_arena.proofs.FreeLists.{end_written}
+use Rattle.in_arena.proofs.FreeLists.{end_written, place_within}
 use Rattle.in_arena.proofs.Kept.{bag_cell, bag_long, bag_rewritten, bag_state, in_bag_all}
 use Rattle.in_arena.proofs.bag.Bag.set.Goals as goal
 
@@ -25,15 +22,11 @@ set_end-requires-clause-written c =
     (x.0, subst (λ m. cell_in m b.words.slots s.class s.index ≡ Some (Some x.0)) (sym c.spot_of-spot.ensures.0) x.1)
 
 -- a place of a cell is one that its class has
-within : (n w : ℕ) (es : List End) (p most : ℕ) → p < places (with_ends n w es) → n ≤ most → most ≡ length es → p < most
-within zero w es p most lt few long = absurd (omega arith)
-within (suc n) w es p most lt few long = omega (arith, lt, few, long, length-take-le (suc n) es (omega (arith, few, long)))
-
 pub set_end-requires-clause-place : goal.set_end-requires-clause-place
 set_end-requires-clause-place c =
     let b = c.self.inside in let k = c.self.invariant in let w = c.args.self.now in let f = c.self.view_is in let n = c.args.cell.0 in let s = c.spot_of-spot.result in let p = c.spot_of-spot.ensures.1 in
     let x = bag_cell b k w f n s.class s.index p (placed_in (state_at w n) c.args.place c.requires) in
-    within x.0.count x.0.word x.0.ends c.args.place (width s.class) (subst (λ z. c.args.place < places z) (bag_state b k w f n s.class s.index p ∙ ap state_of x.1) c.requires) x.2 (sym (bag_long b k w f s.class s.index p.0 x.0 x.1))
+    place_within x.0.count x.0.word x.0.ends c.args.place (width s.class) (subst (λ z. c.args.place < places z) (bag_state b k w f n s.class s.index p ∙ ap state_of x.1) c.requires) x.2 (sym (bag_long b k w f s.class s.index p.0 x.0 x.1))
 
 pub invariant_of-self : goal.invariant_of-self
 invariant_of-self c =

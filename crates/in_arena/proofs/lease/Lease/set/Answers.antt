@@ -1,11 +1,17 @@
-use Rattle.std.proofs.Common.{◌∙◌, sym, ap, set}
+use Rattle.std.proofs.Common.{◌<◌, ◌∙◌, sym, subst, ap, set}
 use Rattle.in_arena.specs.Arenas.{LeaseView}
 use Rattle.in_arena.specs.FreeLists.{state_in, state_of}
-use Rattle.in_arena.specs.States.{with_end}
+use Rattle.in_arena.specs.Classes.{width}
+use Rattle.in_arena.specs.States.{places, with_end}
 use Rattle.in_arena.specs.Words.{Content}
-use Rattle.in_arena.proofs.FreeLists.{end_written}
-use Rattle.in_arena.proofs.Inside.{lease_rewrites, lease_written}
+use Rattle.in_arena.proofs.FreeLists.{end_written, place_within}
+use Rattle.in_arena.proofs.Inside.{lease_long, lease_rewrites, lease_written}
 use Rattle.in_arena.proofs.lease.Lease.set.Goals as goal
+
+pub set_end-requires-clause-place : goal.set_end-requires-clause-place
+set_end-requires-clause-place c =
+    let l = c.self.inside in let k = c.self.invariant in let x = k.content in
+    place_within x.count x.word x.ends c.args.place (width l.spot.class) (subst (λ z. c.args.place < places z) (ap (λ (m : LeaseView). m.state) (sym c.self.view_is) ∙ ap state_of k.cell) c.requires) k.room (sym (lease_long l k x k.cell))
 
 pub invariant_of-self : goal.invariant_of-self
 invariant_of-self c =
