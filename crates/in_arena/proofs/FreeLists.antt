@@ -281,6 +281,14 @@ new_counted (x ∷ xs) (suc k) new =
     omega (arith, rest, sum_by-cons vacancy x xs)
 
 -- at least as many cells are free as are listed or were never used
+-- the next free cell is one of the row, or the row's end
+pub next_inside : (most : ℕ) (xs : List CellWords) (l : FreeList) → ListsFree most xs l → l.next ≤ length xs
+next_inside most xs l h = by h.free h.listed
+  where
+    by : (fs : List ℕ) → IsFreeList xs l.next fs → l.next ≤ length xs
+    by [] e = omega (arith, e)
+    by (f ∷ fs) at = let e = at.0 in let lt = at.1 in omega (arith, e, lt)
+
 free_counted : (xs : List CellWords) (fresh next : ℕ) (fs : List ℕ) → IsFreeList xs next fs → AreDifferentNumbers fs → AreNew xs fresh → length fs + length xs ≤ vacancies xs + fresh
 free_counted xs fresh next [] h once new = omega (arith, new_counted xs fresh new)
 free_counted xs fresh next (f ∷ fs) h once new =

@@ -17,7 +17,7 @@ use Rattle.in_arena.specs.declared.content.CellNo.{CellNo}
 use Rattle.in_arena.specs.declared.content.End.TheVariants.{Cell}
 use Rattle.in_arena.specs.declared.content.End.TheVariants.{Free as FreeEnd}
 use Rattle.in_arena.proofs.Filling.{new_of}
-use Rattle.in_arena.proofs.FreeLists.{put, taken, filled_count, freed, free_small, first_free, fresh_inside, listed_new, none_free, set_twice, vacant_state, First, list_with}
+use Rattle.in_arena.proofs.FreeLists.{put, taken, filled_count, freed, free_small, first_free, fresh_inside, listed_new, next_inside, none_free, set_twice, vacant_state, First, list_with}
 use Rattle.in_arena.proofs.Owners.{gone_of, put_changes, put_kept}
 use Rattle.in_arena.proofs.Rows.{AllFilled, all_filled, class_cases, head_is, head_now, end_now, one_changes, row_set, row_stays, rows_become, still_whole, whole_now, with_word}
 use Rattle.in_arena.proofs.Words.{head_inside, kept_cell, kept_whole, row_at, row_long, slot_inside, slot_no_head}
@@ -177,6 +177,9 @@ module _ (cells : ℕ) (c : CellClass) (words : Cells End) (lists : FreeLists) (
 
   pub free_few : l.free ≤ cells
   free_few = let few = free_small (width c) xs l (free c) in omega (arith, few, long)
+
+  pub next_few : l.next ≤ cells
+  next_few = let few = next_inside (width c) xs l (free c) in omega (arith, few, long)
 
 -- the number that a head names
 pub number_of_head : (h : End) (n : ℕ) → IsHead h → ((c : CellNo) (p : ℕ) → h ≡ Cell c p → n ≡ c.0) → n ≡ word_in h

@@ -4,6 +4,7 @@ ghost use Rattle.in_arena.specs.States.{State, Vacant, Leased, IsLive, IsLeased,
 ghost use Rattle.in_arena.specs.Arenas.{Leases, BeginsCell, IsOf, IsUsedOf, NoneLeased, state_at, changed, free_of};
 ghost use Rattle.in_arena.specs.Bags.{IsBagOf, IsFor, IsInBag, LeasesTo, empty_bag};
 ghost use Rattle.in_arena.specs.Classes.{Holds, IsNumberOf, classes};
+ghost use Rattle.in_arena.specs.EndWords.{HasWord};
 ghost use Rattle.in_arena.specs.declared.content.CellClass.{CellClass as Class};
 ghost use Rattle.in_arena.specs.declared.content.CellNo.{CellNo as Number};
 ghost use Rattle.in_arena.specs.declared.content.End.TheVariants.{Cell};
@@ -11,7 +12,7 @@ ghost use Rattle.in_arena.specs.Changes.{HasAllCells};
 ghost use Rattle.in_arena.specs.Limiting.{most_cells};
 
 use crate::bag::Bag;
-use crate::content::{CellClass, CellNo, End, SymbolWord};
+use crate::content::{CellClass, CellIndex, CellNo, End, SymbolWord};
 use crate::free_list::{FreeList, FreeLists};
 use crate::head::HeadWord;
 use crate::lease::Lease;
@@ -228,6 +229,27 @@ impl Arena {
         head_of(&self.words, self.base, cell).number()
     }
 
+    /// The head of a live cell: its symbol word, and how many places it has.
+    #[inline(always)]
+    pub fn head(&self, cell: CellNo) -> HeadWord
+        requires { IsLive (state_at self.now cell.0) }
+        ensures symbol { word_of (state_at self.now cell.0) ≡ Some result.word }
+        ensures places { result.count ≡ places (state_at self.now cell.0) }
+    {
+        HeadWord::from(head_of(&self.words, self.base, cell))
+    }
+
+    /// The word of a place of a live cell.
+    #[inline(always)]
+    pub fn place(&self, cell: CellNo, place: u8) -> EndWord
+        requires { place < places (state_at self.now cell.0) }
+        ensures { result ≡ Cell cell place }
+    {
+        // That a live cell's number has a word is the arena's invariant, which is read with a field.
+        let _cells = self.cells;
+        EndWord::port(cell, place)
+    }
+
     /// The other end of the wire at a place of a live cell. The principal port is place 0.
     #[inline(always)]
     pub fn port(&self, cell: CellNo, place: u8) -> End
@@ -248,10 +270,11 @@ impl Arena {
             .get(self.base, place_word(self.cells, cell, place))
     }
 
-    /// Writes the other end of the wire at a place of a live cell.
+    /// Writes the other end of the wire at a place of a live cell. The end's number is below 33,554,432.
     #[inline(always)]
     pub fn set_port(&mut self, cell: CellNo, place: u8, end: End)
-        requires { place < places (state_at self.old cell.0) }
+        requires place { place < places (state_at self.old cell.0) }
+        requires end { HasWord end }
         ensures { self.new ≡ changed self.old cell.0 (with_end (state_at self.old cell.0) place end) }
     {
         self.set_word(cell, place, EndWord::of(end));
@@ -290,7 +313,7 @@ impl Arena {
     /// Makes a free cell of this class, any one, live with this head, which has as many places as the class is for. Their ends are open until they are
     /// written. Nothing changes if none of the class is free.
     #[inline(always)]
-    pub fn begin(&mut self, class: CellClass, head: HeadWord) -> Option<CellNo>
+    pub fn begin(&mut self, class: CellClass, head: HeadWord) -> Option<CellIndex>
         requires { Holds class head.count }
         ensures { MatchOption result ((free_of self.old class ≡ 0) × (self.new ≡ self.old)) (λ c. BeginsCell class head.word head.count self.old c.0 self.new) }
     {
@@ -321,18 +344,20 @@ impl Arena {
                 free: list.free - 1,
             },
         );
-        Some(cell)
+        Some(CellIndex::of(cell))
     }
 
-    /// Gives a live cell this head, which has as many places as the cell's class is for. Their ends are open until they are written.
+    /// Gives a live cell this head, which has as many places as the cell's class is for, and returns it. Their ends are open until they are written.
     #[inline(always)]
-    pub fn renew(&mut self, cell: CellNo, head: HeadWord)
+    pub fn renew(&mut self, cell: CellNo, head: HeadWord) -> CellIndex
         requires live { IsLive (state_at self.old cell.0) }
         requires many { IsFor self.old.cells cell.0 head.count }
-        ensures { (x : State) × IsBegun head.word head.count x × (self.new ≡ changed self.old cell.0 x) }
+        ensures cell { result ≡ cell }
+        ensures renewed { (x : State) × IsBegun head.word head.count x × (self.new ≡ changed self.old cell.0 x) }
     {
         self.words
             .write(self.base, near_word(cell, HEAD), head.word());
+        CellIndex::of(cell)
     }
 
     /// Frees a live cell.
@@ -371,7 +396,7 @@ impl Arena {
 
     /// Leases a free cell of this class, any one, into a bag of this arena. Returns none if none is free.
     #[inline(always)]
-    pub fn lease_to(&mut self, class: CellClass, bag: &mut Bag) -> Option<CellNo>
+    pub fn lease_to(&mut self, class: CellClass, bag: &mut Bag) -> Option<CellIndex>
         requires { IsBagOf bag.old self.old }
         ensures { LeasesTo self.old class bag.old result self.new bag.new }
     {
@@ -381,7 +406,7 @@ impl Arena {
             words,
         } = self.lease(class)?;
         bag.words.join(words);
-        Some(spot.cell())
+        Some(CellIndex::of(spot.cell()))
     }
 
     /// Makes the cell of the bag live with its content.

@@ -3,8 +3,10 @@ ghost use Rattle.std.specs.Prelude.{◌≡◌, ◌<◌, Some, length};
 ghost use Rattle.in_arena.specs.States.{State, Live, Leased, IsBegun, places, with_end};
 ghost use Rattle.in_arena.specs.Arenas.{state_at, changed};
 ghost use Rattle.in_arena.specs.Bags.{IsInBag, AreOfOne, IsFor};
+ghost use Rattle.in_arena.specs.EndWords.{HaveWords, numbers};
 
 use crate::content::{CellNo, End, SymbolWord};
+use crate::head::HeadWord;
 use crate::row::{begin_cell, set_end, write_cell};
 use crate::spot::spot_of;
 use crate::word::EndWord;
@@ -34,36 +36,39 @@ impl Model for Bag {
 }
 
 impl Bag {
-    /// Writes the symbol word and the ends at the places of a cell, the principal port first: as many as its class is for.
+    /// Writes the symbol word and the ends at the places of a cell, the principal port first: as many as its class is for. Each number is below
+    /// 33,554,432.
     #[inline(always)]
     pub fn write(&mut self, cell: CellNo, symbol: SymbolWord, ends: &[End])
         requires is_in { IsInBag self.old cell.0 }
         requires many { IsFor self.old.cells cell.0 (length ends.now) }
+        requires symbol { symbol < numbers }
+        requires ends { HaveWords ends.now }
         ensures { self.new ≡ changed self.old cell.0 (Live symbol ends.now) }
     {
         let spot = spot_of(self.cells, cell);
         write_cell(&mut self.words, self.base, spot, symbol, ends);
     }
 
-    /// Writes the symbol word of a cell and the number of its ends, with the principal port's: as many as its class is for. The ends are open until
-    /// they are set one by one, so they needn't be gathered before.
-    pub fn begin(&mut self, cell: CellNo, symbol: SymbolWord, ends: u8)
+    /// Writes the head of a cell, which has as many places as its class is for. Their ends are open until they are set one by one, so they needn't be
+    /// gathered before.
+    pub fn begin(&mut self, cell: CellNo, head: HeadWord)
         requires is_in { IsInBag self.old cell.0 }
-        requires many { IsFor self.old.cells cell.0 ends }
-        ensures { (x : State) × IsBegun symbol ends x × (self.new ≡ changed self.old cell.0 x) }
+        requires many { IsFor self.old.cells cell.0 head.count }
+        ensures { (x : State) × IsBegun head.word head.count x × (self.new ≡ changed self.old cell.0 x) }
     {
         let spot = spot_of(self.cells, cell);
-        begin_cell(&mut self.words, self.base, spot, symbol, ends);
+        begin_cell(&mut self.words, self.base, spot, head);
     }
 
     /// Writes the end at a place of a cell that is written.
     #[inline(always)]
-    pub fn set(&mut self, cell: CellNo, place: u8, end: End)
+    pub fn set(&mut self, cell: CellNo, place: u8, end: EndWord)
         requires { place < places (state_at self.old cell.0) }
         ensures { self.new ≡ changed self.old cell.0 (with_end (state_at self.old cell.0) place end) }
     {
         let spot = spot_of(self.cells, cell);
-        set_end(&mut self.words, self.base, spot, place, EndWord::of(end));
+        set_end(&mut self.words, self.base, spot, place, end);
     }
 
     /// Moves a cell, with its content, to another bag of the same arena.

@@ -1,13 +1,62 @@
 // The contents of a cell.
-ghost use Rattle.std.specs.Prelude.{◌≡◌, ◌≤◌};
+ghost use Rattle.std.specs.Prelude.{◌≡◌, ◌≤◌, ◌<◌};
+ghost use Rattle.in_arena.specs.EndWords.{numbers};
 ghost use Rattle.in_arena.specs.Classes.{Holds, class_no, width, least, holds};
 ghost use Rattle.in_arena.specs.declared.content.CellClass.TheVariants.{Wide};
+
+use std::marker::Model;
 
 /// The number of a cell in its arena.
 #[derive(Clone, Copy, Debug, PartialEq, Eq, Hash)]
 pub struct CellNo(pub u32);
 
-/// The word of a live cell, which is the number of its agent's symbol.
+/// The number of a cell that a word can name: it is below 33,554,432, as are those of all cells of an arena. Contracts see the cell's number.
+#[derive(Clone, Copy)]
+pub struct CellIndex {
+    number: u32,
+}
+
+impl Model for CellIndex {
+    ghost use Rattle.std.specs.Prelude.{◌<◌};
+    ghost use Rattle.in_arena.specs.EndWords.{numbers};
+    ghost use Rattle.in_arena.specs.declared.content.CellNo.{CellNo};
+
+    ghost Value = { CellNo };
+
+    ghost view = { λ c. record { 0 = c.number } };
+
+    ghost invariant = { λ c. c.number < numbers };
+
+    ghost inverse = { λ c. record { number = c.0 } };
+}
+
+impl CellIndex {
+    /// The first cell.
+    pub fn first() -> CellIndex
+        ensures { result ≡ record { 0 = 0 } }
+    {
+        CellIndex { number: 0 }
+    }
+
+    /// The cell of this number, which is below 33,554,432.
+    #[inline(always)]
+    pub(crate) fn of(cell: CellNo) -> CellIndex
+        requires { cell.0 < numbers }
+        ensures { result ≡ cell }
+    {
+        CellIndex { number: cell.0 }
+    }
+
+    /// The number.
+    #[inline(always)]
+    pub fn no(self) -> CellNo
+        ensures { result ≡ self }
+    {
+        CellNo(self.number)
+    }
+}
+
+/// The word of a live cell, which is the number of its agent's symbol. It is below 33,554,432.
 pub type SymbolWord = u32;
 
 /// An end of a wire: a place of a cell, of which 0 is the principal port, or a free end.

@@ -1,5 +1,7 @@
 // The head of a live cell in one word.
-ghost use Rattle.std.specs.Prelude.{◌≡◌};
+ghost use Rattle.std.specs.Prelude.{◌≡◌, ◌<◌};
+ghost use Rattle.in_arena.specs.EndWords.{free_place, numbers};
+ghost use Rattle.in_arena.specs.Words.{IsHead, head_in};
 ghost use Rattle.in_arena.specs.declared.content.End.TheVariants.{Cell};
 
 use crate::content::{CellNo, SymbolWord};
@@ -26,14 +28,25 @@ impl Model for HeadWord {
 }
 
 impl HeadWord {
-    /// The head of a cell with this symbol word and this many places, the principal port's among them.
+    /// The head of a cell with this symbol word, below 33,554,432, and this many places, below 31, the principal port's among them.
     #[inline(always)]
     pub fn of(symbol: SymbolWord, places: u8) -> HeadWord
+        requires symbol { symbol < numbers }
+        requires places { places < free_place }
         ensures { (result.word ≡ symbol) × (result.count ≡ places) }
     {
         HeadWord {
             word: EndWord::port(CellNo(symbol), places),
         }
+    }
+
+    // The head that is this word.
+    #[inline(always)]
+    pub(crate) fn from(word: EndWord) -> HeadWord
+        requires { IsHead word }
+        ensures { result ≡ head_in word }
+    {
+        HeadWord { word }
     }
 
     // As an end names a cell and a place.

@@ -3,8 +3,10 @@ ghost use Rattle.std.specs.Prelude.{◌≡◌, ◌<◌, length};
 ghost use Rattle.in_arena.specs.States.{State, Live, IsBegun, places, with_end};
 ghost use Rattle.in_arena.specs.Arenas.{written};
 ghost use Rattle.in_arena.specs.Classes.{Holds};
+ghost use Rattle.in_arena.specs.EndWords.{HasWord, HaveWords, numbers};
 
 use crate::content::{CellClass, CellNo, End, SymbolWord};
+use crate::head::HeadWord;
 use crate::row::{begin_cell, set_end, write_cell};
 use crate::spot::Spot;
 use crate::word::EndWord;
@@ -48,26 +50,28 @@ impl Lease {
         self.spot.class
     }
 
-    /// Writes the symbol word and the ends at its places, the principal port first: as many as its class is for.
+    /// Writes the symbol word and the ends at its places, the principal port first: as many as its class is for. Each number is below 33,554,432.
     pub fn write(&mut self, symbol: SymbolWord, ends: &[End])
-        requires { Holds self.old.class (length ends.now) }
+        requires many { Holds self.old.class (length ends.now) }
+        requires symbol { symbol < numbers }
+        requires ends { HaveWords ends.now }
         ensures { self.new ≡ written self.old (Live symbol ends.now) }
     {
         write_cell(&mut self.words, self.base, self.spot, symbol, ends);
     }
 
-    /// Writes the symbol word and the number of ends, with the principal port's: as many as its class is for. The ends are open until
-    /// they are written.
-    pub fn begin(&mut self, symbol: SymbolWord, ends: u8)
-        requires { Holds self.old.class ends }
-        ensures { (x : State) × IsBegun symbol ends x × (self.new ≡ written self.old x) }
+    /// Writes the head, which has as many places as its class is for. Their ends are open until they are written.
+    pub fn begin(&mut self, head: HeadWord)
+        requires { Holds self.old.class head.count }
+        ensures { (x : State) × IsBegun head.word head.count x × (self.new ≡ written self.old x) }
     {
-        begin_cell(&mut self.words, self.base, self.spot, symbol, ends);
+        begin_cell(&mut self.words, self.base, self.spot, head);
     }
 
-    /// Writes the end at a place of a cell that is written.
+    /// Writes the end at a place of a cell that is written. The end's number is below 33,554,432.
     pub fn set(&mut self, place: u8, end: End)
-        requires { place < places self.old.state }
+        requires place { place < places self.old.state }
+        requires end { HasWord end }
         ensures { self.new ≡ written self.old (with_end self.old.state place end) }
     {
         set_end(

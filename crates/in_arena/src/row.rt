@@ -2,6 +2,7 @@
 ghost use Rattle.std.specs.Prelude.{◌≡◌, ◌≤◌, ◌<◌, ◌+◌, ◌*◌, length, Some, get_or, None, slice_set};
 ghost use Rattle.in_memory.specs.Places.{IsFilled};
 ghost use Rattle.in_arena.specs.Classes.{width};
+ghost use Rattle.in_arena.specs.EndWords.{HaveWords, numbers};
 ghost use Rattle.in_arena.specs.FreeLists.{ListsFree, list_in};
 ghost use Rattle.in_arena.specs.Limiting.{most_cells};
 ghost use Rattle.in_arena.specs.Rows.{EachListsFree, HasContent, MakesReady, IsTakenBack, IsWrittenAt, OwnsOne, Rewrites};
@@ -9,6 +10,7 @@ ghost use Rattle.in_arena.specs.Words.{AreWhole, Content, cell_in};
 
 use crate::content::{CellClass, CellNo, End, SymbolWord};
 use crate::free_list::{FreeList, FreeLists};
+use crate::head::HeadWord;
 use crate::spot::{HEAD, Spot, near_word};
 use crate::word::EndWord;
 use in_memory::{Base, Cells};
@@ -106,20 +108,14 @@ pub fn take_back(
     );
 }
 
-/// Writes the symbol word of a cell that is written, and its number of ends. The ends at its places stay.
+/// Writes the head of a cell that is written. The ends at its places stay.
 #[inline(always)]
-pub fn begin_cell(
-    words: &mut Cells<EndWord>,
-    base: Base<EndWord>,
-    spot: Spot,
-    symbol: SymbolWord,
-    count: u8,
-)
+pub fn begin_cell(words: &mut Cells<EndWord>, base: Base<EndWord>, spot: Spot, head: HeadWord)
     requires words { (base.ptr ≡ words.old.at) × (spot.cells ≤ most_cells) × (spot.index < spot.cells) × AreWhole spot.cells words.old.slots }
     requires written { IsWrittenAt words.old.slots spot }
-    ensures { (x : Content) → cell_in spot.cells words.old.slots spot.class spot.index ≡ Some (Some x) → Rewrites words.old spot (record { word = symbol; count = count; ends = x.ends }) words.new }
+    ensures { (x : Content) → cell_in spot.cells words.old.slots spot.class spot.index ≡ Some (Some x) → Rewrites words.old spot (record { word = head.word; count = head.count; ends = x.ends }) words.new }
 {
-    words.write(base, spot.head(), EndWord::port(CellNo(symbol), count));
+    words.write(base, spot.head(), head.word());
 }
 
 /// Writes the end at a place of a cell that is written.
@@ -144,10 +140,12 @@ pub fn write_cell(
     requires words { (base.ptr ≡ words.old.at) × (spot.cells ≤ most_cells) × (spot.index < spot.cells) × AreWhole spot.cells words.old.slots }
     requires written { IsWrittenAt words.old.slots spot }
     requires few { length ends.now ≤ width spot.class }
+    requires symbol { symbol < numbers }
+    requires ends { HaveWords ends.now }
     ensures { (x : Content) × HasContent symbol ends.now x × Rewrites words.old spot x words.new }
 {
     for (place, end) in ends.iter().enumerate() {
         set_end(words, base, spot, place as u8, EndWord::of(*end));
     }
-    begin_cell(words, base, spot, symbol, ends.len() as u8);
+    begin_cell(words, base, spot, HeadWord::of(symbol, ends.len() as u8));
 }

@@ -1,29 +1,27 @@
 // An end in one word.
 ghost use Rattle.std.specs.Prelude.{◌≡◌, ◌≢◌, ◌⊎◌, ◌*◌, ◌+◌, ◌<◌, ℕ, MatchOption};
 ghost use Rattle.in_arena.specs.declared.content.CellNo.{CellNo as Number};
+ghost use Rattle.in_arena.specs.EndWords.{HasWord, free_place};
 ghost use Rattle.in_arena.specs.declared.content.End.TheVariants.{Cell, Free};
 
-use crate::content::{CellNo, End};
+use crate::content::{CellIndex, CellNo, End};
 use std::marker::Model;
 
 // The place begins at this bit.
-const ABOVE: u64 = 1099511627776;
+const ABOVE: u32 = 134217728;
 
 // The number that a free end has for a place.
-const FREE_PLACE: u64 = 256;
-
-// The count of all numbers.
-const NUMBERS: u64 = 4294967296;
+const FREE_PLACE: u32 = 31;
 
 // The lowest bits of an end that is at no near place.
-const NOT_NEAR: u64 = 3;
+const NOT_NEAR: u32 = 3;
 
 /// An end in one word, so that it is read, tested and written as a whole. Contracts see the end. The word of one of the first three places of a cell
 /// is the place's own number in the row of an arena, four times the number of the cell and the place; the word of any other end is a number that no
 /// word of a row has. That form is this project's own choice.
 #[derive(Clone, Copy)]
 pub struct EndWord {
-    bits: u64,
+    bits: u32,
 }
 
 impl Model for EndWord {
@@ -40,9 +38,10 @@ impl Model for EndWord {
 }
 
 impl EndWord {
-    /// The word of this end.
+    /// The word of this end. The number of a cell or of a free end is below 33,554,432, and a place is below 31.
     #[inline(always)]
     pub fn of(end: End) -> EndWord
+        requires { HasWord end }
         ensures { result ≡ end }
     {
         match end {
@@ -51,13 +50,14 @@ impl EndWord {
         }
     }
 
-    /// The word of this place of that cell, the principal port being place 0.
+    /// The word of this place of that cell, the principal port being place 0. The number of the cell is below 33,554,432, and the place below 31.
     #[inline(always)]
     pub fn port(cell: CellNo, place: u8) -> EndWord
+        requires { HasWord (Cell cell place) }
         ensures { result ≡ Cell cell place }
     {
-        let number = u64::from(cell.0) * 4;
-        let place = u64::from(place);
+        let number = cell.0 * 4;
+        let place = u32::from(place);
         if place < 3 {
             EndWord {
                 bits: number + place,
@@ -69,14 +69,32 @@ impl EndWord {
         }
     }
 
-    /// The word of the free end of this number.
+    /// The word of the principal port of this cell.
+    #[inline(always)]
+    pub fn principal_of(cell: CellIndex) -> EndWord
+        ensures { result ≡ Cell cell 0 }
+    {
+        EndWord::port(cell.no(), 0)
+    }
+
+    /// The word of the free end of this number, which is below 33,554,432.
     #[inline(always)]
     pub fn free(number: u32) -> EndWord
+        requires { HasWord (Free number) }
         ensures { result ≡ Free number }
     {
         EndWord {
-            bits: FREE_PLACE * ABOVE + (u64::from(number) * 4 + NOT_NEAR),
+            bits: FREE_PLACE * ABOVE + (number * 4 + NOT_NEAR),
         }
+    }
+
+    /// The word of the same place of another cell. The end is at a place of a cell.
+    #[inline(always)]
+    pub fn moved_to(self, cell: CellIndex) -> EndWord
+        requires { (c : Number) × (p : ℕ) × (self ≡ Cell c p) }
+        ensures { (c : Number) (p : ℕ) → self ≡ Cell c p → result ≡ Cell cell p }
+    {
+        EndWord::port(cell.no(), self.place())
     }
 
     // The number of the cell of which it is a place, or of the free end.
@@ -85,7 +103,7 @@ impl EndWord {
         ensures cell { (c : Number) (p : ℕ) → self ≡ Cell c p → result ≡ c.0 }
         ensures free { (k : ℕ) → self ≡ Free k → result ≡ k }
     {
-        (self.bits / 4 % NUMBERS) as u32
+        self.bits % ABOVE / 4
     }
 
     // The place, if the end is at a place of a cell.
@@ -97,7 +115,7 @@ impl EndWord {
         if far == 0 {
             (self.bits % 4) as u8
         } else {
-            (far % 256) as u8
+            far as u8
         }
     }
 
@@ -107,13 +125,13 @@ impl EndWord {
         ensures { result ≡ self }
     {
         let far = self.bits / ABOVE;
-        let number = (self.bits / 4 % NUMBERS) as u32;
+        let number = self.bits % ABOVE / 4;
         if far == 0 {
             End::Cell(CellNo(number), (self.bits % 4) as u8)
         } else if far == FREE_PLACE {
             End::Free(number)
         } else {
-            End::Cell(CellNo(number), (far % 256) as u8)
+            End::Cell(CellNo(number), far as u8)
         }
     }
 
@@ -123,7 +141,7 @@ impl EndWord {
         ensures { MatchOption result ((c : Number) → self ≢ Cell c 0) (λ c. self ≡ Cell c 0) }
     {
         if self.bits % 4 == 0 {
-            Some(CellNo((self.bits / 4 % NUMBERS) as u32))
+            Some(CellNo(self.bits / 4))
         } else {
             None
         }
@@ -157,7 +175,7 @@ impl EndWord {
 /// The step from the principal port of a cell to a place of it, in one word, so that a wire's end is found by one addition. Contracts see the place.
 #[derive(Clone, Copy)]
 pub struct PlaceStep {
-    bits: u64,
+    bits: u32,
 }
 
 impl Model for PlaceStep {
@@ -174,12 +192,13 @@ impl Model for PlaceStep {
 }
 
 impl PlaceStep {
-    /// The step to this place.
+    /// The step to this place, which is below 31.
     #[inline(always)]
     pub fn to(place: u8) -> PlaceStep
+        requires { place < free_place }
         ensures { result ≡ place }
     {
-        let place = u64::from(place);
+        let place = u32::from(place);
         if place < 3 {
             PlaceStep { bits: place }
         } else {

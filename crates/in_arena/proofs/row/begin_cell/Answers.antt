@@ -12,5 +12,5 @@ write-requires c =
 pub returns : goal.returns
 returns c = λ x at.
     let w = c.requires.words in let s = c.args.spot in let ws = c.args.words.now.slots in
-    let now : c.write.new.self.slots ≡ with_word s.cells ws s.class s.index head c.port.result = c.write.ensures.1 ∙ ap (λ k. set ws k (Some (Some c.port.result))) c.head.ensures in
-    head_rewrites c.args.words.now c.write.new.self s x w.2 w.3 at c.write.ensures.0 _ tt (now ∙ ap (λ e. with_word s.cells ws s.class s.index head e) c.port.ensures)
+    let now : c.write.new.self.slots ≡ with_word s.cells ws s.class s.index head c.word.result = c.write.ensures.1 ∙ ap (λ k. set ws k (Some (Some c.word.result))) c.head.ensures in
+    head_rewrites c.args.words.now c.write.new.self s x w.2 w.3 at c.write.ensures.0 _ tt (now ∙ ap (λ e. with_word s.cells ws s.class s.index head e) c.word.ensures)

@@ -6,7 +6,7 @@ use Rattle.in_arena.specs.declared.content.End.TheVariants.{Cell}
 use Rattle.in_arena.specs.declared.free_list.FreeList.{FreeList}
 use Rattle.in_arena.proofs.Filling.{changes_twice}
 use Rattle.in_arena.proofs.FreeLists.{list_with}
-use Rattle.in_arena.proofs.Rewriting.{free_few, head_filled, head_rewrites, one_freed, put_in}
+use Rattle.in_arena.proofs.Rewriting.{free_few, next_few, head_filled, head_rewrites, one_freed, put_in}
 use Rattle.in_arena.proofs.Rows.{with_word}
 use Rattle.in_arena.proofs.row.take_back.Goals as goal
 
@@ -15,6 +15,11 @@ write-requires c =
     let w = c.requires.words in let o = c.requires.one in let s = c.args.spot in let p = put_in c.args.words.now c.args.one s o w.2 c.join.new.self.slots c.join.ensures.1 in
     let h = head_filled c.join.new.self c.join.new.self s o.content o.index p.whole p.cell refl in
     (w.0 ∙ sym c.join.ensures.0, (Some h.0, ap (λ k. get_or c.join.new.self.slots k None) c.head.ensures ∙ h.1))
+
+pub port-requires : goal.port-requires
+port-requires c =
+    let w = c.requires.words in let s = c.args.spot in let most = w.1 in
+    (omega (arith, next_few s.cells s.class c.args.words.now c.args.lists.now w.2 c.requires.lists, most, ap (λ (l : FreeList). l.next) c.of-list.ensures), omega arith)
 
 pub overflow_add-list : goal.overflow_add-list
 overflow_add-list c =

@@ -1,4 +1,4 @@
-use Rattle.std.proofs.Common.{◌≡◌, ◌≤◌, ◌<◌, ℕ, length, take, refl, subst, arith, ◌∙◌}
+use Rattle.std.proofs.Common.{◌≡◌, ◌≤◌, ◌<◌, ℕ, length, take, subst, arith, ◌∙◌}
 use Rattle.std.proofs.Math.Seq.{take-length}
 use Rattle.in_arena.specs.Classes.{width}
 use Rattle.in_arena.specs.Words.{Content}
@@ -18,8 +18,8 @@ pub returns : goal.returns
 returns c =
     let w = c.loop-place.invariant in let es = c.args.ends.now in
     let all : c.loop-place.place ≡ length es = omega (arith, c.loop-place-test.false, c.loop-place.auto.place-end) in
-    let x : Content = record { word = c.args.symbol; count = length es; ends = w.content.ends } in (
+    let x : Content = record { word = c.of-2.result.word; count = c.of-2.result.count; ends = w.content.ends } in (
       x,
-      record { word = refl; count = refl; ends = subst (λ n. take n w.content.ends ≡ take n es) all w.so_far ∙ take-length es },
+      record { word = c.of-2.ensures.0; count = c.of-2.ensures.1; ends = subst (λ n. take n w.content.ends ≡ take n es) all w.so_far ∙ take-length es },
       rewrites_twice c.args.words.now c.loop-place.words c.begin_cell.new.words c.args.spot w.content x w.rewrites (c.begin_cell.ensures w.content w.rewrites.cell),
     )

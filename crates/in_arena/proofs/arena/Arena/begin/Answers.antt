@@ -67,7 +67,7 @@ invariant_of-self-2 c = (all c.self.inside c.self.invariant c.args.self.now c.se
     c.word.result c.args.head.word c.args.head.count c.word.ensures c.requires c.write.new.self c.write.ensures.0 c.write.ensures.1 c.set.new.self c.set.ensures.class c.set.ensures.others).0
 
 pub returns : goal.returns
-returns c = (all c.self.inside c.self.invariant c.args.self.now c.self.view_is c.args.class c.is_ready.new.words c.is_ready.new.lists
+returns c = subst (λ (n : ℕ). BeginsCell c.args.class c.args.head.word c.args.head.count c.args.self.now n (view_of c.write.new.self.at c.self.inside.cells c.write.new.self.slots)) (ap (λ (m : CellNo). m.0) (sym c.of.ensures)) (all c.self.inside c.self.invariant c.args.self.now c.self.view_is c.args.class c.is_ready.new.words c.is_ready.new.lists
     (subst (λ b. MakesReady c.self.inside.cells c.args.class c.self.inside.words c.self.inside.lists b c.is_ready.new.words c.is_ready.new.lists) c.if-not-is_ready.false c.is_ready.ensures)
     c.cell-cell.result.0 c.of-list.result c.of-list.ensures c.cell-cell.ensures c.near_word-at.result c.near_word-at.ensures c.get.result.now c.get.ensures c.number-next.result c.number-next.ensures.cell
     c.word.result c.args.head.word c.args.head.count c.word.ensures c.requires c.write.new.self c.write.ensures.0 c.write.ensures.1 c.set.new.self c.set.ensures.class c.set.ensures.others).1

@@ -5,11 +5,16 @@ use Rattle.in_arena.specs.declared.free_list.FreeList.{FreeList}
 use Rattle.in_arena.proofs.Arenas.{live_inside}
 use Rattle.in_arena.proofs.FreeLists.{list_with}
 use Rattle.in_arena.proofs.Inside.{freed_in, head_found, inside_all, live_in_place, live_of, near_spot}
-use Rattle.in_arena.proofs.Rewriting.{free_few}
+use Rattle.in_arena.proofs.Rewriting.{free_few, next_few}
 use Rattle.in_arena.proofs.arena.Arena.retire.Goals as goal
 
 pub spot_of-spot-requires : goal.spot_of-spot-requires
 spot_of-spot-requires c = (c.self.invariant.few, inside_all c.self.inside c.self.invariant c.args.self.now c.self.view_is c.args.cell.0 (live_inside c.args.self.now c.args.cell.0 c.requires))
+
+pub port-requires : goal.port-requires
+port-requires c =
+    let a = c.self.inside in let h = c.self.invariant in let few = h.few in
+    (omega (arith, next_few a.cells c.spot_of-spot.result.class a.words a.lists h.whole h.free, few, ap (λ (l : FreeList). l.next) c.of-list.ensures), omega arith)
 
 pub write-requires : goal.write-requires
 write-requires c =

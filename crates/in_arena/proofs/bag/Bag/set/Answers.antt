@@ -31,12 +31,12 @@ set_end-requires-clause-place c =
 pub invariant_of-self : goal.invariant_of-self
 invariant_of-self c =
     let b = c.self.inside in let k = c.self.invariant in let w = c.args.self.now in let f = c.self.view_is in let n = c.args.cell.0 in let s = c.spot_of-spot.result in let p = c.spot_of-spot.ensures.1 in
-    let x = bag_cell b k w f n s.class s.index p (placed_in (state_at w n) c.args.place c.requires) in let y : Content = record { word = x.0.word; count = x.0.count; ends = set x.0.ends c.args.place c.of.result } in
+    let x = bag_cell b k w f n s.class s.index p (placed_in (state_at w n) c.args.place c.requires) in let y : Content = record { word = x.0.word; count = x.0.count; ends = set x.0.ends c.args.place c.args.end } in
     (bag_rewritten b k w f c.set_end.new.words n s y (state_in y) c.spot_of-spot.ensures.0 p (c.set_end.ensures x.0 (subst (λ m. cell_in m b.words.slots s.class s.index ≡ Some (Some x.0)) (sym c.spot_of-spot.ensures.0) x.1)) x.2 refl).0
 
 pub returns : goal.returns
 returns c =
     let b = c.self.inside in let k = c.self.invariant in let w = c.args.self.now in let f = c.self.view_is in let n = c.args.cell.0 in let s = c.spot_of-spot.result in let p = c.spot_of-spot.ensures.1 in
-    let x = bag_cell b k w f n s.class s.index p (placed_in (state_at w n) c.args.place c.requires) in let y : Content = record { word = x.0.word; count = x.0.count; ends = set x.0.ends c.args.place c.of.result } in
+    let x = bag_cell b k w f n s.class s.index p (placed_in (state_at w n) c.args.place c.requires) in let y : Content = record { word = x.0.word; count = x.0.count; ends = set x.0.ends c.args.place c.args.end } in
     (bag_rewritten b k w f c.set_end.new.words n s y (with_end (state_at w n) c.args.place c.args.end) c.spot_of-spot.ensures.0 p (c.set_end.ensures x.0 (subst (λ m. cell_in m b.words.slots s.class s.index ≡ Some (Some x.0)) (sym c.spot_of-spot.ensures.0) x.1)) x.2
-    (end_written x.0.word x.0.count x.0.ends c.args.place c.of.result ∙ ap (λ e. with_end (state_in x.0) c.args.place e) c.of.ensures ∙ ap (λ z. with_end z c.args.place c.args.end) (sym (bag_state b k w f n s.class s.index p ∙ ap state_of x.1)))).1
+    (end_written x.0.word x.0.count x.0.ends c.args.place c.args.end ∙ ap (λ z. with_end z c.args.place c.args.end) (sym (bag_state b k w f n s.class s.index p ∙ ap state_of x.1)))).1

@@ -11,7 +11,7 @@ use Rattle.in_arena.proofs.lease.Lease.set.Goals as goal
 pub set_end-requires-clause-place : goal.set_end-requires-clause-place
 set_end-requires-clause-place c =
     let l = c.self.inside in let k = c.self.invariant in let x = k.content in
-    place_within x.count x.word x.ends c.args.place (width l.spot.class) (subst (λ z. c.args.place < places z) (ap (λ (m : LeaseView). m.state) (sym c.self.view_is) ∙ ap state_of k.cell) c.requires) k.room (sym (lease_long l k x k.cell))
+    place_within x.count x.word x.ends c.args.place (width l.spot.class) (subst (λ z. c.args.place < places z) (ap (λ (m : LeaseView). m.state) (sym c.self.view_is) ∙ ap state_of k.cell) c.requires.place) k.room (sym (lease_long l k x k.cell))
 
 pub invariant_of-self : goal.invariant_of-self
 invariant_of-self c =
