@@ -69,12 +69,13 @@ impl EndWord {
         }
     }
 
-    /// The word of the principal port of this cell.
+    /// The word of this place of that cell, the principal port being place 0. The place is below 31.
     #[inline(always)]
-    pub fn principal_of(cell: CellIndex) -> EndWord
-        ensures { result ≡ Cell cell 0 }
+    pub fn place_of(cell: CellIndex, place: u8) -> EndWord
+        requires { place < free_place }
+        ensures { result ≡ Cell cell place }
     {
-        EndWord::port(cell.no(), 0)
+        EndWord::port(cell.no(), place)
     }
 
     /// The word of the free end of this number, which is below 33,554,432.

@@ -1,6 +1,7 @@
 // A wire that is cut.
-ghost use Rattle.std.specs.Prelude.{◌≡◌, ◌≤◌, ◌<◌, ◌+◌, ◌^◌, ℕ, suc, length, take};
+ghost use Rattle.std.specs.Prelude.{◌≡◌, ◌≤◌, ◌<◌, ◌+◌, ℕ, suc, length, take};
 ghost use Rattle.in_arena.specs.Arenas.{state_at};
+ghost use Rattle.in_arena.specs.EndWords.{numbers};
 ghost use Rattle.in_arena.specs.States.{places};
 ghost use Rattle.in_net.specs.Nets.{Net, Signature};
 ghost use Rattle.in_cells.specs.Cells.{KeepsCells};
@@ -16,12 +17,12 @@ pub fn cut(arena: &mut Arena, ends: &mut [EndWord], own: u32, cell: CellNo, plac
     requires shown { (sig : Signature) × (w : Net ℕ) × Shows sig own arena.old ends.old w }
     requires there { place < places (state_at arena.old cell.0) }
     requires room { own + 2 ≤ length ends.old }
-    requires few { own + 2 < 2 ^ 32 }
+    requires few { own + 2 ≤ numbers }
     ensures cut { (sig : Signature) (w m : Net ℕ) → Shows sig own arena.old ends.old w → IsShown arena.new (take (own + 2) ends.new) m → IsCutAt w cell.0 place own m }
     ensures kept { KeepsCells arena.old arena.new }
     ensures long { length ends.new ≡ length ends.old }
 {
-    let here = EndWord::port(cell, place);
+    let here = arena.place(cell, place);
     let other = arena.word(cell, place);
     exchange(arena, ends, here, EndWord::free(own));
     exchange(arena, ends, other, EndWord::free(own + 1));

@@ -8,19 +8,17 @@ ghost use Rattle.in_arena.specs.declared.content.CellClass.{CellClass as Class};
 ghost use Rattle.in_cells.specs.Copying.{AreBelow, ArePart, HasCellsFor};
 ghost use Rattle.in_cells.specs.CopyingSteps.{TakesCell, HaveCellsBelow};
 
-use in_arena::{Arena, CellClass, CellNo, HeadWord};
+use in_arena::{Arena, CellClass, CellIndex, CellNo};
 
 // Takes a cell for an agent. Its symbol word is written, and its ends are open.
-fn take_cell(from: &Arena, cell: CellNo, to: &mut Arena) -> CellNo
+fn take_cell(from: &Arena, cell: CellNo, to: &mut Arena) -> CellIndex
     requires live { IsLive (state_at from.now cell.0) }
     requires all { HasAllCells to.old }
     requires free { (c : Class) → Holds c (places (state_at from.now cell.0)) → 0 < free_of to.old c }
     ensures { TakesCell (state_at from.now cell.0) to.old result.0 to.new }
 {
-    let places = from.places(cell);
-    let class = CellClass::for_places(places);
-    let head = HeadWord::of(from.symbol(cell), places);
-    let Some(new) = to.begin(class, head) else {
+    let class = CellClass::for_places(from.places(cell));
+    let Some(new) = to.begin(class, from.head(cell)) else {
         // A cell of that class is free.
         unreachable!()
     };
@@ -28,7 +26,7 @@ fn take_cell(from: &Arena, cell: CellNo, to: &mut Arena) -> CellNo
 }
 
 /// Takes a cell for each agent, and writes the cell's number in `names` at the agent's number.
-pub fn take_cells(from: &Arena, agents: &[CellNo], to: &mut Arena, names: &mut [CellNo])
+pub fn take_cells(from: &Arena, agents: &[CellNo], to: &mut Arena, names: &mut [CellIndex])
     requires part { ArePart from.now agents.now }
     requires all { HasAllCells to.old }
     requires room { HasCellsFor from.now agents.now to.old }

@@ -1,8 +1,9 @@
 -- Members, which are placed in cells: a right member of a rule, or the initial net. Lafont 1990: an interaction puts the right member
 -- of a rule in the place of an active pair. That nets are compiled before a run, and in which form, is this project's own choice.
-use Rattle.std.specs.Prelude.{◌≡◌, ◌<◌, ◌^◌, ℕ, Bool, nat_eq, true, List, length, Option, Some, IsSomeAnd, count_by, option_map, option_and_then, slice_get}
+use Rattle.std.specs.Prelude.{◌≡◌, ◌≤◌, ◌<◌, ◌^◌, ℕ, Bool, nat_eq, true, List, length, Option, Some, IsSomeAnd, count_by, option_map, option_and_then, slice_get}
 use Rattle.in_arena.specs.declared.content.CellClass.{CellClass}
 use Rattle.in_arena.specs.Classes.{Holds, class_no}
+use Rattle.in_syntax.specs.Grammar.{max_ports}
 use Rattle.in_symbols.specs.declared.symbols.SymbolNo.{SymbolNo}
 use Rattle.in_symbols.specs.Tables.{Tables}
 use Rattle.in_net.specs.declared.nets.Point.{Point}
@@ -45,6 +46,11 @@ IsPlaceOf m k i = IsSomeAnd (slice_get m.agents k) (λ a. i < length a.ends)
 abbrev pub joint_at : MemberParts → Joint → Option Joint
 joint_at m (ToAgent k i) = option_and_then (λ a. slice_get a.ends i) (slice_get m.agents k)
 joint_at m (ToBoundary e) = slice_get m.joints e
+
+-- its place is one of the places of an agent
+abbrev pub IsAtPort : Joint → Type 0
+IsAtPort (ToAgent k i) = i ≤ max_ports
+IsAtPort (ToBoundary e) = Unit {0}
 
 -- ---- the member of a net
 

@@ -4,16 +4,16 @@ ghost use Rattle.in_compile.specs.Cells.{count_of};
 ghost use Rattle.in_compile.specs.Listing.{listed, room_of, HasOneMore};
 
 use crate::cells::Need;
-use in_arena::{CellClass, CellNo};
+use in_arena::{CellClass, CellIndex};
 use std::alloc::{AllocError, Global};
 
 /// Numbers of cells, in a list for each class, with room for a given number of them. Only this file depends on there being a list for each
 /// class.
 #[derive(Drop)]
 pub(crate) struct Lists {
-    small: Vec<CellNo>,
-    large: Vec<CellNo>,
-    wide: Vec<CellNo>,
+    small: Vec<CellIndex>,
+    large: Vec<CellIndex>,
+    wide: Vec<CellIndex>,
 }
 
 impl Lists {
@@ -43,7 +43,7 @@ impl Lists {
 
     /// Adds a number of this class.
     #[inline(always)]
-    pub(crate) fn push(&mut self, class: CellClass, cell: CellNo)
+    pub(crate) fn push(&mut self, class: CellClass, cell: CellIndex)
         requires { length (listed self.old class) < count_of (room_of self.old) class }
         ensures { HasOneMore self.old self.new class cell }
     {
@@ -56,7 +56,7 @@ impl Lists {
 
     /// Takes out the last number of this class.
     #[inline(always)]
-    pub(crate) fn take(&mut self, class: CellClass) -> CellNo
+    pub(crate) fn take(&mut self, class: CellClass) -> CellIndex
         requires { 0 < length (listed self.old class) }
         ensures { HasOneMore self.new self.old class result }
     {

@@ -1,6 +1,6 @@
 // From a net to its member, and from a rule to its template.
 ghost use Rattle.std.specs.Prelude.{◌≡◌, ◌+◌, ◌≤◌, ◌<◌, ◌^◌, ◌++◌, ◌↔◌, IsTrue, map, length, Some, IfOk, OnOk};
-ghost use Rattle.in_syntax.specs.Grammar.{max_ports};
+ghost use Rattle.in_syntax.specs.Grammar.{max_ports, max_symbols};
 ghost use Rattle.in_symbols.specs.Tables.{IsSymbol};
 ghost use Rattle.in_net.specs.Built.{IsOver, IsCellOver};
 ghost use Rattle.in_net.specs.NetFaults.{max_agents};
@@ -67,6 +67,7 @@ fn add_agent(
     agents: &mut Items<MemberAgent>,
     joints: &mut Items<StoredJoint>,
 ) -> Result<(), AllocError>
+    requires few { length symbols.now.names ≤ max_symbols }
     requires over { IsCellOver symbols.now (Some cell.now) }
     requires narrow { AreNarrow cell.now.ends }
     requires room { length joints.old < 2 ^ 32 }
@@ -89,6 +90,7 @@ fn add_agents(
     agents: &mut Items<MemberAgent>,
     joints: &mut Items<StoredJoint>,
 ) -> Result<(), AllocError>
+    requires few_symbols { length symbols.now.names ≤ max_symbols }
     requires over { IsOver symbols.now net.now }
     requires there { AreAllThere net.now }
     requires few { length net.now.cells ≤ max_agents }
@@ -122,6 +124,7 @@ fn own_pairs(alloc: Global, symbols: &Symbols, net: &Net) -> Result<Items<(u32, 
 
 /// The member of a net that is over these tables and as it was built.
 pub(crate) fn member_of(alloc: Global, symbols: &Symbols, net: &Net) -> Result<Member, AllocError>
+    requires few_symbols { length symbols.now.names ≤ max_symbols }
     requires over { IsOver symbols.now net.now }
     requires there { AreAllThere net.now }
     requires few { length net.now.cells ≤ max_agents }
@@ -170,6 +173,7 @@ pub(crate) fn template(
     symbols: &Symbols,
     rule: &Rule,
 ) -> Result<Template, AllocError>
+    requires few_symbols { length symbols.now.names ≤ max_symbols }
     requires over { IsRuleOver symbols.now rule.now }
     requires whole { IsRuleWhole symbols.now rule.now }
     ensures { IfOk result (λ t. IsTemplateOf symbols.now rule.now t) }

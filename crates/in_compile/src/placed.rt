@@ -7,7 +7,7 @@ ghost use Rattle.in_compile.specs.Placing.{AreCellsOf, AreWritten, HasNoCell};
 ghost use Rattle.in_compile.specs.PlacingSteps.{AreOnTheWay};
 ghost use Rattle.in_compile.specs.Stocks.{Regains};
 
-use in_arena::{Arena, Bag, CellNo};
+use in_arena::{Arena, Bag, CellIndex, CellNo};
 use in_base::use_promise;
 use std::alloc::{AllocError, Global};
 use std::marker::Model;
@@ -16,7 +16,7 @@ use std::marker::Model;
 /// no memory; after `settle` it has no cells, but still has their numbers.
 #[derive(Drop)]
 pub struct Placed {
-    pub(crate) numbers: Vec<CellNo>,
+    pub(crate) numbers: Vec<CellIndex>,
     pub(crate) bag: Bag,
 }
 
@@ -33,7 +33,7 @@ impl Model for Placed {
 }
 
 /// Makes the cells of a bag live, with the words written in them.
-fn settle_all(numbers: &[CellNo], bag: &mut Bag, arena: &mut Arena)
+fn settle_all(numbers: &[CellIndex], bag: &mut Bag, arena: &mut Arena)
     requires of { IsBagOf bag.old arena.old }
     requires all { HasAllCells arena.old }
     requires all_bag { HasAllCells bag.old }
@@ -41,12 +41,12 @@ fn settle_all(numbers: &[CellNo], bag: &mut Bag, arena: &mut Arena)
     ensures { AreOnTheWay (λ x. x) IsLive numbers.now (length numbers.now) arena.old bag.old arena.new bag.new }
 {
     for number in 0..numbers.len() {
-        arena.settle_from(bag, numbers[number]);
+        arena.settle_from(bag, numbers[number].no());
     }
 }
 
 /// Frees the cells of a bag.
-fn free_all(numbers: &[CellNo], bag: &mut Bag, arena: &mut Arena)
+fn free_all(numbers: &[CellIndex], bag: &mut Bag, arena: &mut Arena)
     requires of { IsBagOf bag.old arena.old }
     requires all { HasAllCells arena.old }
     requires all_bag { HasAllCells bag.old }
@@ -54,7 +54,7 @@ fn free_all(numbers: &[CellNo], bag: &mut Bag, arena: &mut Arena)
     ensures { AreOnTheWay (λ _. Vacant) (λ x. IsLeased x → ⊥) numbers.now (length numbers.now) arena.old bag.old arena.new bag.new }
 {
     for number in 0..numbers.len() {
-        arena.give_back_from(bag, numbers[number]);
+        arena.give_back_from(bag, numbers[number].no());
     }
 }
 
@@ -79,6 +79,15 @@ impl Placed {
 
     /// The cell of the agent of that number.
     pub fn cell(&self, agent: u32) -> CellNo
+        requires { agent < length self.now.cells }
+        ensures { slice_get self.now.cells agent ≡ Some result }
+    {
+        self.index(agent).no()
+    }
+
+    /// The same, as a word names it.
+    #[inline(always)]
+    pub fn index(&self, agent: u32) -> CellIndex
         requires { agent < length self.now.cells }
         ensures { slice_get self.now.cells agent ≡ Some result }
     {

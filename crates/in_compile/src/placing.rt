@@ -6,7 +6,7 @@ ghost use Rattle.in_arena.specs.Changes.{HasAllCells};
 ghost use Rattle.in_arena.specs.Classes.{IsNumberOf};
 ghost use Rattle.in_arena.specs.declared.content.CellNo.{CellNo as Number};
 ghost use Rattle.in_compile.specs.Cells.{count_of, IsEnough};
-ghost use Rattle.in_compile.specs.Members.{AgentParts};
+ghost use Rattle.in_compile.specs.Members.{AgentParts, IsAtPort};
 ghost use Rattle.in_compile.specs.Placing.{AreCellsOf, IsPlacedMember, TakesCells, HasNoCell, end_in, content};
 ghost use Rattle.in_compile.specs.PlacingSteps.{AreTakenBelow, AreWrittenBelow, IsInside};
 ghost use Rattle.in_compile.specs.Stocks.{held};
@@ -15,22 +15,23 @@ use crate::joints::Joint;
 use crate::member::Member;
 use crate::placed::Placed;
 use crate::stock::Stock;
-use in_arena::{Bag, CellNo, End};
+use in_arena::{Bag, CellIndex, EndWord};
 
 /// The end for a joint, if the agents have these cells.
 #[inline(always)]
-pub(crate) fn end_of(numbers: &[CellNo], joint: Joint) -> End
-    requires { IsInside (length numbers.now) joint }
+pub(crate) fn end_of(numbers: &[CellIndex], joint: Joint) -> EndWord
+    requires inside { IsInside (length numbers.now) joint }
+    requires port { IsAtPort joint }
     ensures { result ≡ end_in numbers.now joint }
 {
     match joint {
-        Joint::ToAgent(agent, place) => End::Cell(numbers[agent as usize], place),
-        Joint::ToBoundary(end) => End::Free(u32::from(end)),
+        Joint::ToAgent(agent, place) => EndWord::place_of(numbers[agent as usize], place),
+        Joint::ToBoundary(end) => EndWord::free(u32::from(end)),
     }
 }
 
 /// Takes a cell for each agent.
-fn take_cells(member: &Member, stock: &mut Stock, numbers: &mut Vec<CellNo>, bag: &mut Bag)
+fn take_cells(member: &Member, stock: &mut Stock, numbers: &mut Vec<CellIndex>, bag: &mut Bag)
     requires none { numbers.old.items ≡ [] }
     requires room { length member.now.agents ≤ vec_capacity numbers.old }
     requires holds { IsEnough (count_of member.now.need) (held stock.old) }
@@ -49,24 +50,24 @@ fn take_cells(member: &Member, stock: &mut Stock, numbers: &mut Vec<CellNo>, bag
 
 /// Writes an agent in its cell.
 #[inline(always)]
-fn write_agent(member: &Member, numbers: &[CellNo], bag: &mut Bag, agent: u32)
+fn write_agent(member: &Member, numbers: &[CellIndex], bag: &mut Bag, agent: u32)
     requires there { agent < length member.now.agents }
     requires many { length numbers.now ≡ length member.now.agents }
     requires cell { (a : AgentParts) (n : Number) → slice_get member.now.agents agent ≡ Some a → slice_get numbers.now agent ≡ Some n → IsNumberOf bag.old.cells a.class n.0 × IsInBag bag.old n.0 }
     ensures { (a : AgentParts) (n : Number) → slice_get member.now.agents agent ≡ Some a → slice_get numbers.now agent ≡ Some n → bag.new ≡ changed bag.old n.0 (content numbers.now a) }
 {
     member.is_sound();
-    let cell = numbers[agent as usize];
-    let places = member.places(agent);
-    bag.begin(cell, member.symbol(agent).0, places);
-    for place in 0..places {
+    let cell = numbers[agent as usize].no();
+    let head = member.head(agent);
+    bag.begin(cell, head);
+    for place in 0..head.places() {
         let end = end_of(numbers, member.end(agent, place));
         bag.set(cell, place, end);
     }
 }
 
 /// Writes each agent in its cell.
-fn write_agents(member: &Member, numbers: &[CellNo], bag: &mut Bag)
+fn write_agents(member: &Member, numbers: &[CellIndex], bag: &mut Bag)
     requires many { length numbers.now ≡ length member.now.agents }
     requires classes { (k : ℕ) (a : AgentParts) (n : Number) → slice_get member.now.agents k ≡ Some a → slice_get numbers.now k ≡ Some n → IsNumberOf bag.old.cells a.class n.0 }
     requires cells { AreCellsOf bag.old numbers.now }

@@ -13,13 +13,13 @@ ghost use Rattle.in_compile.specs.Putting.{AreBegunBelow, BeginsAgent, IsPut};
 use crate::member::Member;
 use crate::placed::Placed;
 use crate::placing::end_of;
-use in_arena::{Arena, CellClass, CellNo};
+use in_arena::{Arena, CellClass, CellIndex, CellNo};
 
 impl Member {
     /// Makes a free cell live for the agent of that number: a cell of its class, with its symbol and its places, whose ends are open. Such a cell has
     /// to be free.
     #[inline(always)]
-    pub fn begin(&self, agent: u32, arena: &mut Arena) -> CellNo
+    pub fn begin(&self, agent: u32, arena: &mut Arena) -> CellIndex
         requires there { agent < length self.now.agents }
         requires all { HasAllCells arena.old }
         requires free { (a : AgentParts) → slice_get self.now.agents agent ≡ Some a → 0 < free_of arena.old a.class }
@@ -36,7 +36,13 @@ impl Member {
 
     /// The same once a live cell, which is of the class `own`, is free. That agent then has it where it takes a cell of this class.
     #[inline(always)]
-    pub fn begin_in(&self, agent: u32, cell: CellNo, own: CellClass, arena: &mut Arena) -> CellNo
+    pub fn begin_in(
+        &self,
+        agent: u32,
+        cell: CellNo,
+        own: CellClass,
+        arena: &mut Arena,
+    ) -> CellIndex
         requires there { agent < length self.now.agents }
         requires live { IsLive (state_at arena.old cell.0) }
         requires own { IsNumberOf arena.old.cells own cell.0 }
@@ -46,8 +52,7 @@ impl Member {
     {
         self.is_sound();
         if self.class(agent).number() == own.number() {
-            arena.renew(cell, self.head(agent));
-            return cell;
+            return arena.renew(cell, self.head(agent));
         }
         arena.retire(cell);
         self.begin(agent, arena)
@@ -56,7 +61,7 @@ impl Member {
 
 /// Begins a cell for each agent.
 #[inline(always)]
-fn begin_all(member: &Member, arena: &mut Arena, numbers: &mut Vec<CellNo>)
+fn begin_all(member: &Member, arena: &mut Arena, numbers: &mut Vec<CellIndex>)
     requires none { numbers.old.items ≡ [] }
     requires room { length member.now.agents ≤ vec_capacity numbers.old }
     requires all { HasAllCells arena.old }
@@ -73,23 +78,23 @@ fn begin_all(member: &Member, arena: &mut Arena, numbers: &mut Vec<CellNo>)
 
 /// Writes the other ends of an agent's wires into its cell.
 #[inline(always)]
-fn write(member: &Member, numbers: &[CellNo], arena: &mut Arena, agent: u32)
+fn write(member: &Member, numbers: &[CellIndex], arena: &mut Arena, agent: u32)
     requires there { agent < length member.now.agents }
     requires many { length numbers.now ≡ length member.now.agents }
     requires begun { (a : AgentParts) (n : Number) → slice_get member.now.agents agent ≡ Some a → slice_get numbers.now agent ≡ Some n → IsBegun a.symbol.0 (length a.ends) (state_at arena.old n.0) }
     ensures { (a : AgentParts) (n : Number) → slice_get member.now.agents agent ≡ Some a → slice_get numbers.now agent ≡ Some n → arena.new ≡ changed arena.old n.0 (content numbers.now a) }
 {
     member.is_sound();
-    let cell = numbers[agent as usize];
+    let cell = numbers[agent as usize].no();
     for place in 0..member.places(agent) {
         let end = end_of(numbers, member.end(agent, place));
-        arena.set_port(cell, place, end);
+        arena.set_word(cell, place, end);
     }
 }
 
 /// Writes the other ends of each agent's wires into its cell.
 #[inline(always)]
-fn write_all(member: &Member, numbers: &[CellNo], arena: &mut Arena)
+fn write_all(member: &Member, numbers: &[CellIndex], arena: &mut Arena)
     requires begun { (a : ArenaView) × AreBegunBelow member.now a (length member.now.agents) arena.old numbers.now }
     ensures { (a : ArenaView) → AreBegunBelow member.now a (length member.now.agents) arena.old numbers.now → IsPut member.now numbers.now a arena.new }
 {

@@ -12,7 +12,7 @@ ghost use Rattle.in_compile.specs.Listing.{listed, room_of, of_class, IsListing,
 
 use crate::cells::Need;
 use crate::lists::Lists;
-use in_arena::{Arena, Bag, CellClass, CellNo};
+use in_arena::{Arena, Bag, CellClass, CellIndex};
 use in_base::use_promise;
 use std::alloc::{AllocError, Global};
 use std::marker::Model;
@@ -72,7 +72,7 @@ fn give_back(lists: &mut Lists, bag: &mut Bag, arena: &mut Arena, class: CellCla
 {
     for _turn in 0..lists.len(class) {
         let cell = lists.take(class);
-        arena.give_back_from(bag, cell);
+        arena.give_back_from(bag, cell.no());
     }
 }
 
@@ -130,7 +130,7 @@ impl Stock {
 
     /// Moves a cell of this class to a bag that has none of the stock's cells.
     #[inline(always)]
-    pub(crate) fn take(&mut self, class: CellClass, bag: &mut Bag) -> CellNo
+    pub(crate) fn take(&mut self, class: CellClass, bag: &mut Bag) -> CellIndex
         requires some { 0 < held self.old class }
         requires of_one { AreOfOne self.old.bag bag.old }
         requires apart { BagsAreApart self.old.bag bag.old }
@@ -138,7 +138,7 @@ impl Stock {
         ensures { TakesOne self.old class bag.old result self.new bag.new }
     {
         let cell = self.lists.take(class);
-        self.bag.move_to(cell, bag);
+        self.bag.move_to(cell.no(), bag);
         cell
     }
 

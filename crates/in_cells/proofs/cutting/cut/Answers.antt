@@ -17,12 +17,12 @@ pub exchange-requires-2-clause-one : goal.exchange-requires-2-clause-one
 exchange-requires-2-clause-one c =
     let s = c.requires.shown in
     cells.at_other s.0 c.args.own c.args.arena.now c.args.ends.now s.1 s.2 c.requires.room c.args.cell.0 c.args.place c.word-other.result c.word-other.ensures c.exchange.new.arena c.exchange.new.ends
-    (exchanged _ _ _ _ _ _ _ _ c.port-here.ensures c.free.ensures c.exchange.ensures)
+    (exchanged _ _ _ _ _ _ _ _ c.place-here.ensures c.free.ensures c.exchange.ensures)
 
 pub returns-clause-cut : goal.returns-clause-cut
 returns-clause-cut c sig w m shows shown =
     cells.is_cut sig c.args.own c.args.arena.now c.args.ends.now w shows c.requires.room c.args.cell.0 c.args.place c.word-other.result c.word-other.ensures c.exchange.new.arena c.exchange.new.ends
-    (exchanged _ _ _ _ _ _ _ _ c.port-here.ensures c.free.ensures c.exchange.ensures)
+    (exchanged _ _ _ _ _ _ _ _ c.place-here.ensures c.free.ensures c.exchange.ensures)
     c.exchange-2.new.arena c.exchange-2.new.ends
     (last c.args.own c.word-other.result c.exchange.new.arena c.exchange.new.ends c.exchange-2.new.arena c.exchange-2.new.ends (exchanged _ _ _ _ _ _ _ _ refl c.free-2.ensures c.exchange-2.ensures)) m shown
 
@@ -30,6 +30,6 @@ pub returns-clause-kept : goal.returns-clause-kept
 returns-clause-kept c =
     let s = c.requires.shown in
     cells.kept s.0 c.args.own c.args.arena.now c.args.ends.now s.1 s.2 c.requires.room c.args.cell.0 c.args.place c.word-other.result c.word-other.ensures c.exchange.new.arena c.exchange.new.ends
-    (exchanged _ _ _ _ _ _ _ _ c.port-here.ensures c.free.ensures c.exchange.ensures)
+    (exchanged _ _ _ _ _ _ _ _ c.place-here.ensures c.free.ensures c.exchange.ensures)
     c.exchange-2.new.arena c.exchange-2.new.ends
     (last c.args.own c.word-other.result c.exchange.new.arena c.exchange.new.ends c.exchange-2.new.arena c.exchange-2.new.ends (exchanged _ _ _ _ _ _ _ _ refl c.free-2.ensures c.exchange-2.ensures))

@@ -4,6 +4,7 @@ use Rattle.std.proofs.lemmas.Option.{slice_get-get_or}
 use Rattle.in_arena.specs.Arenas.{changed, state_at}
 use Rattle.in_arena.specs.States.{with_end}
 use Rattle.in_arena.specs.declared.content.End.{End}
+use Rattle.in_arena.specs.declared.content.End.TheVariants.{Free}
 use Rattle.in_cells.specs.Copying.{number_in}
 use Rattle.in_cells.specs.TakingOut.{AreNumberedAnew}
 use Rattle.in_cells.specs.TakingOutSteps.{number_below}
@@ -32,7 +33,7 @@ loop-number-preserved c =
     elim c.match-end.branch [
       | in-Cell w ↦
           one_more_numbered numbers c.args.arena.now c.args.ends.now c.requires.led x c.loop-number.arena c.loop-number.invariant w.in-Cell.cell w.in-Cell.place (at ∙ ap (λ e. Some e) w.in-Cell.is) c.cells.ensures.1 c.match-end.arena
-          (w.arena-is ∙ w.set_word.ensures ∙ ap (λ e. changed c.loop-number.arena w.in-Cell.cell.0 (with_end (state_at c.loop-number.arena w.in-Cell.cell.0) w.in-Cell.place e)) w.free.ensures)
+          (w.arena-is ∙ w.set_word.ensures ∙ ap (λ e. changed c.loop-number.arena w.in-Cell.cell.0 (with_end (state_at c.loop-number.arena w.in-Cell.cell.0) w.in-Cell.place e)) (w.free.ensures ∙ ap Free w.from.ensures))
       | in_default w ↦
           subst (λ v. AreNumberedAnew (number_below numbers (x + 1)) c.args.arena.now v) (sym w.arena-is)
           (none_to_number numbers c.args.arena.now c.args.ends.now c.requires.led x c.loop-number.arena c.loop-number.invariant c.end.result at w.in_default.not-Cell)
