@@ -57,12 +57,12 @@ fn write_agent(member: &Member, numbers: &[CellIndex], bag: &mut Bag, agent: u32
     ensures { (a : AgentParts) (n : Number) → slice_get member.now.agents agent ≡ Some a → slice_get numbers.now agent ≡ Some n → bag.new ≡ changed bag.old n.0 (content numbers.now a) }
 {
     member.is_sound();
-    let cell = numbers[agent as usize].no();
-    let head = member.head(agent);
-    bag.begin(cell, head);
-    for place in 0..head.places() {
+    let cell = numbers[agent as usize];
+    let places = member.places(agent);
+    bag.begin(cell.no(), member.head(agent));
+    for place in 0..places {
         let end = end_of(numbers, member.end(agent, place));
-        bag.set(cell, place, end);
+        bag.set(cell.no(), place, end);
     }
 }
 

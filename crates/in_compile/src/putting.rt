@@ -36,13 +36,7 @@ impl Member {
 
     /// The same once a live cell, which is of the class `own`, is free. That agent then has it where it takes a cell of this class.
     #[inline(always)]
-    pub fn begin_in(
-        &self,
-        agent: u32,
-        cell: CellNo,
-        own: CellClass,
-        arena: &mut Arena,
-    ) -> CellIndex
+    pub fn begin_in(&self, agent: u32, cell: CellNo, own: CellClass, arena: &mut Arena) -> CellIndex
         requires there { agent < length self.now.agents }
         requires live { IsLive (state_at arena.old cell.0) }
         requires own { IsNumberOf arena.old.cells own cell.0 }
@@ -85,10 +79,10 @@ fn write(member: &Member, numbers: &[CellIndex], arena: &mut Arena, agent: u32)
     ensures { (a : AgentParts) (n : Number) → slice_get member.now.agents agent ≡ Some a → slice_get numbers.now agent ≡ Some n → arena.new ≡ changed arena.old n.0 (content numbers.now a) }
 {
     member.is_sound();
-    let cell = numbers[agent as usize].no();
+    let cell = numbers[agent as usize];
     for place in 0..member.places(agent) {
         let end = end_of(numbers, member.end(agent, place));
-        arena.set_word(cell, place, end);
+        arena.set_word(cell.no(), place, end);
     }
 }
 

@@ -1,6 +1,11 @@
 -- An accepted program's rules and net are over its tables, with an agent at each number, and each pair has one rule.
-use Rattle.std.proofs.Common.{◌≡◌, ◌≤◌, ℕ, List, Some, Ok, length, slice_get}
+use Rattle.std.proofs.Common.{◌≡◌, ◌≤◌, ℕ, List, Some, Ok, length, slice_get, ap, arith}
+use Rattle.std.proofs.lemmas.List.{length-map}
+use Rattle.in_syntax.specs.Grammar.{max_symbols}
 use Rattle.in_syntax.specs.declared.tree.SourceRule.{SourceRule}
+use Rattle.in_syntax.specs.declared.tree.SourceSymbol.{SourceSymbol}
+use Rattle.in_syntax.proofs.Public.{tree_sized}
+use Rattle.in_symbols.specs.Tables.{Tables}
 use Rattle.in_net.specs.Built.{IsOver}
 use Rattle.in_net.specs.NetFaults.{max_agents}
 use Rattle.in_net.specs.Parts.{IsWhole}
@@ -33,6 +38,11 @@ module _ (text : List ℕ) (p : Program) (accepted : IsAccepted text p) where
 
   pub net_few : length p.net.cells ≤ max_agents
   net_few = few_agents max_agents p.tables (body_of of.source.net) p.net.cells of.builds.2 of.builds.1.agents.agents
+
+  pub few_symbols : length p.tables.names ≤ max_symbols
+  few_symbols =
+      let are = ap (λ (t : Tables). length t.names) of.tabulates.0.tables in
+      omega (arith, are, length-map of.source.symbols (λ (s : SourceSymbol). s.name.text), (tree_sized text of.source of.parses).symbols)
 
   module _ (k : ℕ) (r : RuleParts) (stands : slice_get p.rules k ≡ Some r) where
     written : (s : SourceRule) × (slice_get of.source.rules k ≡ Some s) × BuildsRuleOf p.tables s (Ok r)

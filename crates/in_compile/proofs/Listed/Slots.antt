@@ -14,7 +14,7 @@ use Rattle.in_net.specs.Rules.{RuleParts}
 use Rattle.in_open_nets_of_programs.specs.OpeningRules.{IsRuleWhole}
 use Rattle.in_compile.specs.declared.joints.Joint.{Joint}
 use Rattle.in_compile.specs.declared.joints.Joint.TheVariants.{ToAgent, ToBoundary}
-use Rattle.in_compile.specs.Members.{AgentParts, MemberParts, joint_at, IsMemberOf, IsSoundMember}
+use Rattle.in_compile.specs.Members.{AgentParts, IsAtPort, MemberParts, joint_at, IsMemberOf, IsSoundMember}
 use Rattle.in_compile.proofs.Compiled.Sound.{few_agents, joints_many}
 use Rattle.in_compile.specs.Storing.{IsSmallJoint, IsSmallMember}
 
@@ -22,6 +22,23 @@ widest : (c : CellClass) → width c ≤ max_ports + 1
 widest Small = omega arith
 widest Large = omega arith
 widest Wide = omega arith
+
+module _ (m : MemberParts) (sound : IsSoundMember m) where
+  port_place : (j p : Joint) → joint_at m j ≡ Some p → IsAtPort j
+  port_place (ToBoundary e) p at = tt
+  port_place (ToAgent k i) p at = go (slice_get m.agents k) refl at
+    where
+      go : (o : Option AgentParts) → slice_get m.agents k ≡ o → option_and_then (λ (a : AgentParts). slice_get a.ends i) o ≡ Some p → IsAtPort (ToAgent k i)
+      go None is at = absurd (let e : None ≡ Some p = at in cc)
+      go (Some a) is at =
+          let place = slice_get_within a.ends i p at in
+          let fits = (sound.fits k a is).1 in
+          let wide = widest a.class in
+          omega (arith, place, fits, wide)
+
+  -- a wire leads to a place that an agent can have
+  pub at_port : (p j : Joint) → joint_at m p ≡ Some j → IsAtPort j
+  at_port p j at = port_place j p (sound.back p j at)
 
 module _ (m : MemberParts) (small : IsSmallMember m) (sound : IsSoundMember m) where
   pub small_place : (j p : Joint) → joint_at m j ≡ Some p → IsSmallJoint j
@@ -32,11 +49,8 @@ module _ (m : MemberParts) (small : IsSmallMember m) (sound : IsSoundMember m) w
       go None is at = absurd (let e : None ≡ Some p = at in cc)
       go (Some a) is at =
           let agent = slice_get_within m.agents k a is in
-          let place = slice_get_within a.ends i p at in
           let few = small.1 in
-          let fits = (sound.fits k a is).1 in
-          let wide = widest a.class in
-          ((let l : k < max_member_agents = omega (arith, agent, few) in l), (let l : i ≤ max_ports = omega (arith, place, fits, wide) in l))
+          ((let l : k < max_member_agents = omega (arith, agent, few) in l), port_place m sound (ToAgent k i) p (ap (option_and_then (λ (a : AgentParts). slice_get a.ends i)) is ∙ at))
 
   pub small_joint : (p j : Joint) → joint_at m p ≡ Some j → IsSmallJoint j
   small_joint p j at = small_place j p (sound.back p j at)

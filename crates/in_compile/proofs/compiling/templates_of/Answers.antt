@@ -1,11 +1,15 @@
-use Rattle.std.proofs.Common.{sym, subst}
+use Rattle.std.proofs.Common.{◌≤◌, length, sym, subst}
+use Rattle.in_syntax.specs.Grammar.{max_symbols}
 use Rattle.in_symbols.specs.Tables.{Tables}
 use Rattle.in_net.specs.Rules.{IsRuleOver}
 use Rattle.in_open_nets_of_programs.specs.OpeningRules.{IsRuleWhole}
 use Rattle.in_compile.specs.Templates.{IsTemplateOf}
-use Rattle.in_compile.proofs.Compiled.Accepted.{rule_over, whole_rule}
+use Rattle.in_compile.proofs.Compiled.Accepted.{few_symbols, rule_over, whole_rule}
 use Rattle.in_compile.proofs.Compiled.Made.{one_more}
 use Rattle.in_compile.proofs.compiling.templates_of.Goals as goal
+
+pub template-requires-clause-few_symbols : goal.template-requires-clause-few_symbols
+template-requires-clause-few_symbols c = subst (λ (t : Tables). length t.names ≤ max_symbols) (sym c.symbols.ensures) (few_symbols c.is_accepted.ensures.0 c.args.checked.now c.is_accepted.ensures.1)
 
 pub template-requires-clause-over : goal.template-requires-clause-over
 template-requires-clause-over c =

@@ -13,6 +13,7 @@ use Rattle.in_compile.specs.Members.{AgentParts}
 use Rattle.in_compile.specs.Putting.{BeginsAgent}
 use Rattle.in_compile.proofs.Placements.EndByEnd.{places_are, symbol_is}
 use Rattle.in_compile.proofs.Placements.Put.{begins}
+use Rattle.in_arena.specs.declared.content.CellNo.{CellNo}
 use Rattle.in_compile.proofs.member.Member.begin_in.Goals as goal
 
 pub renew-requires-clause-many : goal.renew-requires-clause-many
@@ -33,9 +34,10 @@ returns-then-number c = λ a at.
     let n = c.args.cell.0 in
     let class : a.class ≡ c.class.result = same_Some a.class c.class.result (sym (ap (option_map (λ (a : AgentParts). a.class)) at) ∙ c.class.ensures) in
     let same = same_class c.args.own c.class.result (sym c.number-2.ensures ∙ sym c.if-number.true ∙ c.number.ensures) in
-    let begun = begun_again c.args.arena.now c.renew.new.self c.args.own c.class.result n c.head.result.word c.head.result.count c.renew.ensures.0 same c.requires.own c.requires.live c.renew.ensures.1 c.renew.ensures.2 in
-    begins (changed c.args.arena.now n Vacant) (all_stay c.args.arena.now n c.requires.all) a c.class.result class c.head.result.word c.head.result.count (symbol_is m c.args.agent c.head.result.word a at c.head.ensures.symbol)
-    (places_are m c.args.agent c.head.result.count a at c.head.ensures.places) n c.renew.new.self begun
+    let begun = begun_again c.args.arena.now c.renew.new.self c.args.own c.class.result n c.head.result.word c.head.result.count c.renew.ensures.renewed.0 same c.requires.own c.requires.live c.renew.ensures.renewed.1 c.renew.ensures.renewed.2 in
+    subst (λ (p : CellNo). BeginsAgent a (changed c.args.arena.now n Vacant) p.0 c.renew.new.self) (sym c.renew.ensures.cell)
+    (begins (changed c.args.arena.now n Vacant) (all_stay c.args.arena.now n c.requires.all) a c.class.result class c.head.result.word c.head.result.count (symbol_is m c.args.agent c.head.result.word a at c.head.ensures.symbol)
+    (places_are m c.args.agent c.head.result.count a at c.head.ensures.places) n c.renew.new.self begun)
 
 pub begin-requires-clause-all : goal.begin-requires-clause-all
 begin-requires-clause-all c = subst HasAllCells (sym c.retire.ensures) (all_stay c.args.arena.now c.args.cell.0 c.requires.all)
