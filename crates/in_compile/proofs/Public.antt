@@ -1,6 +1,7 @@
 -- The lemmas that proofs of other crates cite. They import this module alone, so all others may be renamed and cut anew.
 pub use Rattle.in_compile.proofs.Compiled.Accepted.{complete, whole_rule}
 pub use Rattle.in_compile.proofs.Placements.AgentByAgent.{read_at}
+pub use Rattle.in_compile.proofs.Listed.Slots.{at_port}
 pub use Rattle.in_compile.proofs.Placements.Back.{all_back, as_left, both_back, one_of_all, one_or_same, other_stays, shared_out}
 pub use Rattle.in_compile.proofs.Listed.Once.{listed_once}
 pub use Rattle.in_compile.proofs.Listed.Partners.{joins, leads, one_joint}

@@ -8,18 +8,25 @@ ghost use Rattle.in_reducer.specs.Inside.{most_ends};
 use crate::body::OwnEnd;
 use crate::limits::MOST_ENDS;
 use crate::pair_queue::PairQueue;
-use in_arena::{CellNo, EndWord};
+use in_arena::{CellIndex, EndWord};
+
+/// The pair of these agents, under their new numbers.
+pub(crate) fn pair_named(names: &[CellIndex], pair: (u32, u32)) -> (u32, u32)
+    requires { (pair.0 < length names.now) × (pair.1 < length names.now) }
+    ensures { result ≡ both (name_in names.now) pair }
+{
+    (names[pair.0 as usize].no().0, names[pair.1 as usize].no().0)
+}
 
 /// Adds the pairs of a queue to the end of another, their agents under these numbers. No memory is taken.
-pub(crate) fn add_pairs(pairs: &PairQueue, names: &[CellNo], queue: &mut PairQueue)
+pub(crate) fn add_pairs(pairs: &PairQueue, names: &[CellIndex], queue: &mut PairQueue)
     requires within { (k : ℕ) (q : ℕ × ℕ) → slice_get pairs.now.items k ≡ Some q → (q.0 < length names.now) × (q.1 < length names.now) }
     requires room { length queue.old.items + length pairs.now.items ≤ queue.old.room }
     ensures items { queue.new.items ≡ queue.old.items ++ map (both (name_in names.now)) pairs.now.items }
     ensures room { queue.new.room ≡ queue.old.room }
 {
     for number in 0..pairs.len() {
-        let (one, other) = pairs.at(number);
-        queue.push_back_reserved((names[one as usize].0, names[other as usize].0));
+        queue.push_back_reserved(pair_named(names, pairs.at(number)));
     }
 }
 

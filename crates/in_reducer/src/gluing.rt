@@ -18,17 +18,17 @@ use crate::cut_ends::Cuts;
 use crate::numbered::numbered_end;
 use crate::reducer::Reducer;
 use crate::seam::Seam;
-use in_arena::{Arena, CellClass, CellNo, EndWord};
+use in_arena::{Arena, CellClass, CellIndex, CellNo, EndWord};
 use in_base::use_promise;
 use in_cells::{copy, moved_end, number_anew};
 
 /// The other ends of the free ends of the part and of the rest, with the new numbers of the part's cells, and of the free ends of both.
 #[derive(Clone, Copy)]
 struct Halves<'b> {
-    names: &'b [CellNo],
-    part_numbers: &'b [u32],
+    names: &'b [CellIndex],
+    part_numbers: &'b [u16],
     part: &'b [EndWord],
-    rest_numbers: &'b [u32],
+    rest_numbers: &'b [u16],
     rest: &'b [EndWord],
     ghost fewer: { length part.now ≤ length rest.now },
     ghost part_cells: { All (IsCellWithin (length names.now)) part.now },
@@ -37,24 +37,24 @@ struct Halves<'b> {
 }
 
 /// The numbers in the whole of the free ends of the rest. No memory is taken.
-fn list_rest_numbers(cuts: Cuts, numbers: &mut Vec<u32>)
+fn list_rest_numbers(cuts: Cuts, numbers: &mut Vec<u16>)
     requires { IsReserved (cuts.own + cuts.count) numbers.old }
     ensures many { length numbers.new.items ≡ cuts.own + cuts.count }
     ensures each { (k : ℕ) → k < cuts.own + cuts.count → number_in numbers.new.items k ≡ place_of_two cuts.own 0 k }
 {
     for number in 0..cuts.rest_ends() {
-        numbers.push_reserved(cuts.in_rest(number));
+        numbers.push_reserved(cuts.in_rest(number) as u16);
     }
 }
 
 /// The numbers in the whole of the free ends of the part. No memory is taken.
-fn list_part_numbers(cuts: Cuts, numbers: &mut Vec<u32>)
+fn list_part_numbers(cuts: Cuts, numbers: &mut Vec<u16>)
     requires { IsReserved cuts.count numbers.old }
     ensures many { length numbers.new.items ≡ cuts.count }
     ensures each { (k : ℕ) → k < cuts.count → number_in numbers.new.items k ≡ place_of_two cuts.own 1 k }
 {
     for cut in 0..cuts.count {
-        numbers.push_reserved(cuts.in_part(cut));
+        numbers.push_reserved(cuts.in_part(cut) as u16);
     }
 }
 
@@ -139,7 +139,7 @@ impl<'a> Reducer<'a> {
     /// two ends of a cut are side by side again, the last ones last, and `join_last` undoes the cuts. Each class must have as many free cells as the
     /// part has agents. The new numbers of the part's cells are written in `names`, which has a place for each number in an arena of as many cells as
     /// the seam is for. It takes no memory: the seam has all other room.
-    pub fn glue_on(&mut self, part: &Reducer, seam: Seam, names: &mut [CellNo])
+    pub fn glue_on(&mut self, part: &Reducer, seam: Seam, names: &mut [CellIndex])
         requires can { CanAppend self.old part.now }
         requires fewer { length part.now.free ≤ length self.old.free }
         requires ends { length self.old.free + length part.now.free ≤ seam.most }

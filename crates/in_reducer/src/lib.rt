@@ -52,7 +52,7 @@ mod tools;
 mod wiring;
 
 pub use body::Body;
-pub use in_arena::{CellClass, CellNo, End};
+pub use in_arena::{CellClass, CellIndex, CellNo, End};
 pub use in_compile::Need;
 pub use in_limits::{LEAST_CELLS, MOST_CELLS};
 pub use limits::MOST_FREE_ENDS;

@@ -2,6 +2,7 @@
 ghost use Rattle.std.specs.Prelude.{◌≡◌, ◌≢◌, ◌≤◌, ◌<◌, ◌+◌, ◌^◌, ℕ, length, Some, slice_get};
 ghost use Rattle.in_arena.specs.declared.content.End.TheVariants.{Cell};
 ghost use Rattle.in_compile.specs.declared.joints.Joint.{Joint as Target};
+ghost use Rattle.in_compile.specs.Members.{IsAtPort};
 ghost use Rattle.in_reducer.specs.Inside.{most_ends, most_free};
 ghost use Rattle.in_reducer.specs.Sides.{port_at, end_there, outer_of, inner_of, AreSetBelow, HasPort, HasJoint};
 
@@ -43,20 +44,20 @@ impl Pair {
 
     /// The outer side of a boundary end, if the end is the pair's port there; the sides are numbered from `from` on. Any other end stays.
     #[inline(always)]
-    fn outer(self, from: u32, end: End) -> End
-        requires from { from < 2 ^ 31 }
+    fn outer(self, from: u32, end: EndWord) -> EndWord
+        requires from { from < 2 ^ 24 }
         requires one { end ≢ Cell self.one 0 }
         requires other { end ≢ Cell self.other 0 }
         ensures { result ≡ outer_of self from end }
     {
-        let End::Cell(cell, place) = end else {
+        let End::Cell(cell, place) = end.end() else {
             return end;
         };
         if cell == self.one {
-            return End::Free(from + (u32::from(place) - 1));
+            return EndWord::free(from + (u32::from(place) - 1));
         }
         if cell == self.other {
-            return End::Free(from + u32::from(self.first_ends) + (u32::from(place) - 1));
+            return EndWord::free(from + u32::from(self.first_ends) + (u32::from(place) - 1));
         }
         end
     }
@@ -64,14 +65,15 @@ impl Pair {
 
 /// The end for a joint of the right member, if its agents have these cells.
 #[inline(always)]
-pub(crate) fn inner(placed: &Placed, from: u32, joint: Joint) -> End
-    requires from { from < 2 ^ 31 }
+pub(crate) fn inner(placed: &Placed, from: u32, joint: Joint) -> EndWord
+    requires from { from < 2 ^ 24 }
     requires there { HasJoint placed.now.cells joint }
+    requires port { IsAtPort joint }
     ensures { result ≡ inner_of placed.now.cells from joint }
 {
     match joint {
-        Joint::ToAgent(agent, place) => End::Cell(placed.cell(agent), place),
-        Joint::ToBoundary(end) => End::Free(from + u32::from(end)),
+        Joint::ToAgent(agent, place) => EndWord::place_of(placed.index(agent), place),
+        Joint::ToBoundary(end) => EndWord::free(from + u32::from(end)),
     }
 }
 
@@ -82,18 +84,17 @@ pub(crate) fn set_sides(arena: &Arena, next: &PlacedPair, ends: &mut [EndWord])
     requires room { next.now.own + length next.now.template.now.member.joints + length next.now.template.now.member.joints ≤ length ends.old }
     ensures { AreSetBelow next.now.pair arena.now next.now.template.now.member.joints next.now.placed.now.cells next.now.own (length next.now.template.now.member.joints) (length next.now.template.now.member.joints) ends.old ends.new }
 {
+    next.template.member().is_sound();
     let own = next.own;
     let many = next.template.boundary_ends();
     let inner_sides = own + u32::from(many);
     for end in 0..many {
         let (cell, place) = next.pair.port(end);
-        ends[own as usize + end as usize] = EndWord::of(
-            next.pair.outer(own, arena.port(cell, place)),
-        );
-        ends[inner_sides as usize + end as usize] = EndWord::of(inner(
+        ends[own as usize + end as usize] = next.pair.outer(own, arena.word(cell, place));
+        ends[inner_sides as usize + end as usize] = inner(
             next.placed,
             inner_sides,
             next.template.joint(end),
-        ));
+        );
     }
 }

@@ -15,7 +15,7 @@ ghost use Rattle.in_reducer.specs.Machines.{AreNumbersBelow};
 ghost use Rattle.in_reducer.specs.Parting.{CanSplit, IsSplitOff, place_of_two};
 ghost use Rattle.in_reducer.specs.Splitting.{AreListsFor, AreNumbersOfTwo, ArePicked, ArePickedWithRoom, HasRoomForEnds, goes, stays};
 
-use crate::appending::add_sides;
+use crate::appending::{add_sides, pair_named};
 use crate::body::OwnEnd;
 use crate::cut_ends::Cuts;
 use crate::fresh::{Fresh, fresh_cells};
@@ -23,7 +23,7 @@ use crate::limits::MOST_ENDS;
 use crate::numbered::numbered_end;
 use crate::pair_queue::PairQueue;
 use crate::reducer::Reducer;
-use in_arena::{Arena, CellNo, EndWord};
+use in_arena::{Arena, CellIndex, CellNo, EndWord};
 use in_base::use_invariant;
 use in_cells::{copy, moved_end, number_anew, retire_all};
 use in_compile::Templates;
@@ -32,7 +32,7 @@ use std::alloc::{AllocError, Global};
 /// The numbers of the whole's free ends in the rest or in the part, and lists for the free ends there and for their other ends.
 #[derive(Drop)]
 struct EndLists {
-    numbers: Vec<u32>,
+    numbers: Vec<u16>,
     free: Vec<OwnEnd>,
     ends: Vec<EndWord>,
 }
@@ -62,33 +62,33 @@ struct Whole<'b> {
 
 /// The numbers of the free ends in the rest: those from before the cuts keep theirs, and the second ends of the cuts follow. (The numbers
 /// of the first ends don't matter.)
-fn rest_numbers(alloc: Global, cuts: Cuts) -> Result<Vec<u32>, AllocError>
+fn rest_numbers(alloc: Global, cuts: Cuts) -> Result<Vec<u16>, AllocError>
     ensures { IfOk result (λ v. AreNumbersOfTwo cuts.own cuts.count 0 (cuts.own + cuts.count) v.items) }
 {
     let own = cuts.own;
     let many = cuts.ends();
     let mut numbers = Vec::with_capacity(alloc, many as usize)?;
     for number in 0..many {
-        numbers.push_reserved(number.min(own) + number.saturating_sub(own) / 2);
+        numbers.push_reserved((number.min(own) + number.saturating_sub(own) / 2) as u16);
     }
     Ok(numbers)
 }
 
 /// The numbers of the free ends in the part, which has only the first ends of the cuts.
-fn part_numbers(alloc: Global, cuts: Cuts) -> Result<Vec<u32>, AllocError>
+fn part_numbers(alloc: Global, cuts: Cuts) -> Result<Vec<u16>, AllocError>
     ensures { IfOk result (λ v. AreNumbersOfTwo cuts.own cuts.count 1 cuts.count v.items) }
 {
     let own = cuts.own;
     let many = cuts.ends();
     let mut numbers = Vec::with_capacity(alloc, many as usize)?;
     for number in 0..many {
-        numbers.push_reserved(number.saturating_sub(own) / 2);
+        numbers.push_reserved((number.saturating_sub(own) / 2) as u16);
     }
     Ok(numbers)
 }
 
 /// Lists for `many` free ends, with these numbers.
-fn lists_for(alloc: Global, numbers: Vec<u32>, many: u32) -> Result<EndLists, AllocError>
+fn lists_for(alloc: Global, numbers: Vec<u16>, many: u32) -> Result<EndLists, AllocError>
     ensures room { IfOk result (HasRoomForEnds many) }
     ensures numbers { IfOk result (λ l. l.numbers ≡ numbers) }
 {
@@ -139,7 +139,7 @@ fn fill_rest(whole: &Whole, rest: &mut EndLists)
 }
 
 /// Fills the lists of the part: its agents have these numbers. No memory is taken.
-fn fill_part(whole: &Whole, names: &[CellNo], part: &mut EndLists)
+fn fill_part(whole: &Whole, names: &[CellIndex], part: &mut EndLists)
     requires room { HasRoomForEnds whole.now.cuts.count part.old }
     requires within { (k : ℕ) (e : Target) → slice_get whole.now.ends.now k ≡ Some e → IsEndWithin (length names.now) (length part.old.numbers.items) e }
     ensures free { ArePicked (λ x. x) (place_of_two whole.now.cuts.own 1) whole.now.cuts.count whole.now.free.now part.new.free.items }
@@ -154,7 +154,7 @@ fn fill_part(whole: &Whole, names: &[CellNo], part: &mut EndLists)
 }
 
 /// Moves the pairs of agents that were taken out of the arena to the part's queue, under the new numbers of these agents; both queues keep their order.
-fn split_queue(arena: &Arena, names: &[CellNo], queue: &mut PairQueue, part: &mut PairQueue)
+fn split_queue(arena: &Arena, names: &[CellIndex], queue: &mut PairQueue, part: &mut PairQueue)
     requires none { NoneLeased arena.now }
     requires there { (k : ℕ) (q : ℕ × ℕ) → slice_get queue.old.items k ≡ Some q → q.0 < length arena.now.states }
     requires names { (k : ℕ) (q : ℕ × ℕ) → slice_get queue.old.items k ≡ Some q → (q.0 < length names.now) × (q.1 < length names.now) }
@@ -169,7 +169,7 @@ fn split_queue(arena: &Arena, names: &[CellNo], queue: &mut PairQueue, part: &mu
         if arena.is_live(CellNo(one)) {
             queue.push_back_reserved((one, other));
         } else {
-            part.push_back_reserved((names[one as usize].0, names[other as usize].0));
+            part.push_back_reserved(pair_named(names, (one, other)));
         }
     }
 }
@@ -186,7 +186,7 @@ impl<'a> Reducer<'a> {
         own: u32,
         cuts: u32,
         cells: u32,
-        names: &mut [CellNo],
+        names: &mut [CellIndex],
     ) -> Result<Reducer<'a>, AllocError>
         requires can { CanSplit self.old agents.now own cuts }
         requires fits { length agents.now ≤ cells }

@@ -55,11 +55,12 @@ fn lay(alloc: Global, start: &Member, fresh: &mut Fresh) -> Result<Vec<EndWord>,
     ensures laid { IfOk result (λ es. IsLaid start.now fresh.old fresh.new es.items) }
     ensures refused { OnErr result (fresh.new.arena ≡ fresh.old.arena) }
 {
+    start.is_sound();
     let own = start.boundary_ends() as usize;
     let mut ends = vec![in alloc; EndWord::free(0); own + 2 * MOST_ENDS]?;
     let placed = place_start(alloc, start, &mut fresh.arena)?;
     for number in 0..own {
-        ends[number] = EndWord::of(inner(&placed, 0, start.joint(number as u8)));
+        ends[number] = inner(&placed, 0, start.joint(number as u8));
     }
     queue_own(start, &placed, &mut fresh.queue);
     Ok(ends)

@@ -36,7 +36,7 @@ fn begin_from(member: &Member, from: u32, arena: &mut Arena, points: &mut [EndWo
     member.is_sound();
     for agent in from..member.agents() {
         let cell = member.begin(agent, arena);
-        points[MOST_ENDS + agent as usize] = EndWord::port(cell, 0);
+        points[MOST_ENDS + agent as usize] = EndWord::place_of(cell, 0);
     }
 }
 
@@ -220,14 +220,14 @@ fn begin_in(
         return;
     }
     let first = member.begin_in(0, pair.one, classes.0, arena);
-    points[MOST_ENDS] = EndWord::port(first, 0);
+    points[MOST_ENDS] = EndWord::place_of(first, 0);
     if many == 1 {
         arena.retire(pair.other);
         begin_rest(member, 1, arena, points);
         return;
     }
     let second = member.begin_in(1, pair.other, classes.1, arena);
-    points[MOST_ENDS + 1] = EndWord::port(second, 0);
+    points[MOST_ENDS + 1] = EndWord::place_of(second, 0);
     begin_rest(member, 2, arena, points);
 }
 

@@ -41,25 +41,15 @@ is_live-requires-clause-not_leased c =
     let next = next_of old (filter (stays c.args.arena.now) (take x old)) c.pop_front-one.new.self.items x q low (sym r.rest ∙ c.pop_front-one.ensures.items) in
     c.requires.none q.0 (c.requires.there x q next.0)
 
-pub bounds-names-one : goal.bounds-names-one
-bounds-names-one c =
+pub pair_named-requires : goal.pair_named-requires
+pair_named-requires c =
     let q = c.pop_front-one.result in
     let x = c.loop-pair._pair in
     let old = c.args.queue.now.items in
     let r = c.loop-pair.invariant in
     let low : x < length old = (let t = c.loop-pair-test.true in let e = c.len-pair-end.ensures in omega (arith, t, e)) in
     let next = next_of old (filter (stays c.args.arena.now) (take x old)) c.pop_front-one.new.self.items x q low (sym r.rest ∙ c.pop_front-one.ensures.items) in
-    (c.requires.names x q next.0).0
-
-pub bounds-names-other : goal.bounds-names-other
-bounds-names-other c =
-    let q = c.pop_front-one.result in
-    let x = c.loop-pair._pair in
-    let old = c.args.queue.now.items in
-    let r = c.loop-pair.invariant in
-    let low : x < length old = (let t = c.loop-pair-test.true in let e = c.len-pair-end.ensures in omega (arith, t, e)) in
-    let next = next_of old (filter (stays c.args.arena.now) (take x old)) c.pop_front-one.new.self.items x q low (sym r.rest ∙ c.pop_front-one.ensures.items) in
-    (c.requires.names x q next.0).1
+    c.requires.names x q next.0
 
 pub push_back_reserved-requires-else-is_live : goal.push_back_reserved-requires-else-is_live
 push_back_reserved-requires-else-is_live c =
@@ -112,7 +102,7 @@ loop-pair-preserved c =
             rest = ap (λ z. z.items) w.queue-is ∙ next.1
                 ∙ ap (λ (zs : List (ℕ × ℕ)). drop (suc x) old ++ zs) (sym (append-nil (filter (stays a) (take x old))) ∙ ap (λ (b : Bool). filter (stays a) (take x old) ++ cond b (q ∷ []) []) (sym is.0) ∙ sym stay)
                 ∙ ap (λ (z : ℕ). drop z old ++ filter (stays a) (take z old)) (sym more);
-            part = ap (λ z. z.items) w.part-is ∙ w.push_back_reserved-else-is_live.ensures.items ∙ ap (λ (zs : List (ℕ × ℕ)). zs ++ both (name_in ns) q ∷ []) r.part
+            part = ap (λ z. z.items) w.part-is ∙ w.push_back_reserved-else-is_live.ensures.items ∙ ap (λ (p : ℕ × ℕ). c.loop-pair.part.items ++ p ∷ []) w.pair_named.ensures ∙ ap (λ (zs : List (ℕ × ℕ)). zs ++ both (name_in ns) q ∷ []) r.part
                 ∙ sym (map-append (both (name_in ns)) (filter (goes a) (take x old)) (q ∷ []))
                 ∙ ap (map (both (name_in ns))) (
                 ap (λ (b : Bool). filter (goes a) (take x old) ++ cond b (q ∷ []) []) (sym is.1) ∙ sym go ∙ ap (λ (z : ℕ). filter (goes a) (take z old)) (sym more)

@@ -1,6 +1,8 @@
 use Rattle.std.proofs.Common.{◌≡◌, ◌<◌, ◌++◌, ℕ, List, length, map, take, refl, ap, subst, ◌∙◌, arith}
 use Rattle.std.proofs.lemmas.List.{length-set, take_all}
 use Rattle.in_interaction.specs.Queues.{both}
+use Rattle.in_compile.specs.declared.joints.Joint.TheVariants.{ToBoundary}
+use Rattle.in_compile.proofs.Public.{at_port}
 use Rattle.in_reducer.specs.Interacting.{named}
 use Rattle.in_reducer.specs.Sides.{inner_of}
 use Rattle.in_reducer.proofs.Starts.Begun.{one_more_end}
@@ -12,6 +14,9 @@ place_start-requires c = c.requires.free
 pub inner-requires-clause-there : goal.inner-requires-clause-there
 inner-requires-clause-there c = c.requires.joints c.in_ok-placed.placed.cells c.in_ok-placed.ensures.put.count c.loop-number.number c.joint.result c.joint.ensures
 
+pub inner-requires-clause-port : goal.inner-requires-clause-port
+inner-requires-clause-port c = at_port c.args.start.now c.is_sound.ensures (ToBoundary c.loop-number.number) c.joint.result c.joint.ensures
+
 pub loop-number-preserved : goal.loop-number-preserved
 loop-number-preserved c =
     let es = c.loop-number.ends.items in
@@ -19,8 +24,8 @@ loop-number-preserved c =
     let long = c.loop-number.invariant.long in
     let low : k < length es = omega (arith, long) in
     record {
-      first = one_more_end c.in_ok-placed.placed.cells c.args.start.now.joints k c.joint.result es c.of.result c.joint.ensures low (c.of.ensures ∙ c.inner.ensures) c.loop-number.invariant.first;
-      long = length-set es k c.of.result ∙ long;
+      first = one_more_end c.in_ok-placed.placed.cells c.args.start.now.joints k c.joint.result es c.inner.result c.joint.ensures low c.inner.ensures c.loop-number.invariant.first;
+      long = length-set es k c.inner.result ∙ long;
     }
 
 pub queue_own-requires-clause-there : goal.queue_own-requires-clause-there

@@ -40,11 +40,11 @@ loop-agent-preserved c =
           let b = c.loop-agent.invariant.begun v can h in (
             b.0 ++ n ∷ [],
             one_more_begun m v x c.loop-agent.arena b.0 b.1 a.0 a.1 n c.begin-cell.new.arena (c.begin-cell.ensures a.0 a.1) (b.0 ++ n ∷ []) refl,
-            one_more_at b.0 n c.loop-agent.points x b.1.count there c.port.result c.port.ensures b.2,
+            one_more_at b.0 n c.loop-agent.points x b.1.count there c.place_of.result c.place_of.ensures b.2,
           )
           );
-      ends = λ e low. set_there c.loop-agent.points (32 + x) e c.port.result (λ same. omega (arith, low, same)) ∙ c.loop-agent.invariant.ends e low;
-      long = length-set c.loop-agent.points (32 + x) c.port.result ∙ long;
+      ends = λ e low. set_there c.loop-agent.points (32 + x) e c.place_of.result (λ same. omega (arith, low, same)) ∙ c.loop-agent.invariant.ends e low;
+      long = length-set c.loop-agent.points (32 + x) c.place_of.result ∙ long;
     }
 
 pub returns-clause-begun : goal.returns-clause-begun

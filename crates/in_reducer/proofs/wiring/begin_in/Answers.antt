@@ -65,9 +65,9 @@ begin_rest-requires-then-many-eq1-clause-begun c =
     let long = c.requires.1.long in
     let below = taken.first_below m c.is_sound.ensures c.args.pair c.args.arena.now c.requires.0 points c.requires.1 x.0 x.1 c.begin_in-first.result c.begin_in-first.new.arena (c.begin_in-first.ensures x.0 x.1) in (
       retired c.args.pair c.args.arena.now,
-      still_begin m (retired c.args.pair c.args.arena.now) points (set points 32 c.port.result) (length-set points 32 c.port.result) (taken.can_retired m c.is_sound.ensures c.args.pair c.args.arena.now c.requires.0 points c.requires.1),
-      one_below m (retired c.args.pair c.args.arena.now) c.retire-then-many-eq1.new.self c.begin_in-first.result points c.port.result
-          (subst (λ (v : ArenaView). AreBegunBelow m (retired c.args.pair c.args.arena.now) 1 v (c.begin_in-first.result ∷ [])) (sym c.retire-then-many-eq1.ensures) below) (omega (arith, long)) c.port.ensures,
+      still_begin m (retired c.args.pair c.args.arena.now) points (set points 32 c.place_of.result) (length-set points 32 c.place_of.result) (taken.can_retired m c.is_sound.ensures c.args.pair c.args.arena.now c.requires.0 points c.requires.1),
+      one_below m (retired c.args.pair c.args.arena.now) c.retire-then-many-eq1.new.self c.begin_in-first.result points c.place_of.result
+          (subst (λ (v : ArenaView). AreBegunBelow m (retired c.args.pair c.args.arena.now) 1 v (c.begin_in-first.result ∷ [])) (sym c.retire-then-many-eq1.ensures) below) (omega (arith, long)) c.place_of.ensures,
     )
 
 pub returns-then-many-eq1-clause-begun : goal.returns-then-many-eq1-clause-begun
@@ -78,12 +78,12 @@ returns-then-many-eq1-clause-begun c =
     let long = c.requires.1.long in
     let below = taken.first_below m c.is_sound.ensures c.args.pair c.args.arena.now c.requires.0 points c.requires.1 x.0 x.1 c.begin_in-first.result c.begin_in-first.new.arena (c.begin_in-first.ensures x.0 x.1) in
     c.begin_rest-then-many-eq1.ensures.begun (retired c.args.pair c.args.arena.now)
-    (still_begin m (retired c.args.pair c.args.arena.now) points (set points 32 c.port.result) (length-set points 32 c.port.result) (taken.can_retired m c.is_sound.ensures c.args.pair c.args.arena.now c.requires.0 points c.requires.1))
-    (one_below m (retired c.args.pair c.args.arena.now) c.retire-then-many-eq1.new.self c.begin_in-first.result points c.port.result
-    (subst (λ (v : ArenaView). AreBegunBelow m (retired c.args.pair c.args.arena.now) 1 v (c.begin_in-first.result ∷ [])) (sym c.retire-then-many-eq1.ensures) below) (omega (arith, long)) c.port.ensures)
+    (still_begin m (retired c.args.pair c.args.arena.now) points (set points 32 c.place_of.result) (length-set points 32 c.place_of.result) (taken.can_retired m c.is_sound.ensures c.args.pair c.args.arena.now c.requires.0 points c.requires.1))
+    (one_below m (retired c.args.pair c.args.arena.now) c.retire-then-many-eq1.new.self c.begin_in-first.result points c.place_of.result
+    (subst (λ (v : ArenaView). AreBegunBelow m (retired c.args.pair c.args.arena.now) 1 v (c.begin_in-first.result ∷ [])) (sym c.retire-then-many-eq1.ensures) below) (omega (arith, long)) c.place_of.ensures)
 
 pub returns-then-many-eq1-clause-ends : goal.returns-then-many-eq1-clause-ends
-returns-then-many-eq1-clause-ends c = λ e low. c.begin_rest-then-many-eq1.ensures.ends e low ∙ set_there c.args.points.now 32 e c.port.result (λ same. omega (arith, low, same))
+returns-then-many-eq1-clause-ends c = λ e low. c.begin_rest-then-many-eq1.ensures.ends e low ∙ set_there c.args.points.now 32 e c.place_of.result (λ same. omega (arith, low, same))
 
 pub begin_in-second-requires-clause-live : goal.begin_in-second-requires-clause-live
 begin_in-second-requires-clause-live c =
@@ -128,12 +128,12 @@ begin_rest-requires-2-clause-begun c =
     let points = c.args.points.now in
     let long = c.requires.1.long in (
       retired c.args.pair c.args.arena.now,
-      still_begin m (retired c.args.pair c.args.arena.now) points (set (set points 32 c.port.result) 33 c.port-2.result) (length-set (set points 32 c.port.result) 33 c.port-2.result ∙ length-set points 32 c.port.result)
+      still_begin m (retired c.args.pair c.args.arena.now) points (set (set points 32 c.place_of.result) 33 c.place_of-2.result) (length-set (set points 32 c.place_of.result) 33 c.place_of-2.result ∙ length-set points 32 c.place_of.result)
           (taken.can_retired m c.is_sound.ensures c.args.pair c.args.arena.now c.requires.0 points c.requires.1),
-      two_below m (retired c.args.pair c.args.arena.now) c.begin_in-second.new.arena c.begin_in-first.result c.begin_in-second.result points c.port.result c.port-2.result
+      two_below m (retired c.args.pair c.args.arena.now) c.begin_in-second.new.arena c.begin_in-first.result c.begin_in-second.result points c.place_of.result c.place_of-2.result
           (taken.both_below m c.is_sound.ensures c.args.pair c.args.arena.now c.requires.0 points c.requires.1 x.0 x.1 c.begin_in-first.result c.begin_in-first.new.arena (c.begin_in-first.ensures x.0 x.1) y.0 y.1 c.begin_in-second.result
           c.begin_in-second.new.arena (c.begin_in-second.ensures y.0 y.1))
-          (omega (arith, long)) c.port.ensures c.port-2.ensures,
+          (omega (arith, long)) c.place_of.ensures c.place_of-2.ensures,
     )
 
 pub returns-clause-begun : goal.returns-clause-begun
@@ -144,13 +144,13 @@ returns-clause-begun c =
     let points = c.args.points.now in
     let long = c.requires.1.long in
     c.begin_rest-2.ensures.begun (retired c.args.pair c.args.arena.now)
-    (still_begin m (retired c.args.pair c.args.arena.now) points (set (set points 32 c.port.result) 33 c.port-2.result) (length-set (set points 32 c.port.result) 33 c.port-2.result ∙ length-set points 32 c.port.result)
+    (still_begin m (retired c.args.pair c.args.arena.now) points (set (set points 32 c.place_of.result) 33 c.place_of-2.result) (length-set (set points 32 c.place_of.result) 33 c.place_of-2.result ∙ length-set points 32 c.place_of.result)
     (taken.can_retired m c.is_sound.ensures c.args.pair c.args.arena.now c.requires.0 points c.requires.1))
-    (two_below m (retired c.args.pair c.args.arena.now) c.begin_in-second.new.arena c.begin_in-first.result c.begin_in-second.result points c.port.result c.port-2.result
+    (two_below m (retired c.args.pair c.args.arena.now) c.begin_in-second.new.arena c.begin_in-first.result c.begin_in-second.result points c.place_of.result c.place_of-2.result
     (taken.both_below m c.is_sound.ensures c.args.pair c.args.arena.now c.requires.0 points c.requires.1 x.0 x.1 c.begin_in-first.result c.begin_in-first.new.arena (c.begin_in-first.ensures x.0 x.1) y.0 y.1 c.begin_in-second.result
     c.begin_in-second.new.arena (c.begin_in-second.ensures y.0 y.1))
-    (omega (arith, long)) c.port.ensures c.port-2.ensures)
+    (omega (arith, long)) c.place_of.ensures c.place_of-2.ensures)
 
 pub returns-clause-ends : goal.returns-clause-ends
 returns-clause-ends c = λ e low.
-    c.begin_rest-2.ensures.ends e low ∙ set_there (set c.args.points.now 32 c.port.result) 33 e c.port-2.result (λ same. omega (arith, low, same)) ∙ set_there c.args.points.now 32 e c.port.result (λ same. omega (arith, low, same))
+    c.begin_rest-2.ensures.ends e low ∙ set_there (set c.args.points.now 32 c.place_of.result) 33 e c.place_of-2.result (λ same. omega (arith, low, same)) ∙ set_there c.args.points.now 32 e c.place_of.result (λ same. omega (arith, low, same))
