@@ -3,7 +3,7 @@ ghost use Rattle.std.specs.Prelude.{◌≡◌, ◌≤◌, length, OnOk};
 ghost use Rattle.in_phases.specs.Rooms.{KeepsRoom};
 
 use crate::branch::Branch;
-use in_reducer::CellNo;
+use in_reducer::CellIndex;
 use std::alloc::{AllocError, Global};
 
 /// Lists with a place for each number of an agent, for gathering and moving parts. They are as long as the nets required so far, and serve
@@ -11,7 +11,7 @@ use std::alloc::{AllocError, Global};
 #[derive(Drop)]
 pub struct Room {
     pub(crate) branch: Branch,
-    pub(crate) names: Vec<CellNo>,
+    pub(crate) names: Vec<CellIndex>,
 }
 
 impl Room {
@@ -38,7 +38,7 @@ impl Room {
         ensures branch { self.new.branch ≡ self.old.branch }
     {
         if self.names.len() < numbers {
-            self.names.resize(numbers, CellNo(0))?;
+            self.names.resize(numbers, CellIndex::first())?;
         }
         Ok(())
     }

@@ -17,7 +17,7 @@ use crate::cutting::{cut_off, join_up};
 use crate::room::Room;
 use in_base::use_promise;
 use in_compile::Templates;
-use in_reducer::{CellClass, CellNo, MOST_CELLS, MOST_FREE_ENDS, Reducer, Seam};
+use in_reducer::{CellClass, CellIndex, MOST_CELLS, MOST_FREE_ENDS, Reducer, Seam};
 use std::alloc::{AllocError, Global};
 
 /// A part that was split off, and the seam at which it comes back; the number of cuts, and the number of its cells of each class.
@@ -36,7 +36,7 @@ fn split<'a>(
     branch: &Branch,
     cuts: u32,
     share: u32,
-    names: &mut [CellNo],
+    names: &mut [CellIndex],
 ) -> Option<Taken<'a>>
     requires branch { IsBranch reducer.old branch.now }
     requires cuts { cuts + cuts ≤ length reducer.old.free }
@@ -77,7 +77,7 @@ fn split<'a>(
 
 /// Glues a part on again, and joins the ends of the cuts: the net before it was taken out is reduced to the result by as many interactions as the
 /// part and the rest did together.
-pub(crate) fn bring_back(reducer: &mut Reducer, taken: Taken, names: &mut [CellNo])
+pub(crate) fn bring_back(reducer: &mut Reducer, taken: Taken, names: &mut [CellIndex])
     requires names { length classes * taken.cells ≤ length names.old }
     requires back { (m : MachineParts) × (k : ℕ) × CanComeBack m k taken reducer.old }
     ensures reduces { (m : MachineParts) (k : ℕ) → CanComeBack m k taken.entry reducer.old → ReducesTo m k reducer.new }

@@ -4,9 +4,10 @@ ghost use Rattle.in_arena.specs.States.{Live, Leased};
 ghost use Rattle.in_arena.specs.Arenas.{NoneLeased, changed, state_at};
 ghost use Rattle.in_arena.specs.Bags.{IsBagOf, IsFor, IsInBag};
 ghost use Rattle.in_arena.specs.Classes.{Holds};
+ghost use Rattle.in_arena.specs.EndWords.{HaveWords, numbers};
 
-use crate::leases::{expect, expect_free};
-use in_arena::{Arena, Bag, CellClass, CellNo, End};
+use crate::leases::{expect, expect_free, expect_has_word, expect_words};
+use in_arena::{Arena, Bag, CellClass, CellNo, End, EndWord};
 use std::process::Abort;
 use std::thread;
 use std::thread::Threads;
@@ -21,7 +22,7 @@ pub fn bag_all(rt: &impl Abort, arena: &mut Arena, bag: &mut Bag, class: CellCla
         Some(cell) => {
             assert!(rt; count > 0);
             bag_all(rt, arena, bag, class, count - 1);
-            arena.give_back_from(bag, cell);
+            arena.give_back_from(bag, cell.no());
         }
         None => expect(rt, count, 0),
     }
@@ -49,7 +50,11 @@ pub fn make_in_bag(
     ensures { NoneLeased arena.new × (state_at arena.new result.0 ≡ Live symbol ends.now) }
 {
     let mut bag = arena.bag();
-    let cell = arena.lease_to(class, &mut bag).expect(rt, "a free cell");
+    let cell = arena
+        .lease_to(class, &mut bag)
+        .expect(rt, "a free cell")
+        .no();
+    expect_words(rt, symbol, ends);
     bag.write(cell, symbol, ends);
     arena.settle_from(&mut bag, cell);
     cell
@@ -70,16 +75,22 @@ pub fn make_in_two_bags(
 {
     let mut bag = arena.bag();
     let mut other = arena.bag();
-    let cell = arena.lease_to(class, &mut bag).expect(rt, "a free cell");
+    let cell = arena
+        .lease_to(class, &mut bag)
+        .expect(rt, "a free cell")
+        .no();
+    expect_words(rt, symbol, ends);
     bag.write(cell, symbol, ends);
     bag.move_to(cell, &mut other);
-    other.set(cell, place, end);
+    expect_has_word(rt, end);
+    other.set(cell, place, EndWord::of(end));
     arena.settle_from(&mut other, cell);
     cell
 }
 
 fn filled(mut bag: Bag, cell: CellNo, symbol: u32, ends: &[End]) -> Bag
-    requires { IsInBag bag cell.0 × IsFor bag.cells cell.0 (length ends.now) }
+    requires of { IsInBag bag cell.0 × IsFor bag.cells cell.0 (length ends.now) }
+    requires words { (symbol < numbers) × HaveWords ends.now }
     ensures { result ≡ changed bag cell.0 (Live symbol ends.now) }
 {
     bag.write(cell, symbol, ends);
@@ -98,11 +109,16 @@ pub fn make_in_a_bag_elsewhere(
     ensures { NoneLeased arena.new × (state_at arena.new result.0 ≡ Live symbol ends.now) }
 {
     let mut bag = arena.bag();
-    let cell = arena.lease_to(class, &mut bag).expect(rt, "a free cell");
+    let cell = arena
+        .lease_to(class, &mut bag)
+        .expect(rt, "a free cell")
+        .no();
+    expect_words(rt, symbol, ends);
     let (mut bag, ()) = thread::join(
         rt,
         move || -> Bag
-            requires { IsInBag bag cell.0 × IsFor bag.cells cell.0 (length ends.now) }
+            requires of { IsInBag bag cell.0 × IsFor bag.cells cell.0 (length ends.now) }
+            requires words { (symbol < numbers) × HaveWords ends.now }
             ensures { result ≡ changed bag cell.0 (Live symbol ends.entry.now) }
         { filled(bag, cell, symbol, ends) },
         || (),

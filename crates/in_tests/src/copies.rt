@@ -6,7 +6,7 @@ ghost use Rattle.in_arena.specs.declared.content.End.{End as EndOf};
 ghost use Rattle.in_cells.specs.Copying.{ArePart, AreAllLive, AreClosed, HasCellsFor, IsListOfLive, LeadsInto};
 
 use crate::leases::expect_cell;
-use in_arena::{Arena, CellClass, CellNo, End};
+use in_arena::{Arena, CellClass, CellIndex, CellNo, End};
 use in_cells::copy;
 use std::alloc::{AllocError, Global};
 use std::process::Abort;
@@ -81,15 +81,15 @@ pub fn copy_all(
     rt: &impl Abort,
     alloc: Global,
     from: &Arena,
-    ends: &[u32],
+    ends: &[u16],
     to: &mut Arena,
-) -> Result<Vec<CellNo>, AllocError>
+) -> Result<Vec<CellIndex>, AllocError>
     requires none { NoneLeased from.now }
     requires none_to { NoneLeased to.old }
     ensures { NoneLeased to.new }
 {
     let agents = live_cells(alloc, from)?;
-    let mut names = vec![in alloc; CellNo(0); from.all_cells() as usize]?;
+    let mut names = vec![in alloc; CellIndex::first(); from.all_cells() as usize]?;
     expect_closed(rt, from, agents.as_slice(), ends.len());
     expect_room(rt, from, agents.as_slice(), to);
     copy(from, agents.as_slice(), ends, to, names.as_mut_slice());

@@ -3,6 +3,7 @@ ghost use Rattle.std.specs.Prelude.{◌≡◌, ◌<◌, ◌≤◌, length, slice
 ghost use Rattle.in_arena.specs.States.{Live, IsLive, places};
 ghost use Rattle.in_arena.specs.Arenas.{NoneLeased, state_at, written};
 ghost use Rattle.in_arena.specs.Classes.{Holds};
+ghost use Rattle.in_arena.specs.EndWords.{HasWord, HaveWords, numbers};
 
 use in_arena::{Arena, CellClass, CellNo, End, Lease};
 use std::alloc::{AllocError, Global};
@@ -93,6 +94,30 @@ pub fn two_leases(rt: &impl Abort, one: &mut Arena, other: &mut Arena, class: Ce
     other.give_back(second);
 }
 
+// The end has a word.
+pub fn expect_has_word(rt: &impl Abort, end: End)
+    ensures { HasWord end }
+{
+    match end {
+        End::Cell(cell, place) => {
+            assert!(rt; cell.0 < 33_554_432);
+            assert!(rt; place < 31);
+        }
+        End::Free(number) => assert!(rt; number < 33_554_432),
+    }
+}
+
+// The symbol's number and the ends have words.
+pub fn expect_words(rt: &impl Abort, symbol: u32, ends: &[End])
+    ensures symbol { symbol < numbers }
+    ensures ends { HaveWords ends.now }
+{
+    assert!(rt; symbol < 33_554_432);
+    for number in 0..ends.len() {
+        expect_has_word(rt, ends[number]);
+    }
+}
+
 // A live cell.
 pub fn make(
     rt: &impl Abort,
@@ -106,6 +131,7 @@ pub fn make(
 {
     let mut lease = arena.lease(class).expect(rt, "a free cell");
     let cell = lease.cell();
+    expect_words(rt, symbol, ends);
     lease.write(symbol, ends);
     arena.settle(lease);
     cell
@@ -145,6 +171,8 @@ pub fn make_with(
 {
     let mut lease = arena.lease(class).expect(rt, "a free cell");
     let cell = lease.cell();
+    expect_words(rt, symbol, ends);
+    expect_has_word(rt, end);
     lease.write(symbol, ends);
     lease.set(place, end);
     arena.settle(lease);
@@ -152,7 +180,8 @@ pub fn make_with(
 }
 
 fn filled(mut lease: Lease, symbol: u32, ends: &[End]) -> Lease
-    requires { Holds lease.class (length ends.now) }
+    requires many { Holds lease.class (length ends.now) }
+    requires words { (symbol < numbers) × HaveWords ends.now }
     ensures { result ≡ written lease (Live symbol ends.now) }
 {
     lease.write(symbol, ends);
@@ -172,10 +201,12 @@ pub fn make_elsewhere(
 {
     let lease = arena.lease(class).expect(rt, "a free cell");
     let cell = lease.cell();
+    expect_words(rt, symbol, ends);
     let (lease, ()) = thread::join(
         rt,
         move || -> Lease
-            requires { Holds lease.class (length ends.now) }
+            requires many { Holds lease.class (length ends.now) }
+            requires words { (symbol < numbers) × HaveWords ends.now }
             ensures { result ≡ written lease (Live symbol ends.entry.now) }
         { filled(lease, symbol, ends) },
         || (),

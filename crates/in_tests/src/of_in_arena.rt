@@ -61,11 +61,7 @@ fn leases_of_two_arenas(rt: HostRuntime) -> Result<(), Fail> {
 #[test]
 fn a_retired_cell_is_lent_again(rt: HostRuntime) -> Result<(), Fail> {
     let mut arena = fresh(rt.alloc(), 1)?;
-    let ends = [
-        End::Free(4),
-        End::Cell(CellNo(1), 8),
-        End::Free(4_294_967_295),
-    ];
+    let ends = [End::Free(4), End::Cell(CellNo(1), 8), End::Free(33_554_431)];
     let cell = make(&rt, &mut arena, CellClass::Small, 7, &ends);
     expect(&rt, cell.0, 0);
     expect_free(&rt, &arena, CellClass::Small, 0);
@@ -216,15 +212,15 @@ fn a_bag_written_in_another_thread(rt: HostRuntime) -> Result<(), Fail> {
 
 #[test]
 fn ends_in_words(rt: HostRuntime) -> Result<(), Fail> {
-    let last = CellNo(4_294_967_295);
+    let last = CellNo(33_554_431);
     expect_word(&rt, End::Cell(CellNo(0), 0), Some(CellNo(0)));
     expect_word(&rt, End::Cell(last, 0), Some(last));
-    expect_word(&rt, End::Cell(last, 255), None);
+    expect_word(&rt, End::Cell(last, 30), None);
     expect_word(&rt, End::Cell(CellNo(7), 1), None);
     expect_word(&rt, End::Free(0), None);
-    expect_word(&rt, End::Free(4_294_967_295), None);
-    expect_end(&rt, moved(last, 255), End::Cell(last, 255));
-    expect_end(&rt, moved(CellNo(0), 0), End::Cell(CellNo(0), 0));
+    expect_word(&rt, End::Free(33_554_431), None);
+    expect_end(&rt, moved(&rt, last, 30), End::Cell(last, 30));
+    expect_end(&rt, moved(&rt, CellNo(0), 0), End::Cell(CellNo(0), 0));
     Ok(())
 }
 

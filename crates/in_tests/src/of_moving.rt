@@ -2,7 +2,7 @@ ghost use Rattle.in_arena.specs.Arenas.{NoneLeased};
 
 use crate::copies::{copy_all, expect_agent};
 use crate::leases::{expect, expect_free, fresh, make};
-use in_arena::{Arena, CellClass, CellNo, End};
+use in_arena::{Arena, CellClass, CellIndex, CellNo, End};
 use std::process::Abort;
 use std::test::Fail;
 
@@ -26,12 +26,12 @@ fn make_ring(rt: &impl Abort, from: &mut Arena)
 }
 
 // They are there, and their copies under these numbers.
-fn expect_ring(rt: &impl Abort, from: &Arena, to: &Arena, names: &[CellNo])
+fn expect_ring(rt: &impl Abort, from: &Arena, to: &Arena, names: &[CellIndex])
     requires from { NoneLeased from.now }
     requires to { NoneLeased to.now }
 {
     assert!(rt; names.len() == 12);
-    let (x, y) = (names[0], names[1]);
+    let (x, y) = (names[0].no(), names[1].no());
     let ends = [End::Free(6), End::Cell(y, 1), End::Cell(y, 2)];
     expect_agent(rt, to, x, 7, &ends);
     let ends = [End::Free(5), End::Cell(x, 1), End::Cell(x, 2)];
@@ -86,11 +86,11 @@ fn make_others(rt: &impl Abort, to: &mut Arena) -> (CellNo, CellNo)
 }
 
 // The chain's copies are there under these numbers, and the others as before.
-fn expect_chain(rt: &impl Abort, to: &Arena, names: &[CellNo], others: (CellNo, CellNo))
+fn expect_chain(rt: &impl Abort, to: &Arena, names: &[CellIndex], others: (CellNo, CellNo))
     requires { NoneLeased to.now }
 {
     assert!(rt; names.len() == 3);
-    let (x, y, z) = (names[0], names[1], names[2]);
+    let (x, y, z) = (names[0].no(), names[1].no(), names[2].no());
     expect_agent(rt, to, x, 1, &[End::Free(2), End::Cell(y, 3)]);
     let second = [End::Cell(z, 0), End::Free(1), End::Free(1), End::Cell(x, 1)];
     expect_agent(rt, to, y, 2, &second);
