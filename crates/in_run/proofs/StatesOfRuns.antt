@@ -1,5 +1,5 @@
 -- A run, step by step and phase by phase.
-use Rattle.std.proofs.Common.{◌≡◌, ◌≤◌, ◌<◌, ◌+◌, ℕ, zero, suc, List, [], length, inl, inr, Ok, Err, refl, sym, ap, subst, ◌∙◌, arith}
+use Rattle.std.proofs.Common.{◌≡◌, ◌≢◌, ◌⊎◌, ◌≤◌, ◌<◌, ◌+◌, ℕ, zero, suc, List, [], length, inl, inr, Ok, Err, refl, sym, ap, subst, ◌∙◌, arith}
 use Rattle.std.proofs.lemmas.List.{length-map}
 use Rattle.in_check.specs.Checking.{IsAccepted}
 use Rattle.in_check.specs.Plain.{IsReachedBy}
@@ -10,10 +10,11 @@ use Rattle.in_compile.specs.Cells.{agents_of, count_of}
 use Rattle.in_limits.specs.declared.limits.Limits.{Limits}
 use Rattle.in_run.specs.declared.running.RunFault.TheVariants.{Start, Memory}
 use Rattle.in_run.specs.declared.stops.Stop.{Stop}
+use Rattle.in_run.specs.declared.stops.Stop.TheVariants.{Normal, Limit, Full}
 use Rattle.in_run.specs.Advancing.{RunsAnyhow, no_step, then_any, then_phase, then_renamed}
 use Rattle.in_run.specs.Laws.{TurnsAreAllowed}
-use Rattle.in_run.specs.Outcomes.{ReachesWith, RunsInTurn, RunsTo}
-use Rattle.in_run.specs.Stops.{IsStop}
+use Rattle.in_run.specs.Outcomes.{GoesOnToTheEnd, ReachesWith, RunsInTurn, RunsTo}
+use Rattle.in_run.specs.Stops.{IsStop, NoneHasRoom}
 use Rattle.in_reducer.specs.Machines.{MachineParts, HasCells, plain_of}
 use Rattle.in_reducer.specs.Starts.{IsStart}
 use Rattle.in_machine.specs.Machines.{IsMachine}
@@ -105,8 +106,8 @@ module _ (text : List ℕ) (p : Program) (l : Limits) (accepted : IsAccepted tex
   reaches_in_turn k n run = subst (λ j. ReachesWith p l.cells j n) (let z : k + 0 ≡ k = omega arith in z) (reaches_on p l.cells 0 k m n at_first (runs_anyhow m n k run))
 
 pub turns_are_allowed : TurnsAreAllowed
-turns_are_allowed text p l (Ok o) accepted h = ((reaches_in_turn text p l accepted h.0 h.1 o.interactions o.machine h.2.run, h.2.within, h.2.stop), λ _. h)
-turns_are_allowed text p l (Err (Start f)) accepted h = (h, λ _. h)
+turns_are_allowed text p l (Ok o) accepted h = ((reaches_in_turn text p l accepted h.0 h.1 o.interactions o.machine h.2.run, h.2.within, h.2.stop), λ _. h, inl h)
+turns_are_allowed text p l (Err (Start f)) accepted h = (h, λ _. h, inl h)
 turns_are_allowed text p l (Err (Memory m k)) accepted h = absurd h
 
 -- ---- further on
@@ -143,8 +144,30 @@ module _ (p : Program) (l : Limits) (k : ℕ) (m : MachineParts) (h : IsStateOfR
 
   -- ---- its outcome
 
-  pub ends_so : (s : Stop) → IsStop l.limit m k s → RunsTo p l (Ok (record { machine = m; interactions = k; stop = s }))
-  ends_so s stop = ((h.reaches, h.within, stop), λ one. (let from = h.in_turn one in (from.0, from.1, record { run = from.2; within = h.within; stop = stop })))
+  -- one worker, or the limit is reached, or no pair has room
+  abbrev pub GoesOnNoMore : Type 0
+  GoesOnNoMore = (l.workers ≡ 1) ⊎ (k ≡ l.limit) ⊎ NoneHasRoom m
+
+  ends_in_one_turn : (s : Stop) → IsStop l.limit m k s → l.workers ≡ 1 → RunsInTurn p l (Ok (record { machine = m; interactions = k; stop = s }))
+  ends_in_one_turn s stop one = let from = h.in_turn one in (from.0, from.1, record { run = from.2; within = h.within; stop = stop })
+
+  -- at the limit a run stops as normal or at the limit
+  none_at_limit : (s : Stop) → IsStop l.limit m k s → k ≡ l.limit → s ≢ Limit → NoneHasRoom m
+  none_at_limit Normal stop all other = λ i lt room. (let e = ap length stop in omega (arith, e, lt))
+  none_at_limit Limit stop all other = absurd (other refl)
+  none_at_limit (Full c need free) stop all other = let few = stop.1 in absurd (omega (arith, all, few))
+
+  goes_on_to_the_end : (s : Stop) → IsStop l.limit m k s → (k ≡ l.limit) ⊎ NoneHasRoom m → GoesOnToTheEnd p l (Ok (record { machine = m; interactions = k; stop = s }))
+  goes_on_to_the_end s stop (inl all) = none_at_limit s stop all
+  goes_on_to_the_end s stop (inr none) = λ _. none
+
+  pub ends_so : (s : Stop) → IsStop l.limit m k s → GoesOnNoMore → RunsTo p l (Ok (record { machine = m; interactions = k; stop = s }))
+  ends_so s stop (inl one) = ((h.reaches, h.within, stop), ends_in_one_turn s stop, inl (ends_in_one_turn s stop one))
+  ends_so s stop (inr z) = ((h.reaches, h.within, stop), ends_in_one_turn s stop, inr (goes_on_to_the_end s stop z))
+
+  pub ends_at_the_end : (s : Stop) → IsStop l.limit m k s → GoesOnNoMore → (l.workers ≡ 1 → ⊥) → GoesOnToTheEnd p l (Ok (record { machine = m; interactions = k; stop = s }))
+  ends_at_the_end s stop (inl one) several = absurd (several one)
+  ends_at_the_end s stop (inr z) several = goes_on_to_the_end s stop z
 
 -- ---- in turn, with any number of workers
 

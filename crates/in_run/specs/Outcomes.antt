@@ -1,5 +1,5 @@
 -- The outcome of `run`.
-use Rattle.std.specs.Prelude.{◌≡◌, ◌≤◌, ℕ, Result, Ok, Err}
+use Rattle.std.specs.Prelude.{◌≡◌, ◌≢◌, ◌≤◌, ◌⊎◌, ℕ, Result, Ok, Err}
 use Rattle.in_check.specs.Plain.{IsReachedBy}
 use Rattle.in_check.specs.Programs.{Program}
 use Rattle.in_limits.specs.declared.limits.Limits.{Limits}
@@ -11,7 +11,8 @@ use Rattle.in_reducer.specs.Starts.{IsStart}
 use Rattle.in_machine.specs.Machines.{IsMachine}
 use Rattle.in_machine.specs.Starts.{IsNoStart}
 use Rattle.in_machine.specs.declared.starting.StartFault.{StartFault}
-use Rattle.in_run.specs.Stops.{IsOutcome, IsStop}
+use Rattle.in_run.specs.declared.stops.Stop.TheVariants.{Limit}
+use Rattle.in_run.specs.Stops.{IsOutcome, IsStop, NoneHasRoom}
 
 -- ---- in any order
 
@@ -42,11 +43,19 @@ RunsInTurn p l (Ok o) = (start : MachineParts) × IsStart p l.cells start × IsO
 RunsInTurn p l (Err (Start f)) = IsNoStart p l.cells f
 RunsInTurn p l (Err (Memory m k)) = ⊥
 
+-- ---- as long as a pair has room
+
+-- unless it stops at its limit, it stops where no pair of the queue has room
+abbrev pub GoesOnToTheEnd : RunLaw
+GoesOnToTheEnd p l (Ok o) = o.stop ≢ Limit → NoneHasRoom o.machine
+GoesOnToTheEnd p l (Err f) = Unit {0}
+
 -- ---- by the limits
 
--- how several workers share the interactions is open, and so is their order; one worker does them in turn
+-- how several workers share the interactions is open, and so is their order; one worker does them in turn; and unless they are done in turn, the
+-- run goes on as long as a pair has room
 abbrev pub RunsTo : RunLaw
-RunsTo p l r = RunsInAnyOrder p l r × (l.workers ≡ 1 → RunsInTurn p l r)
+RunsTo p l r = RunsInAnyOrder p l r × (l.workers ≡ 1 → RunsInTurn p l r) × (RunsInTurn p l r ⊎ GoesOnToTheEnd p l r)
 
 -- the result of a run that is refused, if at all, at its start
 abbrev pub at_start : Result Outcome StartFault → Result Outcome RunFault

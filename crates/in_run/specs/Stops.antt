@@ -17,6 +17,10 @@ IsStop limit m k (Full c need free) = (m.queue ≢ []) × (k < limit) × IsShort
 abbrev pub GoesOn : ℕ → MachineParts → ℕ → Type 0
 GoesOn limit m k = (0 < length m.queue) × (k < limit) × HasRoomAt m 0
 
+-- no pair of the queue has the cells that it needs
+abbrev pub NoneHasRoom : MachineParts → Type 0
+NoneHasRoom m = (i : ℕ) → i < length m.queue → HasRoomAt m i → ⊥
+
 -- the outcome of a run from this machine within `limit` interactions
 pub record IsOutcome (start : MachineParts) (limit : ℕ) (m : MachineParts) (k : ℕ) (s : Stop) : Type 0 where
   pub run : Runs start k m

@@ -2,10 +2,11 @@
 ghost use Rattle.std.specs.Prelude.{◌≡◌, IfOk};
 ghost use Rattle.in_order.specs.Ends.{EndsOnce};
 ghost use Rattle.in_run.specs.declared.stops.Stop.TheVariants.{Normal};
-ghost use Rattle.in_run.specs.Outcomes.{RunsTo};
+ghost use Rattle.in_run.specs.Outcomes.{GoesOnToTheEnd, RunsTo};
 ghost use Rattle.in_machine.specs.Texts.{text_of};
 
 use crate::advancing::advance;
+use crate::going_on::go_on;
 use crate::next::stop;
 use crate::pace::Pace;
 use crate::stops::Stop;
@@ -61,6 +62,7 @@ pub fn run_watched<'a, R: Threads, W: Watch>(
     watch: &mut W,
 ) -> Result<Outcome<'a>, RunFault<'a>>
     ensures runs { RunsTo checked.now limits result }
+    ensures full { (limits.workers ≡ 1 → ⊥) → GoesOnToTheEnd checked.now limits result }
     ensures order { IfOk result (λ o. o.stop ≡ Normal → EndsOnce checked.now o.interactions (text_of o.machine)) }
 {
     checked.is_accepted();
@@ -74,12 +76,18 @@ pub fn run_watched<'a, R: Threads, W: Watch>(
     watch.look(progress_of(&machine, limits.cells(), interactions, &pace));
     loop {
         if let Some(stop) = stop(&machine, limits.limit(), interactions) {
-            watch.end(progress_of(&machine, limits.cells(), interactions, &pace));
-            return Ok(Outcome {
-                machine,
-                interactions,
-                stop,
-            });
+            let more = go_on(&mut machine, limits, interactions);
+            if more == 0 {
+                watch.end(progress_of(&machine, limits.cells(), interactions, &pace));
+                return Ok(Outcome {
+                    machine,
+                    interactions,
+                    stop,
+                });
+            }
+            interactions += more;
+            watch.look(progress_of(&machine, limits.cells(), interactions, &pace));
+            continue;
         }
         let turn = watch.turn().max(1);
         interactions += advance(
@@ -100,8 +108,8 @@ pub fn run_watched<'a, R: Threads, W: Watch>(
 /// so no worker passes the gate, which is for the workers of rounds.
 ///
 /// Before each interaction, in this order: if no pair is left, the run stops as `Normal`; if it did as many interactions as are allowed, as
-/// `Limit`; if the first pair needs more cells of a class than are free, tested in the order of the classes, as `Full`. Refused if no machine
-/// starts.
+/// `Limit`; if the first pair needs more cells of a class than are free, tested in the order of the classes, as `Full`. Several workers first do the
+/// interactions of the pairs that have room: so they stop as `Full` only if no pair has. Refused if no machine starts.
 ///
 /// If it stops as `Normal`, it has reached the one end of its program: each run that ends, in any order, has as many interactions and the same text.
 pub fn run<'a, R: Threads + Wait, G: Gate + Sync>(
@@ -112,6 +120,7 @@ pub fn run<'a, R: Threads + Wait, G: Gate + Sync>(
     _gate: &G,
 ) -> Result<Outcome<'a>, RunFault<'a>>
     ensures runs { RunsTo checked.now limits result }
+    ensures full { (limits.workers ≡ 1 → ⊥) → GoesOnToTheEnd checked.now limits result }
     ensures order { IfOk result (λ o. o.stop ≡ Normal → EndsOnce checked.now o.interactions (text_of o.machine)) }
 {
     run_watched(rt, alloc, checked, limits, &mut NoWatch)
