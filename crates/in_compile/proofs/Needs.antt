@@ -1,5 +1,4 @@
 -- Numbers of cells by class.
 pub mod Classes
 pub mod Counting
-pub mod Least
 pub mod Most

@@ -31,6 +31,10 @@ count_of need Small = need.small
 count_of need Large = need.large
 count_of need Wide = need.wide
 
+-- these numbers for the classes
+abbrev pub need_by : (CellClass → ℕ) → Need
+need_by f = record { small = f Small; large = f Large; wide = f Wide }
+
 -- `need` has, for each class, the number of these agents that take a cell of it
 abbrev pub IsNeedOf : Tables → List (Option Cell) → Need → Type 0
 IsNeedOf t agents need = (c : CellClass) → count_of need c ≡ agents_of t c agents

@@ -28,37 +28,38 @@ pub struct Need {
 impl Need {
     ghost use Rattle.in_arena.specs.declared.content.CellClass.{CellClass};
 
+    /// The number that `count` gives for each class.
+    #[inline(always)]
+    pub fn by_class<F: Fn(CellClass) -> u32>(count: F) -> Need
+        requires { F.IsAlwaysCallable count }
+        ensures { (c : CellClass) → F.post count c (count_of result c) }
+    {
+        Need {
+            small: count(CellClass::Small),
+            large: count(CellClass::Large),
+            wide: count(CellClass::Wide),
+        }
+    }
+
     /// The same number for each class.
     pub fn each(count: u32) -> Need
         ensures { (c : CellClass) → count_of result c ≡ count }
     {
-        Need {
-            small: count,
-            large: count,
-            wide: count,
-        }
+        Need::by_class(|_class| count)
     }
 
     /// For each class, the greater of the two numbers.
-    pub(crate) fn or_more(self, other: Need) -> Need
+    pub fn or_more(self, other: Need) -> Need
         ensures { (c : CellClass) → count_of result c ≡ max (count_of self c) (count_of other c) }
     {
-        Need {
-            small: self.small.max(other.small),
-            large: self.large.max(other.large),
-            wide: self.wide.max(other.wide),
-        }
+        Need::by_class(|class| self.of(class).max(other.of(class)))
     }
 
     /// The number of free cells of each class in an arena.
     pub fn free_in(arena: &Arena) -> Need
         ensures { (c : CellClass) → count_of result c ≡ free_of arena.now c }
     {
-        Need {
-            small: arena.free_count(CellClass::Small),
-            large: arena.free_count(CellClass::Large),
-            wide: arena.free_count(CellClass::Wide),
-        }
+        Need::by_class(|class| arena.free_count(class))
     }
 
     /// The least of the numbers.
@@ -66,7 +67,11 @@ impl Need {
         ensures least { (c : CellClass) → result ≤ count_of self c }
         ensures one { (c : CellClass) × (count_of self c ≡ result) }
     {
-        self.small.min(self.large).min(self.wide)
+        let mut least = self.of(CellClass::ALL[0]);
+        for class in CellClass::ALL {
+            least = least.min(self.of(class));
+        }
+        least
     }
 
     /// Whether these are, for each class, at least as many as needed and `floor` more.
@@ -144,9 +149,5 @@ pub fn need_of_net(symbols: &Symbols, net: &Net) -> Need
     requires there { AreAllThere net.now }
     ensures { IsNeedOf symbols.now net.now.cells result }
 {
-    Need {
-        small: agents_of(symbols, net, CellClass::Small),
-        large: agents_of(symbols, net, CellClass::Large),
-        wide: agents_of(symbols, net, CellClass::Wide),
-    }
+    Need::by_class(|class| agents_of(symbols, net, class))
 }

@@ -98,9 +98,9 @@ impl Stock {
     {
         use_promise!(arena.cells());
         let Stock { lists, bag } = self;
-        lease_more(lists, bag, arena, CellClass::Small, need.small);
-        lease_more(lists, bag, arena, CellClass::Large, need.large);
-        lease_more(lists, bag, arena, CellClass::Wide, need.wide);
+        for class in CellClass::ALL {
+            lease_more(lists, bag, arena, class, need.of(class));
+        }
     }
 
     /// A stock of as many cells of each class as `need` says, which is its room too. They have to be free. Refused only when out of memory, and
@@ -119,13 +119,12 @@ impl Stock {
     pub fn holds(&self, need: Need) -> bool
         ensures { IsTrue result ↔ IsEnough (count_of need) (held self.now) }
     {
-        if self.lists.len(CellClass::Small) < need.small as usize {
-            return false;
+        for class in CellClass::ALL {
+            if self.lists.len(class) < need.of(class) as usize {
+                return false;
+            }
         }
-        if self.lists.len(CellClass::Large) < need.large as usize {
-            return false;
-        }
-        need.wide as usize <= self.lists.len(CellClass::Wide)
+        true
     }
 
     /// Moves a cell of this class to a bag that has none of the stock's cells.
@@ -149,8 +148,8 @@ impl Stock {
     {
         use_promise!(arena.cells());
         let Stock { mut lists, mut bag } = self;
-        give_back(&mut lists, &mut bag, arena, CellClass::Small);
-        give_back(&mut lists, &mut bag, arena, CellClass::Large);
-        give_back(&mut lists, &mut bag, arena, CellClass::Wide);
+        for class in CellClass::ALL {
+            give_back(&mut lists, &mut bag, arena, class);
+        }
     }
 }

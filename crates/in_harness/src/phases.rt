@@ -5,7 +5,7 @@ use crate::rounds::turns;
 use crate::showing::add_printed;
 use in_harness_texts::{Sheet, number, small};
 use in_machine::{Room, Sharing, Worked, phase};
-use in_rounds::{CellClass, Machine};
+use in_rounds::Machine;
 use std::alloc::Global;
 use std::thread::Threads;
 
@@ -34,10 +34,7 @@ fn share(machine: &Machine, parts: u32) -> u32
     requires { 1 ≤ parts }
     ensures { result ≤ 1048576 }
 {
-    let small = machine.free(CellClass::Small);
-    let large = machine.free(CellClass::Large);
-    let wide = machine.free(CellClass::Wide);
-    (small.min(large).min(wide) / parts).min(MOST_SHARE)
+    (machine.least_free() / parts).min(MOST_SHARE)
 }
 
 /// A phase of at most `most` interactions, which may leave no cell free.

@@ -40,13 +40,9 @@ fn add_free(sheet: &mut Sheet, machine: &Machine, number: u32) {
 
 /// Adds the view of a machine: agents and free cells, pairs, free ends, a line each.
 pub fn add_machine(sheet: &mut Sheet, machine: &Machine) {
-    let numbers = [
-        machine.agents() as u64,
-        machine.free(CellClass::Small) as u64,
-        machine.free(CellClass::Large) as u64,
-        machine.free(CellClass::Wide) as u64,
-    ];
-    sheet.fill("# agents, #, # and # free\n", &numbers);
+    sheet.fill("# agents, ", &[machine.agents() as u64]);
+    let free = CellClass::ALL.map(|class| machine.free(class) as u64);
+    sheet.fill("#, # and # free\n", &free);
     for number in 0..machine.pairs() {
         add_pair(sheet, machine, number);
     }

@@ -1,10 +1,10 @@
 //! Jobs that workers do in threads.
-ghost use Rattle.std.specs.Prelude.{◌≤◌, IsSome, IsTrue};
+ghost use Rattle.std.specs.Prelude.{◌≤◌, ◌*◌, IsSome, IsTrue};
 ghost use Rattle.in_arena.specs.Arenas.{NoneLeased, free_of};
+ghost use Rattle.in_arena.specs.declared.content.CellClass.{CellClass as Class};
 ghost use Rattle.in_compile.specs.Templates.{AreTemplatesOf, template_at};
 ghost use Rattle.in_rounds.specs.Gathers.{bags_of};
 ghost use Rattle.in_rounds.specs.Holding.{HaveAllLeased};
-ghost use Rattle.in_rounds.specs.Lending.{IsShare};
 
 use crate::gathers::is_pair;
 use in_arena::{Arena, CellClass};
@@ -16,18 +16,15 @@ use in_symbols::SymbolNo;
 use std::sync::Wait;
 use std::thread::Threads;
 
-/// Whether `workers` workers may have eight cells of each class each.
+/// The number of cells of each class that a worker has.
+const SHARE: u32 = 8;
+
+/// Whether `workers` workers may have these cells each.
 fn are_shares(arena: &Arena, workers: u32) -> bool
     requires { workers ≤ 64 }
-    ensures { IsTrue result → IsShare workers (record { small = 8; large = 8; wide = 8 }) (free_of arena.now) }
+    ensures { IsTrue result → (c : Class) → workers * SHARE ≤ free_of arena.now c }
 {
-    if arena.free_count(CellClass::Small) < workers * 8 {
-        return false;
-    }
-    if arena.free_count(CellClass::Large) < workers * 8 {
-        return false;
-    }
-    workers * 8 <= arena.free_count(CellClass::Wide)
+    workers * SHARE <= Need::free_in(arena).least()
 }
 
 /// 1 if a result of the job is kept, otherwise 0; its cells are then freed.
@@ -82,11 +79,7 @@ fn add_done<R: Threads + Wait>(
     let next = (SymbolNo(1), SymbolNo(2));
     let jobs = [next, next, next, next, next, next];
     let plan = Plan::new(templates, &jobs);
-    let share = Need {
-        small: 8,
-        large: 8,
-        wide: 8,
-    };
+    let share = Need::each(SHARE);
     let Ok((mut gather, threads)) = gather_jobs(
         rt,
         sheet.alloc,

@@ -7,7 +7,7 @@ ghost use Rattle.in_net.specs.ActivePairs.{IsActivePair};
 ghost use Rattle.in_net.specs.Built.{IsOver};
 
 use crate::sheet::Sheet;
-use in_arena::{Arena, CellClass};
+use in_arena::Arena;
 use in_check::{Checked, Item, Plain};
 use in_compile::{Need, Stock, compile};
 use in_interaction::MOST_AGENTS;
@@ -86,31 +86,16 @@ pub fn fresh(alloc: Global, cells: u32) -> Result<Arena, AllocError>
     Arena::new(alloc, cells)
 }
 
-/// The number of free cells of each class.
-pub fn free(arena: &Arena) -> Need {
-    Need {
-        small: arena.free_count(CellClass::Small),
-        large: arena.free_count(CellClass::Large),
-        wide: arena.free_count(CellClass::Wide),
-    }
-}
-
 /// Whether each class has as many free cells as `need` says.
 pub fn are_free(arena: &Arena, need: Need) -> bool
     ensures { IsTrue result → IsEnough (count_of need) (free_of arena.now) }
 {
-    if arena.free_count(CellClass::Small) < need.small {
-        return false;
-    }
-    if arena.free_count(CellClass::Large) < need.large {
-        return false;
-    }
-    need.wide <= arena.free_count(CellClass::Wide)
+    Need::free_in(arena).has_besides(need, 0)
 }
 
 /// Whether a refused stock leaves the free cells as they were.
 fn unchanged(arena: &Arena, before: Need) -> Came {
-    if free(arena) == before {
+    if Need::free_in(arena) == before {
         Came::Unchanged
     } else {
         Came::Wrong
@@ -121,7 +106,7 @@ fn unchanged(arena: &Arena, before: Need) -> Came {
 fn filled(alloc: Global, arena: &mut Arena, need: Need) -> Came
     ensures { arena.new ≡ arena.old }
 {
-    let before = free(arena);
+    let before = Need::free_in(arena);
     if !are_free(arena, need) {
         return Came::Wrong;
     }

@@ -7,11 +7,11 @@ ghost use Rattle.in_arena.specs.States.{IsLive};
 ghost use Rattle.in_compile.specs.Placing.{HasNoCell};
 ghost use Rattle.in_compile.specs.Templates.{AreTemplatesOf};
 
-use crate::calls::{are_free, free, fresh};
+use crate::calls::{are_free, fresh};
 use crate::sheet::Sheet;
 use crate::templates::{add_joint, add_need, template_of};
 use crate::words::small;
-use in_arena::Arena;
+use in_arena::{Arena, CellClass};
 use in_check::Checked;
 use in_compile::{
     Member, Need, Placed, PlacedTemplate, Stock, Template, Templates, compile, place, place_into,
@@ -30,9 +30,9 @@ fn add_filled(sheet: &mut Sheet, arena: &mut Arena, need: Need)
     let Ok(stock) = Stock::fill(sheet.alloc, arena, need) else {
         return sheet.fail();
     };
-    add_need(sheet, free(arena));
+    add_need(sheet, Need::free_in(arena));
     stock.spend(arena);
-    add_need(sheet, free(arena));
+    add_need(sheet, Need::free_in(arena));
 }
 
 /// Whether an empty stock with room for the cells of `need` holds that many before they are added, and after.
@@ -56,10 +56,12 @@ fn add_added(sheet: &mut Sheet, arena: &mut Arena, need: Need)
 
 /// Whether it holds a cell of some class.
 fn holds_any(stock: &Stock) -> bool {
-    let none = Need::each(0);
-    stock.holds(Need { small: 1, ..none })
-        || stock.holds(Need { large: 1, ..none })
-        || stock.holds(Need { wide: 1, ..none })
+    for class in CellClass::ALL {
+        if stock.holds(Need::by_class(|other| u32::from(other == class))) {
+            return true;
+        }
+    }
+    false
 }
 
 /// Whether a stock of a member's need holds a cell before the member is placed, and after; and the number of placed agents.
@@ -164,9 +166,9 @@ fn add_twice(sheet: &mut Sheet, arena: &mut Arena, template: &Template)
     let Some(back) = spent(sheet, arena, template, room) else {
         return;
     };
-    add_need(sheet, free(arena));
+    add_need(sheet, Need::free_in(arena));
     settle(sheet, arena, template, back);
-    add_need(sheet, free(arena));
+    add_need(sheet, Need::free_in(arena));
 }
 
 /// All this in one arena.

@@ -3,12 +3,13 @@ ghost use Rattle.std.specs.Prelude.{◌≡◌, ◌<◌, length};
 ghost use Rattle.in_compile.specs.Templates.{AreTemplatesOf};
 
 use crate::sheet::Sheet;
+use in_arena::CellClass;
 use in_check::Checked;
 use in_compile::{Joint, Need, Template, Templates, compile};
 use in_symbols::SymbolNo;
 
 pub fn add_need(sheet: &mut Sheet, need: Need) {
-    let numbers = [need.small as u64, need.large as u64, need.wide as u64];
+    let numbers = CellClass::ALL.map(|class| need.of(class) as u64);
     sheet.fill("# small, # large, # wide\n", &numbers);
 }
 

@@ -1,5 +1,5 @@
 -- The lemmas that proofs of other crates cite. They import this module alone, so all others may be renamed and cut anew.
-pub use Rattle.in_reducer.proofs.Cells.AsMany.{as_many_of}
+pub use Rattle.in_reducer.proofs.Cells.AsMany.{agents_as_many, as_many_of}
 pub use Rattle.in_reducer.proofs.Cells.AtRest.{agents_same, rests}
 pub use Rattle.in_reducer.proofs.Starts.Accepted.{few_ports, net_over_at, net_there_at, one_rule}
 pub use Rattle.in_reducer.proofs.Pairs.Queues.{agent_numbers, all_classes, as_many, numbered, numbered_once, numbered_only, reducer_promised, reducer_queue, short_queue}

@@ -5,13 +5,12 @@ use Rattle.in_arena.specs.Changes.{HasAllCells, LeasedStay}
 use Rattle.in_arena.specs.Classes.{IsNumberOf}
 use Rattle.in_arena.specs.States.{State, Vacant, Leased, Live, IsLeased, places, word_of}
 use Rattle.in_arena.specs.declared.content.CellClass.{CellClass}
-use Rattle.in_arena.specs.declared.content.CellClass.TheVariants.{Small, Large, Wide}
 use Rattle.in_arena.specs.declared.content.End.{End}
 use Rattle.in_symbols.specs.Tables.{Tables, arity_of}
 use Rattle.in_net.specs.declared.nets.Cell.{Cell}
 use Rattle.in_net.specs.declared.nets.FreeEnd.{FreeEnd}
 use Rattle.in_compile.specs.declared.cells.Need.{Need}
-use Rattle.in_compile.specs.Cells.{is_of}
+use Rattle.in_compile.specs.Cells.{is_of, need_by}
 use Rattle.in_reducer.specs.Machines.{point_at}
 
 -- the agent in a cell
@@ -39,7 +38,7 @@ abbrev pub at_rest : ArenaView → ArenaView
 at_rest a = record { memory = a.memory; cells = a.cells; states = map rested a.states }
 
 abbrev pub vacant_in : ArenaView → Need
-vacant_in a = record { small = free_of a Small; large = free_of a Large; wide = free_of a Wide }
+vacant_in a = need_by (free_of a)
 
 -- no cell is on lease, and each live one is of the class of its agent's symbol
 pub record IsNetIn (t : Tables) (a : ArenaView) : Type 0 where

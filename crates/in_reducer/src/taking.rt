@@ -13,7 +13,7 @@ ghost use Rattle.in_reducer.specs.Taking.{AreAhead, AreBehind, HasRoomBesides, H
 ghost use Rattle.in_reducer.specs.Templates.{HasHeadsAt, IsTemplateAt};
 
 use crate::reducer::Reducer;
-use in_arena::CellNo;
+use in_arena::{CellClass, CellNo};
 use in_base::use_promise;
 use in_compile::{Need, Template, Templates};
 use in_symbols::SymbolNo;
@@ -121,9 +121,11 @@ impl<'a> Reducer<'a> {
         use_promise!(self.pairs());
         let need = templates.largest_need();
         let free = self.vacant();
-        times_in(need.small, free.small)
-            .min(times_in(need.large, free.large))
-            .min(times_in(need.wide, free.wide))
+        let mut many = u64::MAX;
+        for class in CellClass::ALL {
+            many = many.min(times_in(need.of(class), free.of(class)));
+        }
+        many
     }
 
     /// A number of next interactions, at most `most`, that surely have the cells that they need. It is 0 only if no pair

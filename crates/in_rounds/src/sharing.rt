@@ -28,17 +28,9 @@ pub(crate) fn share_of(free: Need, workers: u32, largest: Need, jobs: u32) -> Ne
     ensures share { IsShare workers result (count_of free) }
     ensures once { ((c : Class) → workers * count_of largest c ≤ count_of free c) → (c : Class) → count_of largest c ≤ count_of result c }
 {
-    let part = Need {
-        small: free.small / workers,
-        large: free.large / workers,
-        wide: free.wide / workers,
-    };
+    let part = Need::by_class(|class| free.of(class) / workers);
     if largest.first_short(part).is_some() {
         return Need::each(0);
     }
-    Need {
-        small: at_most(part.small, largest.small, jobs),
-        large: at_most(part.large, largest.large, jobs),
-        wide: at_most(part.wide, largest.wide, jobs),
-    }
+    Need::by_class(|class| at_most(part.of(class), largest.of(class), jobs))
 }

@@ -1,6 +1,5 @@
 use in_program::{Progress, Watch};
 use std::alloc::Global;
-use std::cmp::max;
 use std::io::Write;
 use std::time::{Clock, Duration, Instant};
 
@@ -37,9 +36,7 @@ pub struct Watching<'a, T, E> {
 fn with_most(seen: Option<Progress>, progress: Progress) -> Progress {
     let mut most = progress;
     if let Some(seen) = seen {
-        most.used.small = max(seen.used.small, progress.used.small);
-        most.used.large = max(seen.used.large, progress.used.large);
-        most.used.wide = max(seen.used.wide, progress.used.wide);
+        most.used = progress.used.or_more(seen.used);
     }
     most
 }

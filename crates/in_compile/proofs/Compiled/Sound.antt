@@ -1,13 +1,14 @@
 -- The member of a net is sound.
 use Rattle.std.proofs.Common.{◌≡◌, ◌⊎◌, inl, inr, ◌<◌, ◌≤◌, ◌+◌, ℕ, suc, Bool, true, false, cond, nat_eq, Option, Some, None, List, [], ◌∷◌, length, map, count_by, is_some, slice_get, refl, sym, ap, subst, ◌∙◌, arith}
 use Rattle.std.specs.Prelude.{option_map, option_and_then}
+use Rattle.std.proofs.lemmas.Bool.{eq-eqb, ne_eqb}
 use Rattle.std.proofs.lemmas.List.{length-map}
 use Rattle.std.proofs.lemmas.List.Sums.{sum_by-cons}
 use Rattle.std.proofs.lemmas.Option.{same_Some, slice_get-map, slice_get_past}
 use Rattle.in_base.proofs.Each.{all_at, at_index}
 use Rattle.in_arena.specs.declared.content.CellClass.{CellClass}
-use Rattle.in_arena.specs.declared.content.CellClass.TheVariants.{Small, Large, Wide}
 use Rattle.in_arena.specs.Classes.{Holds, holds, class_no}
+use Rattle.in_arena.proofs.Public.{same_class}
 use Rattle.in_symbols.specs.Tables.{Tables, arity_of}
 use Rattle.in_symbols.specs.declared.symbols.SymbolNo.{SymbolNo}
 use Rattle.in_net.specs.Built.{IsOver, IsCellOver}
@@ -25,6 +26,7 @@ use Rattle.in_compile.specs.Cells.{is_of, takes, count_of}
 use Rattle.in_compile.specs.Members.{AgentParts, AgentsFit, JointsLeadBack, MemberParts, joint_of, joint_at, has_class, IsMemberOf, IsSoundMember}
 use Rattle.in_compile.proofs.Compiled.Laid.{end_joint}
 use Rattle.in_compile.proofs.Compiled.OneTemplate.{held, one_class}
+use Rattle.in_compile.proofs.Needs.Classes.{is_class}
 
 -- ---- points and joints are the same
 
@@ -50,21 +52,12 @@ mapped_back (Some q) j h = ap (λ (z : Point). Some z) (sym (back_point q) ∙ a
 
 -- a number of ends has one class
 one_holds : (c d : CellClass) (n : ℕ) (b : Bool) → holds d n ≡ true → holds c n ≡ b → b ≡ nat_eq (class_no d) (class_no c)
-one_holds Small Small n b h g = sym g ∙ h
-one_holds Large Large n b h g = sym g ∙ h
-one_holds Wide Wide n b h g = sym g ∙ h
-one_holds c d n true h g = let e : c ≡ d = one_class n c d g h in subst (λ (x : CellClass). true ≡ nat_eq (class_no x) (class_no c)) e (own c)
+one_holds c d n b h g = go b g (is_class d c)
   where
-    own : (x : CellClass) → true ≡ nat_eq (class_no x) (class_no x)
-    own Small = refl
-    own Large = refl
-    own Wide = refl
-one_holds Small Large n false h g = refl
-one_holds Small Wide n false h g = refl
-one_holds Large Small n false h g = refl
-one_holds Large Wide n false h g = refl
-one_holds Wide Small n false h g = refl
-one_holds Wide Large n false h g = refl
+    go : (b : Bool) → holds c n ≡ b → (d ≡ c) ⊎ (d ≡ c → ⊥) → b ≡ nat_eq (class_no d) (class_no c)
+    go b g (inl e) = sym g ∙ ap (λ (x : CellClass). holds x n) (sym e) ∙ h ∙ sym (eq-eqb (class_no d) (class_no c) (ap class_no e))
+    go true g (inr apart) = absurd (apart (one_class n d c h g))
+    go false g (inr apart) = sym (ne_eqb (class_no d) (class_no c) (λ e. apart (same_class d c e)))
 
 -- two lists with the same results have the same count
 same_count : {X Y : Type 0} (f : X → Bool) (g : Y → Bool) (xs : List X) (ys : List Y) → ((k : ℕ) → option_map f (slice_get xs k) ≡ option_map g (slice_get ys k)) → count_by f xs ≡ count_by g ys

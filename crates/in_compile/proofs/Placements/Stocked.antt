@@ -1,6 +1,7 @@
 -- Cells that change one after another, and the lists of the cells of a bag.
 use Rattle.std.proofs.Common.{◌≡◌, ◌≢◌, ◌⊎◌, inl, inr, ◌≤◌, ◌<◌, ◌+◌, ◌*◌, ℕ, List, [], ◌∷◌, ◌++◌, length, get_or, set, Some, slice_get, refl, sym, ap, subst, ◌∙◌, length-append, get_or-set_same, get_or-set_other, arith}
 use Rattle.std.proofs.lemmas.Bool.{cases_eq, cases_lt}
+use Rattle.std.proofs.lemmas.Bool.Decides.{nat_tests}
 use Rattle.std.proofs.lemmas.List.{length-set, get_or_past, get_or-replicate}
 use Rattle.std.proofs.lemmas.Option.{slice_get_within}
 use Rattle.in_base.proofs.Each.{all_append, all_map}
@@ -8,36 +9,30 @@ use Rattle.in_base.proofs.Places.{kept_at, last_at, more_at}
 use Rattle.in_arena.specs.Arenas.{ArenaView, changed, free_of, state_at}
 use Rattle.in_arena.specs.Bags.{IsBagOf, IsInBag, LeasesTo, empty_bag}
 use Rattle.in_arena.specs.Changes.{AreListedOnce, HasAllCells, OneFewerIsFree, one_if_free}
-use Rattle.in_arena.specs.Classes.{classes, IsNumberOf}
+use Rattle.in_arena.specs.Classes.{class_no, classes, IsNumberOf}
 use Rattle.in_arena.specs.States.{State, Vacant, Leased, Live, IsLeased}
 use Rattle.in_arena.specs.declared.content.CellClass.{CellClass}
-use Rattle.in_arena.specs.declared.content.CellClass.TheVariants.{Small, Large, Wide}
 use Rattle.in_arena.specs.declared.content.CellNo.{CellNo}
-use Rattle.in_arena.proofs.Public.{empty_is_of, lease_to_takes_one, leased_or, stays, counts_change, number_inside, numbers_apart}
+use Rattle.in_arena.proofs.Public.{empty_is_of, lease_to_takes_one, leased_or, stays, counts_change, number_inside, numbers_apart, same_class}
 use Rattle.in_compile.specs.Listing.{of_class, IsListing, once_back, IsOnTheWay}
 use Rattle.in_compile.specs.Stocks.{with_all, Adds, Regains}
+use Rattle.in_compile.proofs.Needs.Classes.{is_class}
 
 -- ---- classes
 
 pub of_itself : (c : CellClass) (n : ℕ) → of_class c n c ≡ n
-of_itself Small n = refl
-of_itself Large n = refl
-of_itself Wide n = refl
+of_itself c n = grind (arith, nat_tests)
 
 -- another class, without cells
 abbrev Other : CellClass → CellClass → Type 0
 Other c d = (d ≡ c → ⊥) × ((n : ℕ) → of_class c n d ≡ 0)
 
 pub same_or_other : (c d : CellClass) → (d ≡ c) ⊎ ((d ≡ c → ⊥) × ((n : ℕ) → of_class c n d ≡ 0))
-same_or_other Small Small = inl refl
-same_or_other Small Large = inr ((λ e. cc), (λ n. refl))
-same_or_other Small Wide = inr ((λ e. cc), (λ n. refl))
-same_or_other Large Small = inr ((λ e. cc), (λ n. refl))
-same_or_other Large Large = inl refl
-same_or_other Large Wide = inr ((λ e. cc), (λ n. refl))
-same_or_other Wide Small = inr ((λ e. cc), (λ n. refl))
-same_or_other Wide Large = inr ((λ e. cc), (λ n. refl))
-same_or_other Wide Wide = inl refl
+same_or_other c d = go (is_class d c)
+  where
+    go : (d ≡ c) ⊎ (d ≡ c → ⊥) → (d ≡ c) ⊎ ((d ≡ c → ⊥) × ((n : ℕ) → of_class c n d ≡ 0))
+    go (inl e) = inl e
+    go (inr apart) = let other : class_no c ≡ class_no d → ⊥ = λ e. apart (sym (same_class c d e)) in inr (apart, λ n. grind (arith, nat_tests, other))
 
 -- ---- states
 

@@ -1,18 +1,18 @@
 -- If no cell is on lease, and each live one is of the class of its agent's symbol, free cells and agents of a class make up its cells.
-use Rattle.std.proofs.Common.{◌≡◌, ◌⊎◌, inl, inr, ◌<◌, ◌≤◌, ◌+◌, ◌*◌, ℕ, zero, suc, Bool, true, false, cond, Option, Some, List, [], ◌∷◌, length, map, take, drop, get_or, count_by, refl, sym, ap, subst, ◌∙◌, length-drop, arith}
+use Rattle.std.proofs.Common.{◌≡◌, ◌⊎◌, inl, inr, ◌<◌, ◌≤◌, ◌+◌, ◌*◌, ℕ, zero, suc, Bool, true, false, cond, Option, Some, List, [], ◌∷◌, length, map, take, drop, get_or, count_by, refl, sym, ap, subst, ◌∙◌, length-drop, suc-mul, arith}
 use Rattle.std.proofs.lemmas.Bool.{cases_lt}
 use Rattle.std.proofs.lemmas.List.{get_or-drop}
 use Rattle.std.proofs.lemmas.List.Sums.{sum_by-cons}
+use Rattle.std.proofs.lemmas.Nat.{mul-le}
 use Rattle.in_arena.specs.Arenas.{ArenaView, free_of, state_at}
 use Rattle.in_arena.specs.Classes.{class_no, IsNumberOf}
 use Rattle.in_arena.specs.States.{State, Vacant, Leased, Live, IsLeased, is_vacant, word_of}
 use Rattle.in_arena.specs.declared.content.CellClass.{CellClass}
-use Rattle.in_arena.specs.declared.content.CellClass.TheVariants.{Small, Large, Wide}
 use Rattle.in_symbols.specs.Tables.{Tables}
 use Rattle.in_net.specs.declared.nets.Cell.{Cell}
 use Rattle.in_arena.proofs.Public.{class_of_number}
 use Rattle.in_symbols.specs.Tables.{arity_of}
-use Rattle.in_compile.proofs.Public.{one_class}
+use Rattle.in_compile.proofs.Public.{counted_by, number_below_all, one_class}
 use Rattle.in_compile.specs.Cells.{is_of, takes, agents_of, count_of}
 use Rattle.in_reducer.specs.Standing.{agent_in, agents_in, at_rest, vacant_in, IsNetIn}
 use Rattle.in_reducer.proofs.Cells.AtRest.{agents_same}
@@ -81,14 +81,14 @@ get_or-past (x ∷ xs) (suc i) d l = get_or-past xs i d (omega (arith, l))
 
 module _ (cells : ℕ) where
   rest_of : (c : CellClass) (s : ℕ) → class_no c * cells ≡ s → (class_no c + 1) * cells ≡ s + cells
-  rest_of Small s e = omega (arith, e)
-  rest_of Large s e = omega (arith, e)
-  rest_of Wide s e = omega (arith, e)
+  rest_of c s e = let next = suc-mul (class_no c) cells in omega (arith, e, next)
 
   within_all : (c : CellClass) (s all : ℕ) → class_no c * cells ≡ s → all ≡ 3 * cells → s + cells ≤ all
-  within_all Small s all e f = omega (arith, e, f)
-  within_all Large s all e f = omega (arith, e, f)
-  within_all Wide s all e f = omega (arith, e, f)
+  within_all c s all e f =
+      let low = number_below_all c in
+      let these : (class_no c + 1) * cells ≤ 3 * cells = mul-le (class_no c + 1) cells 3 cells (let z : class_no c + 1 ≤ 3 = omega (arith, low) in z) (let z : cells ≤ cells = omega arith in z) in
+      let next = rest_of c s e in
+      omega (arith, these, next, f)
 
 length_of_part : (n : ℕ) (xs : List State) → n ≤ length xs → length (take n xs) ≡ n
 length_of_part zero xs l = refl
@@ -161,9 +161,7 @@ module _ (t : Tables) (a : ArenaView) (h : IsNetIn t a) where
               subst (OneOf (taken c)) at (here c (state_at a (s + i)) (h.none (s + i) (omega (arith, long, l))) (λ w e. h.classed c (s + i) w number e))
 
   pub has_cells : (c : CellClass) → count_of (vacant_in a) c + agents_of t c (agents_in a) ≡ a.cells
-  has_cells Small = all_cells Small
-  has_cells Large = all_cells Large
-  has_cells Wide = all_cells Wide
+  has_cells c = ap (λ (k : ℕ). k + agents_of t c (agents_in a)) (counted_by (free_of a) c) ∙ all_cells c
 
 -- .. if a leased cell counts as free
 pub cells_at_rest : (t : Tables) (a : ArenaView) → IsNetIn t (at_rest a) → (c : CellClass) → count_of (vacant_in (at_rest a)) c + agents_of t c (agents_in a) ≡ a.cells

@@ -2,13 +2,13 @@
 use Rattle.std.proofs.Common.{◌≡◌, ◌<◌, ◌≤◌, ◌+◌, ◌-◌, ◌*◌, ℕ, zero, suc, Option, Some, None, IsSome, List, [], ◌∷◌, length, take, get_or, slice_get, sum_by, unwrap_or, refl, ap, ◌∙◌, arith}
 use Rattle.std.specs.Prelude.{is_some, option_map, option_and_then}
 use Rattle.std.proofs.lemmas.List.{take_all}
-use Rattle.std.proofs.lemmas.List.Sums.{sum_by-cons, sum_by_more, sum_by_more_le}
+use Rattle.std.proofs.lemmas.List.Sums.{sum_by_more, sum_by_more_le}
 use Rattle.std.proofs.lemmas.Option.{slice_get-map, unwrap_or-slice_get}
 use Rattle.in_arena.specs.Arenas.{ArenaView, free_of, state_at}
 use Rattle.in_arena.specs.Classes.{classes}
 use Rattle.in_arena.specs.States.{State, Vacant, Leased, Live, end_at}
 use Rattle.in_arena.specs.declared.content.CellClass.{CellClass}
-use Rattle.in_arena.specs.declared.content.CellClass.TheVariants.{Small, Large, Wide}
+use Rattle.in_arena.specs.declared.content.CellClass.TheVariants.{Small}
 use Rattle.in_arena.specs.declared.content.End.{End}
 use Rattle.in_symbols.specs.Tables.{Tables}
 use Rattle.in_net.specs.declared.nets.AgentNo.{AgentNo}
@@ -20,6 +20,7 @@ use Rattle.in_net.specs.Parts.{Parts, cell_in, symbol_in, partner_in}
 use Rattle.in_interaction.specs.Listing.{unlisted}
 use Rattle.in_interaction.specs.Queues.{agents_at}
 use Rattle.in_compile.specs.Cells.{agents_of}
+use Rattle.in_compile.proofs.Public.{sum_at_most}
 use Rattle.in_reducer.specs.Machines.{point_at}
 use Rattle.in_reducer.specs.Standing.{agent_in, agents_in, leading_to, IsNetIn}
 use Rattle.in_reducer.proofs.Cells.Counted.{all_cells}
@@ -78,14 +79,6 @@ module _ (t : Tables) (a : ArenaView) (h : IsNetIn t a) where
   abbrev of_class : CellClass → ℕ
   of_class c = agents_of t c (agents_in a)
 
-  -- those of all classes
-  in_all : sum_by of_class classes ≡ of_class Small + of_class Large + of_class Wide
-  in_all =
-      let s = sum_by-cons of_class Small (Large ∷ Wide ∷ []) in
-      let l = sum_by-cons of_class Large (Wide ∷ []) in
-      let w = sum_by-cons of_class Wide [] in
-      omega (arith, s, l, w)
-
   -- the cells of one class more that aren't free have agents
   module _ (k agents cells free : ℕ) (low : k < length classes) (before : agents ≡ sum_by of_class (take k classes)) (all : cells ≡ a.cells) (vacant : free ≡ free_of a (get_or classes k Small)) where
     here : cells - free ≡ of_class (get_or classes k Small)
@@ -99,11 +92,8 @@ module _ (t : Tables) (a : ArenaView) (h : IsNetIn t a) where
     no_more =
         let e = sum_by_more_le of_class classes k Small low in
         let f = here in
-        let g = in_all in
-        let s = all_cells t a h Small in
-        let l = all_cells t a h Large in
-        let w = all_cells t a h Wide in
-        omega (arith, e, f, g, before, s, l, w)
+        let g = sum_at_most of_class a.cells (λ c. (let z = all_cells t a h c in omega (arith, z))) in
+        omega (arith, e, f, g, before)
 
-  pub all_counted : (k agents : ℕ) → length classes ≤ k → agents ≡ sum_by of_class (take k classes) → agents ≡ of_class Small + of_class Large + of_class Wide
-  all_counted k agents past is = is ∙ ap (sum_by of_class) (take_all k classes past) ∙ in_all
+  pub all_counted : (k agents : ℕ) → length classes ≤ k → agents ≡ sum_by of_class (take k classes) → agents ≡ sum_by of_class classes
+  all_counted k agents past is = is ∙ ap (sum_by of_class) (take_all k classes past)

@@ -5,7 +5,6 @@ use Rattle.std.proofs.lemmas.List.{length-map, map-append, take-append-le}
 use Rattle.std.proofs.lemmas.Option.{same_Some}
 use Rattle.in_arena.specs.Arenas.{ArenaView, NoneLeased, state_at}
 use Rattle.in_arena.specs.States.{State, Vacant, Leased, Live, places, end_at, word_of}
-use Rattle.in_arena.specs.declared.content.CellClass.TheVariants.{Small, Large, Wide}
 use Rattle.in_arena.specs.declared.content.End.{End}
 use Rattle.in_symbols.specs.declared.symbols.PortType.{PortType}
 use Rattle.in_symbols.specs.declared.symbols.SymbolNo.{SymbolNo}
@@ -32,6 +31,7 @@ use Rattle.in_cells.specs.Cutting.{IsCutAt, Shows}
 use Rattle.in_cells.proofs.Public.{stands_some}
 use Rattle.in_order.specs.Leading.{IsCutOnce}
 use Rattle.in_order.proofs.Public.{cut_once_is_sound}
+use Rattle.in_compile.specs.Cells.{need_by}
 use Rattle.in_reducer.specs.declared.body.Body.{Body}
 use Rattle.in_reducer.specs.declared.body.OwnEnd.{OwnEnd}
 use Rattle.in_reducer.specs.declared.body.OwnEnd.TheVariants.{Cut}
@@ -289,7 +289,7 @@ module _ (r : Body) (k : KeepsNet r) (c i : ℕ) (can : CanCut (reducer_view r) 
       here = refl;
       names = same_names gs list listed ∙ ap (map (λ (f : FreeEnd). f.name)) all_free ∙ map-append (λ (f : FreeEnd). f.name) fs (ends_of kind ∷ ends_of (opposite kind) ∷ []) ∙ ap (λ (ns : List (List ℕ)). ns ++ ([] ∷ [] ∷ [])) (sym (same_names fs r.ends.items fits));
       queue = refl;
-      vacant = ap vacant_in (rests b (still_unleased r.arena b (kept_alike r.arena b kept) none)) ∙ (λ j. record { small = kept.free Small j; large = kept.free Large j; wide = kept.free Wide j }) ∙ ap vacant_in (sym (rests r.arena none));
+      vacant = ap vacant_in (rests b (still_unleased r.arena b (kept_alike r.arena b kept) none)) ∙ (λ j. need_by (λ c. kept.free c j)) ∙ ap vacant_in (sym (rests r.arena none));
     }
 
 -- the free ends are the program's, or cut ones, as before

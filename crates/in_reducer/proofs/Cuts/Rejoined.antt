@@ -5,7 +5,7 @@ use Rattle.std.proofs.lemmas.List.{append-nil, length-map, map-append, take-map}
 use Rattle.std.proofs.lemmas.Option.{same_Some}
 use Rattle.in_arena.specs.Arenas.{ArenaView, NoneLeased, state_at}
 use Rattle.in_arena.specs.States.{word_of}
-use Rattle.in_arena.specs.declared.content.CellClass.TheVariants.{Small, Large, Wide}
+use Rattle.in_arena.specs.declared.content.CellClass.TheVariants.{Small}
 use Rattle.in_arena.specs.declared.content.End.{End}
 use Rattle.in_symbols.specs.declared.symbols.PortType.{PortType}
 use Rattle.in_symbols.specs.declared.symbols.SymbolNo.{SymbolNo}
@@ -28,6 +28,7 @@ use Rattle.in_cells.specs.Shown as shown_point
 use Rattle.in_cells.proofs.Public.{take_at, writes_end_point as end_point, point_end}
 use Rattle.in_cells.specs.Cutting.{Shows}
 use Rattle.in_order.specs.Leading.{IsJoinedOnce}
+use Rattle.in_compile.specs.Cells.{need_by}
 use Rattle.in_reducer.specs.declared.body.Body.{Body}
 use Rattle.in_reducer.specs.declared.body.OwnEnd.{OwnEnd}
 use Rattle.in_reducer.specs.Cutting.{CanJoin, JoinsLast, net_in}
@@ -361,7 +362,7 @@ module _ (r : Body) (k : KeepsNet r) (two : 2 ≤ length r.free.items) (own : �
       );
       made = added;
       queue = is;
-      vacant = ap vacant_in (rests b (still_unleased r.arena b (kept_alike r.arena b kept) none)) ∙ (λ j. record { small = kept.free Small j; large = kept.free Large j; wide = kept.free Wide j }) ∙ ap vacant_in (sym (rests r.arena none));
+      vacant = ap vacant_in (rests b (still_unleased r.arena b (kept_alike r.arena b kept) none)) ∙ (λ j. need_by (λ c. kept.free c j)) ∙ ap vacant_in (sym (rests r.arena none));
     }
 
     pub fewer_free : length new ≡ own

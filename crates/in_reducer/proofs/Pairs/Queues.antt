@@ -1,5 +1,5 @@
 -- The queue of a reducer is one of its net, and no longer than half the number of its agents.
-use Rattle.std.proofs.Common.{◌≡◌, ◌≢◌, ◌⊎◌, inl, inr, ◌≤◌, ◌+◌, ◌*◌, ℕ, zero, suc, Bool, true, false, cond, Option, Some, None, List, [], ◌∷◌, length, count_by, is_some, slice_get, refl, sym, ap, subst, ◌∙◌, arith}
+use Rattle.std.proofs.Common.{◌≡◌, ◌≢◌, ◌⊎◌, inl, inr, ◌≤◌, ◌+◌, ◌*◌, ℕ, zero, suc, Bool, true, false, cond, Option, Some, None, List, [], ◌∷◌, length, count_by, is_some, sum_by, slice_get, refl, sym, ap, subst, ◌∙◌, arith}
 use Rattle.std.specs.Prelude.{option_map}
 use Rattle.std.specs.List.{AllByRecursion}
 use Rattle.std.proofs.lemmas.Bool.Decides.{nat_tests}
@@ -7,7 +7,7 @@ use Rattle.std.proofs.lemmas.List.Sums.{sum_by-cons}
 use Rattle.std.proofs.lemmas.Option.{same_Some}
 use Rattle.in_base.specs.Lists.{IsAmong}
 use Rattle.in_arena.specs.Classes.{classes, holds}
-use Rattle.in_arena.specs.declared.content.CellClass.TheVariants.{Small, Large, Wide}
+use Rattle.in_arena.specs.declared.content.CellClass.{CellClass}
 use Rattle.in_syntax.specs.Grammar.{max_ports}
 use Rattle.in_symbols.specs.Tables.{Tables, arity_of, is_constructor}
 use Rattle.in_symbols.specs.declared.symbols.SymbolNo.{SymbolNo}
@@ -30,6 +30,7 @@ use Rattle.in_order.proofs.Public.{reducible_as_promised}
 use Rattle.in_interaction.specs.Queues.{IsQueueOf, agents_at}
 use Rattle.in_compile.specs.Cells as machines
 use Rattle.in_compile.specs.Cells.{takes}
+use Rattle.in_compile.proofs.Public.{sum_at_most}
 use Rattle.in_reducer.specs.Machines.{MachineParts, parts_of, plain_of}
 use Rattle.in_reducer.specs.Reducers.{IsReducer}
 use Rattle.in_reducer.proofs.Cells.AsMany as cells
@@ -62,28 +63,29 @@ numbered_only cs k among = go h.cell (subst (λ (z : ℕ). slice_get cs z ≡ So
     go None e holds = cc
     go (Some c) e holds = (c, e)
 
+-- the sum of two numbers of each class
+sums : (f g : CellClass → ℕ) → sum_by (λ c. f c + g c) classes ≡ sum_by f classes + sum_by g classes
+sums f g = omega arith
+
 -- each agent takes a cell of one class
 module _ (t : Tables) (few : HaveFewPorts t) where
-  one_class : (n : ℕ) → n ≤ max_ports → cond (holds Small (n + 1)) 1 0 + cond (holds Large (n + 1)) 1 0 + cond (holds Wide (n + 1)) 1 0 ≡ 1
+  one_class : (n : ℕ) → n ≤ max_ports → sum_by (λ c. cond (holds c (n + 1)) 1 0) classes ≡ 1
   one_class n l = grind (arith, nat_tests, l)
 
-  pub all_classes : (cs : List (Option Cell)) → count_by is_some cs ≡ machines.agents_of t Small cs + machines.agents_of t Large cs + machines.agents_of t Wide cs
-  all_classes [] = refl
-  all_classes (None ∷ cs) =
-      let a = sum_by-cons (λ c. cond (is_some c) 1 0) None cs in
-      let b = sum_by-cons (λ c. cond (takes t Small c) 1 0) None cs in
-      let d = sum_by-cons (λ c. cond (takes t Large c) 1 0) None cs in
-      let f = sum_by-cons (λ c. cond (takes t Wide c) 1 0) None cs in
-      let e = all_classes cs in
-      omega arith
-  all_classes (Some c ∷ cs) =
-      let a = sum_by-cons (λ c. cond (is_some c) 1 0) (Some c) cs in
-      let b = sum_by-cons (λ c. cond (takes t Small c) 1 0) (Some c) cs in
-      let d = sum_by-cons (λ c. cond (takes t Large c) 1 0) (Some c) cs in
-      let f = sum_by-cons (λ c. cond (takes t Wide c) 1 0) (Some c) cs in
-      let e = all_classes cs in
-      let g = one_class (arity_of t c.symbol.0) (few c.symbol.0) in
-      omega arith
+  in_one : (x : Option Cell) → sum_by (λ c. cond (takes t c x) 1 0) classes ≡ cond (is_some x) 1 0
+  in_one None = omega arith
+  in_one (Some a) = one_class (arity_of t a.symbol.0) (few a.symbol.0)
+
+  pub all_classes : (cs : List (Option Cell)) → count_by is_some cs ≡ sum_by (λ c. machines.agents_of t c cs) classes
+  all_classes [] = omega arith
+  all_classes (x ∷ cs) =
+      let all = sum_by-cons (λ c. cond (is_some c) 1 0) x cs in
+      let here = in_one x in
+      let rest = all_classes cs in
+      let sum = sums (λ c. cond (takes t c x) 1 0) (λ c. machines.agents_of t c cs) in
+      let each : sum_by (λ c. machines.agents_of t c (x ∷ cs)) classes ≡ sum_by (λ c. cond (takes t c x) 1 0 + machines.agents_of t c cs) classes =
+      λ i. sum_by (λ c. sum_by-cons (λ y. cond (takes t c y) 1 0) x cs i) classes in
+      omega (arith, all, here, rest, sum, each)
 
 -- ---- lists of pairs
 
@@ -221,10 +223,8 @@ module _ (m : MachineParts) (h : IsReducer m) where
   pub few_agents : count_by is_some m.agents ≤ length classes * h.cells.0
   few_agents =
       let a = all_classes m.program.tables (few_ports h.accepted.0 m.program h.accepted.1) m.agents in
-      let s = h.cells.2 Small in
-      let l = h.cells.2 Large in
-      let w = h.cells.2 Wide in
-      omega arith
+      let each = sum_at_most (λ c. machines.agents_of m.program.tables c m.agents) h.cells.0 (λ c. (let all = h.cells.2 c in omega (arith, all))) in
+      omega (arith, a, each)
 
   pub short_queue : 2 * length m.queue ≤ length classes * h.cells.0
   short_queue = let a = few_agents in let b = half_of m.program (parts_of m) reducer_promised m.queue h.queue in omega arith

@@ -6,7 +6,6 @@ use Rattle.in_arena.specs.Arenas.{ArenaView, NoneLeased, free_of, state_at}
 use Rattle.in_arena.specs.Classes.{classes, Holds, holds, IsNumberOf, least, width}
 use Rattle.in_arena.specs.States.{State, Vacant, Leased, Live, IsLeased, IsLive, places, word_of}
 use Rattle.in_arena.specs.declared.content.CellClass.{CellClass}
-use Rattle.in_arena.specs.declared.content.CellClass.TheVariants.{Small, Large, Wide}
 use Rattle.in_arena.specs.declared.content.CellNo.{CellNo}
 use Rattle.in_arena.proofs.Public.{numbers_apart, live_in}
 use Rattle.in_symbols.specs.Tables.{Tables, arity_of}
@@ -22,16 +21,12 @@ use Rattle.in_reducer.proofs.Cells.AtRest.{all_at_rest, rests}
 use Rattle.in_reducer.proofs.Cells.Counted.{cells_at_rest}
 use Rattle.in_reducer.proofs.Parts.SplitBefore as before
 use Rattle.in_reducer.proofs.Starts.StartNet.{all_free, empty_all, empty_none, no_word}
+use Rattle.in_reducer.proofs.Steps.Stepped.{free_is}
 use Rattle.in_reducer.proofs.Steps.StillNet.{IsGood, good_of, good_vacant, net_in as net_stays}
 
 -- the free cells of an arena without leases
 pub vacant_is : (a : ArenaView) → NoneLeased a → (c : CellClass) → count_of (vacant_in (at_rest a)) c ≡ free_of a c
-vacant_is a none c = ap (λ (b : ArenaView). count_of (vacant_in b) c) (rests a none) ∙ free_is c
-  where
-    free_is : (c : CellClass) → count_of (vacant_in a) c ≡ free_of a c
-    free_is Small = refl
-    free_is Large = refl
-    free_is Wide = refl
+vacant_is a none c = ap (λ (b : ArenaView). count_of (vacant_in b) c) (rests a none) ∙ free_is a c
 
 pub to_holds : (c : CellClass) (n : ℕ) → Holds c n → holds c n ≡ true
 to_holds c n h = both_true (le-leb (least c) n h.0) (le-leb n (width c) h.1)

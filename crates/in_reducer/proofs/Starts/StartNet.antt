@@ -9,7 +9,6 @@ use Rattle.in_arena.specs.Changes.{HasAllCells}
 use Rattle.in_arena.specs.Classes.{classes}
 use Rattle.in_arena.specs.States.{State, Vacant, Leased, IsLeased, word_of, end_at, places}
 use Rattle.in_arena.specs.declared.content.CellClass.{CellClass}
-use Rattle.in_arena.specs.declared.content.CellClass.TheVariants.{Small, Large, Wide}
 use Rattle.in_arena.specs.declared.content.CellNo.{CellNo}
 use Rattle.in_arena.specs.declared.content.End.{End}
 use Rattle.in_arena.specs.declared.content.End.TheVariants as end
@@ -33,7 +32,7 @@ use Rattle.in_compile.specs.declared.joints.Joint.TheVariants.{ToAgent, ToBounda
 use Rattle.in_compile.specs.Cells.{agents_of, count_of, takes, IsEnough}
 use Rattle.in_compile.specs.Members.{MemberParts, IsMemberOf, IsSoundMember, joint_at, joint_of}
 use Rattle.in_compile.proofs.Public.Accepted as accepting
-use Rattle.in_compile.proofs.Public.{inside_of, joints_many, sound}
+use Rattle.in_compile.proofs.Public.{inside_of, joints_many, sound, sum_at_most}
 use Rattle.in_reducer.specs.Inside.{most_ends}
 use Rattle.in_reducer.specs.Interacting.{named}
 use Rattle.in_compile.specs.Putting.{IsPut}
@@ -129,10 +128,8 @@ module _ (text : List ℕ) (p : Program) (accepted : IsAccepted text p) (m : Mem
   few_pairs cells fits =
       let h = half_of p p.net (net_promised text p accepted) m.pairs of.pairs.pairs in
       let a = all_classes p.tables (few_ports text p accepted) p.net.cells in
-      let s = fits Small in
-      let l = fits Large in
-      let w = fits Wide in
-      omega (arith, h, a, s, l, w)
+      let each = sum_at_most (λ c. agents_of p.tables c p.net.cells) cells fits in
+      omega (arith, h, a, each)
 
   -- the cells that it needs are free if `cells` cells of each class are
   pub enough : (cells : ℕ) (free : CellClass → ℕ) → ((c : CellClass) → agents_of p.tables c p.net.cells ≤ cells) → ((c : CellClass) → free c ≡ cells) → IsEnough (count_of m.need) free

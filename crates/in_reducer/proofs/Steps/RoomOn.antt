@@ -3,7 +3,6 @@ use Rattle.std.proofs.Common.{◌≡◌, ◌≤◌, ◌<◌, ◌+◌, ◌*◌, �
 use Rattle.std.proofs.lemmas.Nat.{mul-le}
 use Rattle.std.proofs.lemmas.Option.{slice_get-get_or}
 use Rattle.in_arena.specs.declared.content.CellClass.{CellClass}
-use Rattle.in_arena.specs.declared.content.CellClass.TheVariants.{Small, Large, Wide}
 use Rattle.in_check.specs.Programs.{Program}
 use Rattle.in_compile.specs.declared.cells.Need.{Need}
 use Rattle.in_compile.specs.Cells.{IsEnough, count_of}
@@ -75,11 +74,9 @@ module _ (ts : TemplatesParts) (most : Need) (is : IsLargestNeed ts.templates mo
 
 -- ---- as many as that
 
--- the least of these is in each of them
-pub least_times : (need free : Need) (a b d many : ℕ) → a * need.small ≤ free.small → b * need.large ≤ free.large → d * need.wide ≤ free.wide → many ≤ a → many ≤ b → many ≤ d → (c : CellClass) → many * count_of need c ≤ count_of free c
-least_times need free a b d many s l w in_a in_b in_d Small = let these : many * need.small ≤ a * need.small = mul-le many need.small a need.small in_a (let z : need.small ≤ need.small = omega arith in z) in omega (arith, these, s)
-least_times need free a b d many s l w in_a in_b in_d Large = let these : many * need.large ≤ b * need.large = mul-le many need.large b need.large in_b (let z : need.large ≤ need.large = omega arith in z) in omega (arith, these, l)
-least_times need free a b d many s l w in_a in_b in_d Wide = let these : many * need.wide ≤ d * need.wide = mul-le many need.wide d need.wide in_d (let z : need.wide ≤ need.wide = omega arith in z) in omega (arith, these, w)
+-- fewer times are in the free cells, too
+pub fewer_times : (few many need free : ℕ) → few ≤ many → many * need ≤ free → few * need ≤ free
+fewer_times few many need free le fits = let these : few * need ≤ many * need = mul-le few need many need le (let z : need ≤ need = omega arith in z) in omega (arith, these, fits)
 
 pub fewer_have_room : (m : MachineParts) (few many : ℕ) → few ≤ many → HasRoomOn many m → HasRoomOn few m
 fewer_have_room m few many le room k n low run some = room k n (let z : k < many = omega (arith, low, le) in z) run some

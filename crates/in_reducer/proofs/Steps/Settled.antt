@@ -8,14 +8,15 @@ use Rattle.in_arena.specs.Changes.{HasAllCells, one_if_free}
 use Rattle.in_arena.specs.Classes.{class_no, IsNumberOf}
 use Rattle.in_arena.specs.States.{State, Vacant, Leased, Live, word_of}
 use Rattle.in_arena.specs.declared.content.CellClass.{CellClass}
-use Rattle.in_arena.specs.declared.content.CellClass.TheVariants.{Small, Large, Wide}
 use Rattle.in_arena.specs.declared.content.CellNo.{CellNo}
 use Rattle.in_arena.proofs.Public.{leased_or, counts_change, number_inside}
 use Rattle.in_compile.specs.Cells.{count_of}
+use Rattle.in_compile.specs.Listing.{of_class}
 use Rattle.in_compile.specs.Members.{AgentParts, MemberParts, IsSoundMember, has_class}
 use Rattle.in_compile.specs.Placing.{PlacedParts, IsPlacedMember}
 use Rattle.in_compile.specs.Stocks.{Regains}
 use Rattle.in_compile.specs.Putting.{IsPut}
+use Rattle.in_compile.proofs.Public.{of_itself, same_or_other}
 use Rattle.in_reducer.specs.Standing.{at_rest, rested}
 use Rattle.in_reducer.proofs.Cells.AtRest.{as_many}
 
@@ -54,15 +55,11 @@ rested_none (x ∷ xs) (suc n) l e = rested_none xs n (omega (arith, l)) e
 
 -- the number that one more cell adds to a class
 one_more : (c d : CellClass) (before after : ℕ) → (c ≡ d → before + 1 ≡ after) → ((c ≡ d → ⊥) → before ≡ after) → cond (nat_eq (class_no d) (class_no c)) 1 0 + before ≡ after
-one_more Small Small before after same other = let e = same refl in omega (arith, e)
-one_more Small Large before after same other = let f = other (λ e. (let g : class_no Small ≡ class_no Large = ap class_no e in omega (arith, g))) in omega (arith, f)
-one_more Small Wide before after same other = let f = other (λ e. (let g : class_no Small ≡ class_no Wide = ap class_no e in omega (arith, g))) in omega (arith, f)
-one_more Large Small before after same other = let f = other (λ e. (let g : class_no Large ≡ class_no Small = ap class_no e in omega (arith, g))) in omega (arith, f)
-one_more Large Large before after same other = let e = same refl in omega (arith, e)
-one_more Large Wide before after same other = let f = other (λ e. (let g : class_no Large ≡ class_no Wide = ap class_no e in omega (arith, g))) in omega (arith, f)
-one_more Wide Small before after same other = let f = other (λ e. (let g : class_no Wide ≡ class_no Small = ap class_no e in omega (arith, g))) in omega (arith, f)
-one_more Wide Large before after same other = let f = other (λ e. (let g : class_no Wide ≡ class_no Large = ap class_no e in omega (arith, g))) in omega (arith, f)
-one_more Wide Wide before after same other = let e = same refl in omega (arith, e)
+one_more c d before after same other = go (same_or_other d c)
+  where
+    go : (c ≡ d) ⊎ ((c ≡ d → ⊥) × ((n : ℕ) → of_class d n c ≡ 0)) → of_class d 1 c + before ≡ after
+    go (inl e) = let one = ap (of_class d 1) e ∙ of_itself d 1 in let f = same e in omega (arith, one, f)
+    go (inr o) = let none = o.1 1 in let f = other o.0 in omega (arith, none, f)
 
 -- agents that have different free cells of their classes are no more than are free
 they_fit : (a : ArenaView) → HasAllCells a → (xs : List AgentParts) (ns : List CellNo) → length ns ≡ length xs

@@ -5,7 +5,7 @@ use Rattle.std.proofs.lemmas.List.{length-map, length-reverse, map-append, rever
 use Rattle.std.proofs.lemmas.Option.{same_Some, slice_get_within}
 use Rattle.in_arena.specs.Arenas.{ArenaView, NoneLeased, free_of}
 use Rattle.in_arena.specs.declared.content.CellClass.{CellClass}
-use Rattle.in_arena.specs.declared.content.CellClass.TheVariants.{Small, Large, Wide}
+use Rattle.in_arena.specs.declared.content.CellClass.TheVariants.{Small}
 use Rattle.in_arena.specs.declared.content.CellNo.{CellNo}
 use Rattle.in_arena.specs.declared.content.End.{End}
 use Rattle.in_symbols.specs.declared.symbols.SymbolNo.{SymbolNo}
@@ -33,6 +33,7 @@ use Rattle.in_compile.specs.declared.cells.Need.{Need}
 use Rattle.in_compile.specs.Cells.{agents_of, count_of}
 use Rattle.in_compile.specs.Members.{AgentParts}
 use Rattle.in_compile.specs.Templates.{TemplateParts}
+use Rattle.in_compile.proofs.Public.{counted_by}
 use Rattle.in_compile.proofs.Public.Accepted as rules
 use Rattle.in_compile.proofs.Public.Sound as members
 use Rattle.in_reducer.specs.declared.body.Body.{Body}
@@ -63,9 +64,7 @@ pub turned_back : {X Y : Type 0} (f : X → Y) (xs : List X) → reverse (map f 
 turned_back f xs = sym (map_reverse f (reverse xs)) ∙ ap (map f) (reverse-reverse xs)
 
 pub free_is : (a : ArenaView) (c : CellClass) → count_of (vacant_in a) c ≡ free_of a c
-free_is a Small = refl
-free_is a Large = refl
-free_is a Wide = refl
+free_is a c = counted_by (free_of a) c
 
 -- ---- before
 

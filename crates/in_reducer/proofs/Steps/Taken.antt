@@ -5,14 +5,13 @@ use Rattle.in_arena.specs.Arenas.{ArenaView, changed, free_of, state_at}
 use Rattle.in_arena.specs.Changes.{HasAllCells, one_if_free}
 use Rattle.in_arena.specs.States.{State, Vacant, Leased, Live, IsLive}
 use Rattle.in_arena.specs.declared.content.CellClass.{CellClass}
-use Rattle.in_arena.specs.declared.content.CellClass.TheVariants.{Small, Large, Wide}
 use Rattle.in_arena.specs.declared.content.CellNo.{CellNo}
 use Rattle.in_arena.specs.declared.content.End.{End}
 use Rattle.in_arena.proofs.Public.{class_of_number, counts_change, live_inside}
 use Rattle.in_compile.specs.Cells.{count_of}
 use Rattle.in_compile.specs.Members.{AgentParts, IsSoundMember, MemberParts}
 use Rattle.in_compile.specs.Putting.{AreBegunBelow, BeginsAgent}
-use Rattle.in_compile.proofs.Public.{begins, none_begun, one_more_begun, some_free}
+use Rattle.in_compile.proofs.Public.{begins, is_class, none_begun, one_more_begun, some_free}
 use Rattle.in_reducer.specs.declared.sides.Pair.{Pair}
 use Rattle.in_reducer.specs.Wiring.{AreLive, CanBegin, retired}
 
@@ -22,17 +21,6 @@ one_or_none : (x : State) → one_if_free x ≤ 1
 one_or_none Vacant = omega arith
 one_or_none Leased = omega arith
 one_or_none (Live word ends) = omega arith
-
-is_class : (c d : CellClass) → (c ≡ d) ⊎ (c ≡ d → ⊥)
-is_class Small Small = inl refl
-is_class Small Large = inr (λ e. cc)
-is_class Small Wide = inr (λ e. cc)
-is_class Large Small = inr (λ e. cc)
-is_class Large Large = inl refl
-is_class Large Wide = inr (λ e. cc)
-is_class Wide Small = inr (λ e. cc)
-is_class Wide Large = inr (λ e. cc)
-is_class Wide Wide = inl refl
 
 pub more_free : (a : ArenaView) (n : ℕ) (c : CellClass) → HasAllCells a → n < length a.states → free_of a c ≤ free_of (changed a n Vacant) c
 more_free a n c all low =

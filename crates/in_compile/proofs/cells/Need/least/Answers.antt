@@ -1,8 +1,20 @@
-use Rattle.in_compile.proofs.Needs.Least.{no_less, one_class}
+use Rattle.std.proofs.Common.{◌≡◌, ◌⊎◌, inl, inr, ◌≤◌, sym, ◌∙◌, arith}
+use Rattle.std.proofs.lemmas.Bool.{cases_lt}
+use Rattle.in_arena.specs.declared.content.CellClass.{CellClass}
+use Rattle.in_compile.specs.Cells.{count_of}
+use Rattle.in_compile.proofs.Needs.Classes.{one_class_further}
 use Rattle.in_compile.proofs.cells.Need.least.Goals as goal
 
-pub returns-clause-least : goal.returns-clause-least
-returns-clause-least c = no_less c.args.self c.min.result c.min-2.result c.min.ensures c.min-2.ensures
-
-pub returns-clause-one : goal.returns-clause-one
-returns-clause-one c = one_class c.args.self c.min.result c.min-2.result c.min.ensures c.min-2.ensures
+pub loop-class-preserved : goal.loop-class-preserved
+loop-class-preserved c =
+    let i = c.loop-class.invariant in
+    let min = c.min-least.ensures in
+    let here = c.of.ensures in
+    record {
+      items = i.items;
+      least = one_class_further (λ d. c.min-least.result ≤ count_of c.args.self d) c.loop-class.class-index (λ d l. (let before = i.least d l in omega (arith, before, min))) (omega (arith, here, min));
+      one = elim (cases_lt c.of.result c.loop-class.least) [
+        | inl less ↦ (_, sym here ∙ omega (arith, less, min))
+        | inr le ↦ (i.one.0, i.one.1 ∙ omega (arith, le, min))
+      ];
+    }
