@@ -12,7 +12,7 @@ use std::alloc::Global;
 use std::thread::Threads;
 
 /// The number of pairs that are taken before the next test whether a phase pays.
-const TURN: u64 = 1_024;
+pub(crate) const TURN: u64 = 1_024;
 
 /// Does some interactions on this thread, at most `most`: in a large net of the newest pairs while half of the cells are free, otherwise of the oldest
 /// ones. Returns their number.

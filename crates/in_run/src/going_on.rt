@@ -3,6 +3,7 @@ ghost use Rattle.std.specs.Prelude.{◌≡◌, ◌⊎◌, ◌≤◌, ◌+◌};
 ghost use Rattle.in_run.specs.Advancing.{RunsAnyhow};
 ghost use Rattle.in_run.specs.Stops.{NoneHasRoom};
 
+use crate::advancing::TURN;
 use in_limits::Limits;
 use in_machine::Machine;
 
@@ -26,8 +27,8 @@ fn do_those_with_room(machine: &mut Machine, most: u64) -> u64
     count
 }
 
-/// With several workers, does interactions of pairs behind the first one, which has no room, so that the run stops as full only where no pair has
-/// room. Returns their number, which is 0 with one worker.
+/// With several workers, does some interactions of pairs behind the first one, which has no room, so that the run stops as full only where no pair
+/// has room: those of a number of pairs that have room, and then of the newest ones. Returns their number, which is 0 with one worker.
 pub(crate) fn go_on(machine: &mut Machine, limits: Limits, interactions: u64) -> u64
     requires { interactions ≤ limits.limit }
     ensures goes { RunsAnyhow machine.old result machine.new }
@@ -38,5 +39,10 @@ pub(crate) fn go_on(machine: &mut Machine, limits: Limits, interactions: u64) ->
     if limits.workers() == 1 {
         return 0;
     }
-    do_those_with_room(machine, limits.limit() - interactions)
+    let left = limits.limit() - interactions;
+    let count = do_those_with_room(machine, TURN.min(left));
+    if count == 0 {
+        return 0;
+    }
+    count + machine.take_newest(0, TURN.min(left - count))
 }
