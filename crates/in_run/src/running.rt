@@ -45,11 +45,7 @@ fn progress_of(machine: &Machine, cells: u32, interactions: u64, pace: &Pace) ->
         interactions,
         phases: pace.phases,
         threads: pace.threads,
-        used: Need {
-            small: cells.saturating_sub(free.small),
-            large: cells.saturating_sub(free.large),
-            wide: cells.saturating_sub(free.wide),
-        },
+        used: Need::by_class(|class| cells.saturating_sub(free.of(class))),
     }
 }
 

@@ -1,8 +1,8 @@
 // Bags for tests.
-ghost use Rattle.std.specs.Prelude.{◌≡◌, ◌<◌, length, slice_set};
+ghost use Rattle.std.specs.Prelude.{◌≡◌, ◌<◌, Some, length, slice_set};
 ghost use Rattle.in_arena.specs.States.{Live, Leased};
 ghost use Rattle.in_arena.specs.Arenas.{NoneLeased, changed, state_at};
-ghost use Rattle.in_arena.specs.Bags.{IsBagOf, IsFor, IsInBag};
+ghost use Rattle.in_arena.specs.Bags.{IsBagOf, IsFor, IsInBag, LeasesTo};
 ghost use Rattle.in_arena.specs.Classes.{Holds};
 ghost use Rattle.in_arena.specs.EndWords.{HaveWords, numbers};
 
@@ -38,6 +38,14 @@ pub fn bag_each(rt: &impl Abort, arena: &mut Arena, count: u32)
     bag_all(rt, arena, &mut bag, CellClass::Wide, count);
 }
 
+// Leases a cell into a bag.
+fn lease_into(rt: &impl Abort, arena: &mut Arena, class: CellClass, bag: &mut Bag) -> CellNo
+    requires { IsBagOf bag.old arena.old }
+    ensures { LeasesTo arena.old class bag.old (Some result) arena.new bag.new }
+{
+    arena.lease_to(class, bag).expect(rt, "a free cell").no()
+}
+
 // A live cell that was written in a bag.
 pub fn make_in_bag(
     rt: &impl Abort,
@@ -50,10 +58,7 @@ pub fn make_in_bag(
     ensures { NoneLeased arena.new × (state_at arena.new result.0 ≡ Live symbol ends.now) }
 {
     let mut bag = arena.bag();
-    let cell = arena
-        .lease_to(class, &mut bag)
-        .expect(rt, "a free cell")
-        .no();
+    let cell = lease_into(rt, arena, class, &mut bag);
     expect_words(rt, symbol, ends);
     bag.write(cell, symbol, ends);
     arena.settle_from(&mut bag, cell);
@@ -75,10 +80,7 @@ pub fn make_in_two_bags(
 {
     let mut bag = arena.bag();
     let mut other = arena.bag();
-    let cell = arena
-        .lease_to(class, &mut bag)
-        .expect(rt, "a free cell")
-        .no();
+    let cell = lease_into(rt, arena, class, &mut bag);
     expect_words(rt, symbol, ends);
     bag.write(cell, symbol, ends);
     bag.move_to(cell, &mut other);
@@ -109,10 +111,7 @@ pub fn make_in_a_bag_elsewhere(
     ensures { NoneLeased arena.new × (state_at arena.new result.0 ≡ Live symbol ends.now) }
 {
     let mut bag = arena.bag();
-    let cell = arena
-        .lease_to(class, &mut bag)
-        .expect(rt, "a free cell")
-        .no();
+    let cell = lease_into(rt, arena, class, &mut bag);
     expect_words(rt, symbol, ends);
     let (mut bag, ()) = thread::join(
         rt,

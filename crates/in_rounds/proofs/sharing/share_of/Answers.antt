@@ -1,20 +1,11 @@
-use Rattle.std.proofs.Common.{◌≡◌, ◌≤◌, ◌/◌, ℕ, true, false, Option, Some, None, refl, sym, subst, ◌∙◌, arith}
+use Rattle.std.proofs.Common.{rules, ◌≡◌, ◌≤◌, ◌/◌, ℕ, true, false, Option, Some, None, sym, subst, ◌∙◌, arith}
 use Rattle.std.specs.Prelude.{MatchOption, is_some}
 use Rattle.std.proofs.lemmas.Nat.{le-div}
 use Rattle.std.proofs.Math.Nat.{mul_comm}
 use Rattle.in_arena.specs.declared.content.CellClass.{CellClass}
-use Rattle.in_arena.specs.declared.content.CellClass.TheVariants.{Small, Large, Wide}
 use Rattle.in_compile.specs.declared.cells.Need.{Need}
 use Rattle.in_compile.specs.Cells.{IsEnough, IsFirstShort, count_of}
 use Rattle.in_rounds.proofs.sharing.share_of.Goals as goal
-
-abbrev part_of : Need → ℕ → Need
-part_of free workers = record { small = free.small / workers; large = free.large / workers; wide = free.wide / workers }
-
-part_is : (free : Need) (workers : ℕ) (c : CellClass) → count_of (part_of free workers) c ≡ count_of free c / workers
-part_is free workers Small = refl
-part_is free workers Large = refl
-part_is free workers Wide = refl
 
 short_if : (o : Option CellClass) (need free : Need) → MatchOption o (IsEnough (count_of need) (count_of free)) (IsFirstShort (count_of need) (count_of free)) → is_some o ≡ true → (c : CellClass) × IsFirstShort (count_of need) (count_of free) c
 short_if None need free h e = absurd (let f : false ≡ true = e in cc)
@@ -23,12 +14,12 @@ short_if (Some c) need free h e = (c, h)
 pub returns-then-is_some-clause-once : goal.returns-then-is_some-clause-once
 returns-then-is_some-clause-once c all d =
     let w = c.args.workers in
-    let short = short_if c.first_short.result c.args.largest (part_of c.args.free w) c.first_short.ensures (sym c.is_some.ensures ∙ c.if-is_some.true) in
+    let short = short_if c.first_short.result c.args.largest c.by_class-part.result c.first_short.ensures (sym c.is_some.ensures ∙ c.if-is_some.true) in
     let k = short.0 in
     let l = count_of c.args.largest k in
     let fits = all k in
     let some = c.requires.some in
     let up = le-div l (count_of c.args.free k) w (omega (arith, some)) (subst (λ (z : ℕ). z ≤ count_of c.args.free k) (mul_comm w l) fits) in
-    let is = part_is c.args.free w k in
+    let is : count_of c.by_class-part.result k ≡ count_of c.args.free k / w = (let e = c.by_class-part.ensures k in search rules) in
     let less = short.1.0 in
     absurd (omega (arith, up, is, less))

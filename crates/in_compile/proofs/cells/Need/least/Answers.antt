@@ -1,6 +1,5 @@
-use Rattle.std.proofs.Common.{◌≡◌, ◌⊎◌, inl, inr, ◌≤◌, sym, ◌∙◌, arith}
+use Rattle.std.proofs.Common.{inl, inr, ◌≤◌, sym, ◌∙◌, arith}
 use Rattle.std.proofs.lemmas.Bool.{cases_lt}
-use Rattle.in_arena.specs.declared.content.CellClass.{CellClass}
 use Rattle.in_compile.specs.Cells.{count_of}
 use Rattle.in_compile.proofs.Needs.Classes.{one_class_further}
 use Rattle.in_compile.proofs.cells.Need.least.Goals as goal
