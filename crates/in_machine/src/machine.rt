@@ -5,6 +5,7 @@ ghost use Rattle.in_arena.specs.declared.content.CellClass.{CellClass};
 ghost use Rattle.in_compile.specs.Cells.{count_of};
 ghost use Rattle.in_reducer.specs.Limiting.{least_cells, most_cells};
 ghost use Rattle.in_reducer.specs.Machines.{plain_of};
+ghost use Rattle.in_reducer.specs.Parting.{ReducesTo};
 ghost use Rattle.in_reducer.specs.Steps.{HasRoomAt, StepsAt};
 ghost use Rattle.in_reducer.specs.Taking.{TakesNoLast};
 ghost use Rattle.in_reducer.specs.Same.{RunsUpToNumbers};
@@ -94,13 +95,14 @@ impl<'a> Machine<'a> {
 
     /// Does interactions of the last pair of the queue, one after another, at most `most`, the newest pair first: the newest agents are still in the
     /// cache, and the net stays small. It does fewer only if no pair is left, or the cells of the last one aren't free with `floor` more of each
-    /// class. If `floor` cells of each class are free before, they are after. Returns the number of interactions. The net is one that the program
-    /// reaches by as many interactions more. It takes no memory.
+    /// class. If `floor` cells of each class are free before, they are after. Returns the number of interactions. The net is one to which as many
+    /// interactions lead from this one, so the program reaches it by as many more. It takes no memory.
     pub fn take_newest(&mut self, floor: u32, most: u64) -> u64
         ensures phase { IsPhase self.old result self.new }
         ensures most { result ≤ most }
         ensures floor { ((c : CellClass) → floor ≤ count_of self.old.vacant c) → (c : CellClass) → floor ≤ count_of self.new.vacant c }
         ensures fewer { result < most → TakesNoLast floor self.new }
+        ensures reduces { ReducesTo self.old result self.new }
     {
         let count = self.reducer.take_newest(&self.templates, floor, most);
         use_promise!(self.reducer.pairs());

@@ -1,8 +1,10 @@
 // A machine's net is reduced in parts.
-ghost use Rattle.std.specs.Prelude.{◌≤◌, length};
-ghost use Rattle.in_phases.specs.Phases.{HasFree};
+ghost use Rattle.std.specs.Prelude.{◌≡◌, ◌≤◌, ◌<◌, length, count_by, is_some};
+ghost use Rattle.in_phases.specs.Phases.{AreCountsOfParts, HasFree};
 ghost use Rattle.in_phases.specs.Rooms.{KeepsRoom};
 ghost use Rattle.in_reducer.specs.Limiting.{most_cells};
+ghost use Rattle.in_reducer.specs.Parting.{ReducesTo};
+ghost use Rattle.in_reducer.specs.Taking.{TakesNoLast};
 ghost use Rattle.in_machine.specs.Phases.{IsPhase};
 
 use crate::machine::Machine;
@@ -17,7 +19,8 @@ use std::thread::Threads;
 ///
 /// The sharing is into at least one part, and `floor` cells of each class are free before. The room is used again, and grows if it is too small. A
 /// phase is never refused: if memory runs out, there are fewer parts, and if a thread can't be started, the caller does its part. It waits for its
-/// threads.
+/// threads. A net in one part is reduced until no pair is left, or the cells for the last one aren't free with `floor` more of each class, or `most`
+/// interactions are done.
 pub fn phase<R: Threads>(
     rt: &R,
     alloc: Global,
@@ -32,6 +35,10 @@ pub fn phase<R: Threads>(
     ensures most { result.interactions ≤ sharing.most }
     ensures free { HasFree machine.new sharing.floor }
     ensures room { KeepsRoom room.old room.new }
+    ensures reduces { ReducesTo machine.old result.interactions machine.new }
+    ensures parts { result.parts ≤ sharing.parts }
+    ensures counts { AreCountsOfParts result }
+    ensures whole { result.parts ≡ 1 → result.interactions < sharing.most → TakesNoLast sharing.floor machine.new }
 {
     let worked = reduce_in_parts(
         rt,
@@ -61,6 +68,8 @@ pub fn sample(
     ensures most { result.interactions ≤ sharing.most }
     ensures free { HasFree machine.new sharing.floor }
     ensures room { KeepsRoom room.old room.new }
+    ensures reduces { ReducesTo machine.old result.interactions machine.new }
+    ensures agents { result.agents ≤ count_by is_some machine.old.agents }
 {
     let sampled = reduce_a_part(
         alloc,

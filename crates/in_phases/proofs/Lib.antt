@@ -1,4 +1,5 @@
 mod Coming
+mod Counts
 mod CutTimes
 mod Gathered
 mod Places

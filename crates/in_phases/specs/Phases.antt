@@ -1,8 +1,9 @@
 -- A net that is reduced in parts. This project's own choice.
-use Rattle.std.specs.Prelude.{◌≡◌, ◌+◌, ◌≤◌, ℕ, List}
+use Rattle.std.specs.Prelude.{◌≡◌, ◌+◌, ◌*◌, ◌≤◌, ℕ, List}
 use Rattle.in_arena.specs.declared.content.CellClass.{CellClass}
 use Rattle.in_arena.specs.declared.content.CellNo.{CellNo}
 use Rattle.in_compile.specs.Cells.{agents_of, count_of}
+use Rattle.in_phases.specs.declared.phases.Worked.{Worked}
 use Rattle.in_phases.specs.declared.taking.Taken.{Taken}
 use Rattle.in_reducer.specs.declared.seam.Seam.{Seam}
 use Rattle.in_reducer.specs.Machines.{MachineParts}
@@ -13,6 +14,10 @@ use Rattle.in_reducer.specs.Reducers.{IsReducer}
 -- at least `count` cells of each class are free
 abbrev pub HasFree : MachineParts → ℕ → Type 0
 HasFree m count = (c : CellClass) → count ≤ count_of m.vacant c
+
+-- there is at least one part; the longest part did no more than all together, and no part did more than it
+abbrev pub AreCountsOfParts : Worked → Type 0
+AreCountsOfParts w = (1 ≤ w.parts) × (w.longest ≤ w.interactions) × (w.interactions ≤ w.parts * w.longest)
 
 -- after `cuts` cuts some agents were split off as a part, and the seam has room for it to come back
 pub record IsSplitBy (cut : MachineParts) (cuts size : ℕ) (seam : Seam) (part rest : MachineParts) : Type 0 where

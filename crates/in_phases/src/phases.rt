@@ -1,10 +1,11 @@
 // A net is reduced in parts.
 ghost use Rattle.std.specs.Prelude.{◌≡◌, ◌<◌, ◌≤◌, ◌+◌};
 ghost use Rattle.in_compile.specs.Templates.{AreTemplatesOf};
-ghost use Rattle.in_phases.specs.Phases.{HasFree};
+ghost use Rattle.in_phases.specs.Phases.{AreCountsOfParts, HasFree};
 ghost use Rattle.in_phases.specs.Rooms.{KeepsRoom};
 ghost use Rattle.in_reducer.specs.Limiting.{most_cells};
 ghost use Rattle.in_reducer.specs.Parting.{ReducesTo};
+ghost use Rattle.in_reducer.specs.Taking.{TakesNoLast};
 
 use crate::room::Room;
 use crate::taking::{bring_back, take_part};
@@ -39,6 +40,8 @@ fn alone(reducer: &mut Reducer, templates: &Templates, sharing: Sharing) -> Work
     ensures most { result.interactions ≤ sharing.most }
     ensures floor { HasFree reducer.new sharing.floor }
     ensures parts { result.parts ≡ 1 }
+    ensures counts { AreCountsOfParts result }
+    ensures fewer { result.interactions < sharing.most → TakesNoLast sharing.floor reducer.new }
 {
     let interactions = reducer.take_newest(templates, sharing.floor, sharing.most);
     Worked {
@@ -71,6 +74,7 @@ fn at_once<R: Threads>(
     ensures most { result.1.interactions ≤ rest.most }
     ensures floor { HasFree reducer.new rest.floor }
     ensures parts { result.1.parts ≤ rest.parts }
+    ensures counts { AreCountsOfParts result.1 }
     ensures room { KeepsRoom room.old room.new }
 {
     join_mut(
@@ -81,14 +85,15 @@ fn at_once<R: Threads>(
         { part.take_newest(templates, 0, most) },
         &mut || -> Worked
             requires { AreTemplatesOf reducer.now.program templates.now × (1 ≤ rest.parts) × (rest.share ≤ most_cells) × HasFree reducer.now rest.floor }
-            ensures { ReducesTo reducer.entry.now result.interactions reducer.exit.now × (result.interactions ≤ rest.most) × HasFree reducer.exit.now rest.floor × (result.parts ≤ rest.parts) × KeepsRoom room.entry.now room.exit.now }
+            ensures { ReducesTo reducer.entry.now result.interactions reducer.exit.now × (result.interactions ≤ rest.most) × HasFree reducer.exit.now rest.floor × (result.parts ≤ rest.parts) × KeepsRoom room.entry.now room.exit.now × AreCountsOfParts result }
         { reduce_in_parts(rt, alloc, reducer, templates, rest, room) },
     )
 }
 
 /// Reduces a net in parts, each in its own thread except the rest: newest pairs first. It is never refused: if memory or cells run out, there are
 /// fewer parts, and if a thread can't be started, its part is reduced after the rest. The agents of each part are open. The room is used again, and
-/// grows if it is too small. The sharing has at least one part, and the cells that have to stay free are free before.
+/// grows if it is too small. The sharing has at least one part, and the cells that have to stay free are free before. A net in one part is reduced until no
+/// pair is left, or the cells for the last one aren't free with `floor` more of each class, or `most` interactions are done.
 #[cycle(phases)]
 pub fn reduce_in_parts<R: Threads>(
     rt: &R,
@@ -107,6 +112,8 @@ pub fn reduce_in_parts<R: Threads>(
     ensures floor { HasFree reducer.new sharing.floor }
     ensures parts { result.parts ≤ sharing.parts }
     ensures room { KeepsRoom room.old room.new }
+    ensures counts { AreCountsOfParts result }
+    ensures whole { result.parts ≡ 1 → result.interactions < sharing.most → TakesNoLast sharing.floor reducer.new }
 {
     let pairs = reducer.pairs() / sharing.parts;
     if sharing.parts == 1 || pairs == 0 {

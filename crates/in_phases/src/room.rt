@@ -1,6 +1,6 @@
 // Lists that are used for one part after another.
 ghost use Rattle.std.specs.Prelude.{◌≡◌, ◌≤◌, length, OnOk};
-ghost use Rattle.in_phases.specs.Rooms.{KeepsRoom};
+ghost use Rattle.in_phases.specs.Rooms.{HasNoRoom, KeepsRoom};
 
 use crate::branch::Branch;
 use in_reducer::CellIndex;
@@ -16,7 +16,9 @@ pub struct Room {
 
 impl Room {
     /// Room for no number yet. It takes no memory.
-    pub fn new(alloc: Global) -> Room {
+    pub fn new(alloc: Global) -> Room
+        ensures { HasNoRoom result }
+    {
         Room {
             branch: Branch::empty(alloc),
             names: Vec::new(alloc),

@@ -1,5 +1,5 @@
 // One part of a net is reduced, to see what parts are worth.
-ghost use Rattle.std.specs.Prelude.{◌≤◌, length};
+ghost use Rattle.std.specs.Prelude.{◌≤◌, length, count_by, is_some};
 ghost use Rattle.in_compile.specs.Templates.{AreTemplatesOf};
 ghost use Rattle.in_phases.specs.Phases.{HasFree};
 ghost use Rattle.in_phases.specs.Rooms.{KeepsRoom};
@@ -39,6 +39,7 @@ pub fn reduce_a_part(
     ensures most { result.interactions ≤ sharing.most }
     ensures floor { HasFree reducer.new sharing.floor }
     ensures room { KeepsRoom room.old room.new }
+    ensures agents { result.agents ≤ count_by is_some reducer.old.agents }
 {
     let Some(mut taken) = take_part(
         alloc,

@@ -130,6 +130,7 @@ pub(crate) fn take_part<'a>(
     ensures part_templates { IfSome result (λ t. AreTemplatesOf t.part.program templates.now) }
     ensures room { KeepsRoom room.old room.new }
     ensures fits { IfSome result (λ t. length classes * t.cells ≤ length room.new.names.items) }
+    ensures branch { IfSome result (λ _. IsBranch reducer.old room.new.branch) }
 {
     use_promise!(reducer.pairs());
     let Ok(()) = gather(reducer, pairs, share, room) else {

@@ -2,6 +2,7 @@ use Rattle.std.proofs.Common.{sym, subst}
 use Rattle.in_check.specs.Programs.{Program}
 use Rattle.in_compile.specs.Templates.{AreTemplatesOf}
 use Rattle.in_reducer.specs.Machines.{MachineParts}
+use Rattle.in_reducer.specs.Parting.{ReducesTo}
 use Rattle.in_machine.specs.Phases.{IsPhase}
 use Rattle.in_machine.proofs.Phased.{phased}
 use Rattle.in_machine.proofs.phases.phase.Goals as goal
@@ -19,3 +20,6 @@ returns-clause-phase g c =
     let worked = c.reduce_in_parts-worked in
     subst (λ (m : MachineParts). IsPhase m worked.result.interactions worked.new.reducer) c.machine.view_is
     (phased old worked.new.reducer worked.result.interactions c.machine.invariant.0 c.pairs.ensures.reducer worked.ensures.reduces)
+
+pub returns-clause-reduces : goal.returns-clause-reduces
+returns-clause-reduces g c = subst (λ (m : MachineParts). ReducesTo m c.reduce_in_parts-worked.result.interactions c.reduce_in_parts-worked.new.reducer) c.machine.view_is c.reduce_in_parts-worked.ensures.reduces

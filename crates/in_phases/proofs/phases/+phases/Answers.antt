@@ -5,6 +5,7 @@ use Rattle.in_compile.specs.Cells.{agents_of}
 use Rattle.in_reducer.specs.Parting.{ReducesTo}
 use Rattle.in_reducer.proofs.Public.{reductions_go_on}
 use Rattle.in_phases.proofs.Coming.{comes_reduced}
+use Rattle.in_phases.proofs.Counts.{counts_with_one}
 use Rattle.in_phases.proofs.phases.+phases.Goals as goal
 
 pub reduce_in_parts-returns-in_default-clause-reduces : goal.reduce_in_parts-returns-in_default-clause-reduces
@@ -69,3 +70,10 @@ reduce_in_parts-returns-clause-floor g t c = λ d.
     let tables = ap (λ (p : Program). agents_of p.tables d part.agents) (rest ∙ split.program_rest ∙ sym split.program_part) in
     omega (arith, back, free, many, size, tables)
     )
+
+pub reduce_in_parts-returns-clause-counts : goal.reduce_in_parts-returns-clause-counts
+reduce_in_parts-returns-clause-counts g t c =
+    let max = c.max.ensures in
+    let w = c.at_once-one.result.1 in
+    let one = c.at_once-one.result.0 in
+    counts_with_one w one c.max.result c.at_once-one.ensures.counts (omega (arith, max)) (omega (arith, max)) (omega (arith, max))

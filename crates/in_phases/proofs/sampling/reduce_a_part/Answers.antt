@@ -4,6 +4,7 @@ use Rattle.in_compile.specs.Cells.{agents_of}
 use Rattle.in_reducer.specs.Parting.{ReducesTo}
 use Rattle.in_reducer.proofs.Public.{stays_reduce}
 use Rattle.in_phases.proofs.Coming.{comes_reduced}
+use Rattle.in_phases.proofs.Counts.{few_gathered}
 use Rattle.in_phases.proofs.sampling.reduce_a_part.Goals as goal
 
 pub bring_back-requires : goal.bring_back-requires
@@ -48,3 +49,9 @@ returns-clause-floor c = λ d.
     let tables = ap (λ (p : Program). agents_of p.tables d part.agents) (split.program_rest ∙ sym split.program_part) in
     omega (arith, back, free, many, size, tables)
     )
+
+pub returns-clause-agents : goal.returns-clause-agents
+returns-clause-agents c =
+    let b = c.take_part.new.room.branch in
+    let few = few_gathered c.args.reducer.now b.agents.items b.marks.items c.in-Some.ensures.branch in
+    omega (arith, few)

@@ -25,7 +25,7 @@ split-requires-clause-cuts c =
     omega (arith, more)
 
 pub returns-in_default : goal.returns-in_default
-returns-in_default c = record { taken = (stays_reduce c.args.reducer.now, c.requires.floor); templates = c.requires.templates; part_templates = tt; room = c.gather.ensures.grown; fits = tt }
+returns-in_default c = record { taken = (stays_reduce c.args.reducer.now, c.requires.floor); templates = c.requires.templates; part_templates = tt; room = c.gather.ensures.grown; fits = tt; branch = tt }
 
 pub join_up-requires : goal.join_up-requires
 join_up-requires c =
@@ -50,6 +50,7 @@ returns-in_default-split c =
         (let grown = c.gather.ensures.grown.1 in let lent = lent_back c.gather.new.room.names c.split.new.names (c.in_default-split.ensures.names ∙ ap length c.as_mut_slice-names.ensures.value) in omega (arith, grown, lent)),
       );
       fits = tt;
+      branch = tt;
     }
 
 pub overflow_add-floor : goal.overflow_add-floor
@@ -108,6 +109,7 @@ returns c =
             ),
       );
       fits = tt;
+      branch = tt;
     }
 
 -- a part and the rest are of the program
