@@ -1,5 +1,5 @@
 -- The counts of a phase, with one part more, and the number of the agents that are gathered.
-use Rattle.std.proofs.Common.{◌≡◌, ◌≢◌, inl, inr, ◌+◌, ◌*◌, ◌<◌, ◌≤◌, ℕ, zero, suc, Bool, true, Option, Some, None, IsSome, List, [], ◌∷◌, length, map, option_map, option_and_then, count_by, is_some, true≢false, slice_get, refl, sym, ap, subst, ◌∙◌, arith}
+use Rattle.std.proofs.Common.{◌≡◌, ◌≢◌, inl, inr, ◌+◌, ◌*◌, ◌<◌, ◌≤◌, ℕ, suc, Bool, Option, Some, None, IsSome, List, [], ◌∷◌, length, map, option_map, option_and_then, count_by, is_some, true≢false, slice_get, refl, sym, ap, subst, ◌∙◌, arith}
 use Rattle.std.specs.List.{AllByRecursion}
 use Rattle.std.proofs.lemmas.List.{length-map}
 use Rattle.std.proofs.lemmas.Nat.{mul-le, row_fits}
