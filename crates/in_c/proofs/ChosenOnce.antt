@@ -3,7 +3,6 @@
 use Rattle.std.proofs.Common.{◌≡◌, ◌≢◌, inl, inr, ℕ, zero, suc, List, [], ◌∷◌, length, take, count_by, is_some, Option, Some, None, Ok, Err, slice_get, sym, ◌∙◌, ap, subst, arith}
 use Rattle.std.proofs.lemmas.List.{length-map}
 use Rattle.in_syntax.specs.declared.faults.Fault.TheVariants.{Refused}
-use Rattle.in_arena.specs.declared.content.CellClass.TheVariants.{Small, Large, Wide}
 use Rattle.in_check.specs.Checking.{IsAccepted}
 use Rattle.in_check.specs.Laws.{AreOneProgram}
 use Rattle.in_check.specs.Programs.{Program}
@@ -15,7 +14,7 @@ use Rattle.in_reducer.specs.Runs.{Runs, at_start, then_step}
 use Rattle.in_reducer.specs.Same.{AreSame, IsSameMachine, RunsUpToNumbers}
 use Rattle.in_reducer.specs.Starts.{IsStart}
 use Rattle.in_reducer.specs.Steps.{HasRoomAt, StepsAt}
-use Rattle.in_reducer.proofs.Public.{all_classes, as_many_of, few_ports}
+use Rattle.in_reducer.proofs.Public.{agents_as_many}
 use Rattle.in_machine.specs.Machines.{IsMachine}
 use Rattle.in_machine.specs.Taking.{TakesNoFirst}
 use Rattle.in_machine.specs.Texts.{text_of}
@@ -118,14 +117,7 @@ module _ (q : Program) where
 
 module _ (m n : MachineParts) (machine : IsMachine m) (f : ℕ → ℕ) (same : IsSameMachine f m n) where
   as_many_agents : count_by is_some m.agents ≡ count_by is_some n.agents
-  as_many_agents =
-      let ports = few_ports machine.accepted.0 m.program machine.accepted.1 in
-      let a = all_classes m.program.tables ports m.agents in
-      let b = all_classes m.program.tables ports n.agents in
-      let s = as_many_of m.program.tables Small f (parts_of m) (parts_of n) same.net in
-      let l = as_many_of m.program.tables Large f (parts_of m) (parts_of n) same.net in
-      let w = as_many_of m.program.tables Wide f (parts_of m) (parts_of n) same.net in
-      omega (arith, a, b, s, l, w)
+  as_many_agents = agents_as_many f (parts_of m) (parts_of n) same.net
 
   as_many_pairs : length m.queue ≡ length n.queue
   as_many_pairs = sym (ap (λ (z : List (ℕ × ℕ)). length z) same.queue ∙ length-map m.queue _)

@@ -1,7 +1,6 @@
 -- Machines that are the same up to the numbers of their agents have one text.
-use Rattle.std.proofs.Common.{◌≡◌, ℕ, zero, suc, nat_eq, Option, List, [], ◌∷◌, map, count_by, is_some, slice_get, unwrap_or, refl, sym, ap, ◌∙◌, arith}
+use Rattle.std.proofs.Common.{◌≡◌, ℕ, zero, suc, nat_eq, Option, List, [], ◌∷◌, map, count_by, is_some, slice_get, unwrap_or, refl, sym, ap, ◌∙◌}
 use Rattle.std.specs.Prelude.{option_map}
-use Rattle.in_arena.specs.declared.content.CellClass.TheVariants.{Small, Large, Wide}
 use Rattle.in_symbols.specs.Names.{name_in}
 use Rattle.in_symbols.specs.Tables.{Tables}
 use Rattle.in_net.specs.declared.nets.FreeEnd.{FreeEnd}
@@ -12,7 +11,7 @@ use Rattle.in_check.proofs.Public.{nat_test, text_same}
 use Rattle.in_reducer.specs.Machines.{MachineParts, parts_of}
 use Rattle.in_machine.specs.Machines.{IsMachine}
 use Rattle.in_reducer.specs.Same.{IsSameMachine}
-use Rattle.in_reducer.proofs.Public.{all_classes, as_many_of, few_ports}
+use Rattle.in_reducer.proofs.Public.{agents_as_many}
 use Rattle.in_machine.proofs.Public.{machine_queue, machine_promised}
 use Rattle.in_machine.specs.Texts.{words_of, text_of}
 
@@ -29,14 +28,7 @@ module _ (m n : MachineParts) (machine : IsMachine m) (f : ℕ → ℕ) (same : 
   same_words = λ i. record { symbol = λ s. name_in s (same.program i).tables.names; free = λ k. same_name k i }
 
   same_depth : count_by is_some n.agents ≡ count_by is_some m.agents
-  same_depth =
-      let ports = few_ports machine.accepted.0 m.program machine.accepted.1 in
-      let a = all_classes m.program.tables ports m.agents in
-      let b = all_classes m.program.tables ports n.agents in
-      let s = as_many_of m.program.tables Small f (parts_of m) (parts_of n) same.net in
-      let l = as_many_of m.program.tables Large f (parts_of m) (parts_of n) same.net in
-      let w = as_many_of m.program.tables Wide f (parts_of m) (parts_of n) same.net in
-      omega (arith, a, b, s, l, w)
+  same_depth = sym (agents_as_many f (parts_of m) (parts_of n) same.net)
 
   pub same_texts : text_of m ≡ text_of n
   same_texts = sym (
