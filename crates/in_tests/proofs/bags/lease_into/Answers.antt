@@ -1,4 +1,4 @@
-use Rattle.std.proofs.Common.{Some, sym, subst}
+use Rattle.std.proofs.Common.{Some, ap, sym, subst, ◌∙◌}
 use Rattle.in_arena.specs.Bags.{LeasesTo}
 use Rattle.in_arena.specs.declared.content.CellNo.{CellNo}
 use Rattle.in_tests.proofs.Changes.{leased_in}
