@@ -1,5 +1,5 @@
-"""Runs with too few cells: the line of the stop, the same with any number of workers, and free cells and agents that make up all cells. And the
-figures of `inet run --stats`, among them the most cells in use; and what helps where a run has stopped early."""
+"""Runs with too few cells: the line of the stop, the same each time, and free cells and agents that make up all cells; several workers go on as
+long as a pair has room, so they do as many interactions as one at least. And the figures of `inet run --stats`, among them the most cells in use; and what helps where a run has stopped early."""
 import itertools
 import re
 from functools import partial
@@ -83,14 +83,43 @@ def wrong_sum_of_cells(answer, text, cells):
     return None if free < need and agents + free == cells else f"{agents} {kind} agents, need {need}, free {free}, of {cells} cells"
 
 
+def interactions(answer):
+    counts = re.findall(rb"^interactions: (\d+)$", answer.output, re.M)
+    return int(counts[0]) if counts else 0
+
+
+def wrong_count(answer, usual):
+    """What is wrong with the count of several workers beside that of one."""
+    few, least = interactions(answer), interactions(usual)
+    return None if few >= least else f"{few} interactions of several workers, {least} of one"
+
+
 def limited(program, name, text, cells):
-    """A program in `cells` cells: with one worker its cells add up, and each number of workers answers the same each time."""
+    """A program in `cells` cells: with each number of workers its cells add up, and the answer is the same each time."""
     words = ["run", "--cells", str(cells)]
-    usual = program.run(words, text)
-    yield f"{name} in {cells} cells: all cells", lambda: wrong_sum_of_cells(usual, text.decode(), cells)
-    for workers, time in itertools.product(WORKERS, range(1, TIMES + 1)):
-        run = partial(program.run, [*words, "--workers", str(workers)], text)
-        yield f"{name} in {cells} cells: {workers} workers, time {time}", answering(run, usual.status, usual.output)
+    one = program.run(words, text)
+    for workers in WORKERS:
+        usual = program.run([*words, "--workers", str(workers)], text)
+        told = f"{name} in {cells} cells, {workers} workers"
+        yield f"{told}: all cells", partial(wrong_sum_of_cells, usual, text.decode(), cells)
+        yield f"{told}: as many interactions as one", partial(wrong_count, usual, one)
+        for time in range(1, TIMES + 1):
+            run = partial(program.run, [*words, "--workers", str(workers)], text)
+            yield f"{told}, time {time}", answering(run, usual.status, usual.output)
+
+
+def wrong_stop_behind(program, workers, count, free):
+    """What is wrong with a run whose first pair never has room, while the pairs behind it have some."""
+    answer = program.run(["run", "--no-net", "--cells", str(FEWEST_CELLS), "--workers", str(workers)], behind_text())
+    wanted = f"interactions: {count}\nstop: full small need {FEWEST_CELLS + 1} free {free}\n".encode()
+    return None if (answer.status, answer.output) == (FULL, wanted) else f"{answer}; wanted: {wanted!r}"
+
+
+def behind_text():
+    """A pair that needs more cells than there are, before a sum that has room."""
+    many = "S(" * (FEWEST_CELLS + 1) + "x" + ")" * (FEWEST_CELLS + 1)
+    rules = text_of(NUMBERS, ROWS).decode().rpartition("net")[0].replace("rule", "symbol Grow : nat- {nat+};\nrule", 1)
+    return f"{rules}rule S[x] >< Grow[{many}];\nrule Z[] >< Grow[Z];\nnet (r : nat+, s : nat+) {{ S(Z) ~ Grow(r); S(S(Z)) ~ Add(Z, s); }}\n".encode()
 
 
 def wrong_figures(program, text):
@@ -156,6 +185,8 @@ def cells(program):
         run = partial(program.run, ["run", "--cells", str(FEWEST_CELLS)], text)
         yield f"sum of {number} and 0", answering(run, status, output.encode())
         yield from limited(program, f"sum of {number} and 0", text, FEWEST_CELLS)
+    for workers, count, free in ((1, 0, 8), (2, 3, 10), (64, 3, 10)):
+        yield f"pairs behind one without room, {workers} workers", partial(wrong_stop_behind, program, workers, count, free)
     for name, number in itertools.product(GROWING, (16, 17, 20, 25)):
         yield from limited(program, name, text_of(name, ROWS), number)
     for name, number in itertools.product(GROWING_EXAMPLES, (16, 17, 18, 20, 24, 32, 40)):
