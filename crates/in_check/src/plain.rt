@@ -7,6 +7,7 @@ ghost use Rattle.in_check.specs.Promises.{IsAsPromised};
 ghost use Rattle.in_check.specs.Systems.{system_of};
 
 use crate::checked::Checked;
+use in_base::use_promise;
 use in_interaction::interact;
 use in_net::{AgentNo, Net};
 use std::alloc::{AllocError, Global};
@@ -35,7 +36,7 @@ impl<'a> Plain<'a> {
         ensures starts { IfOk result (λ p. (p.program ≡ checked.now) × (p.net ≡ checked.now.net) × IsReachedBy p 0) }
         ensures promised { IfOk result (λ p. IsAsPromised (system_of p.program) (net_of p.net)) }
     {
-        checked.is_accepted();
+        use_promise!(checked.is_accepted());
         let net = checked.net().copy(alloc)?;
         Ok(Plain { checked, net })
     }
@@ -60,7 +61,7 @@ impl<'a> Plain<'a> {
         ensures promised { IsAsPromised (system_of self.new.program) (net_of self.new.net) }
     {
         let checked = self.checked;
-        checked.is_accepted();
+        use_promise!(checked.is_accepted());
         let (Some(one), Some(two)) = (self.net.symbol(a), self.net.symbol(b)) else {
             // Both are agents of the net, since they are an active pair.
             unreachable!()

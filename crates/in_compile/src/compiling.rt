@@ -9,6 +9,7 @@ use crate::member::Member;
 use crate::members::{member_of, template};
 use crate::template::Template;
 use crate::templates::Templates;
+use in_base::use_promise;
 use in_check::Checked;
 use in_cover::{RuleNo, RuleTable};
 use sqlite_items::Items;
@@ -18,7 +19,7 @@ use std::alloc::{AllocError, Global};
 fn templates_of(alloc: Global, checked: &Checked) -> Result<Items<Template>, AllocError>
     ensures { IfOk result (λ ts. HaveTemplates checked.now.tables checked.now.rules ts) }
 {
-    checked.is_accepted();
+    use_promise!(checked.is_accepted());
     let mut templates = Items::new(alloc);
     for number in 0..checked.rules() {
         let rule = checked.rule(RuleNo(number));
@@ -31,7 +32,7 @@ fn templates_of(alloc: Global, checked: &Checked) -> Result<Items<Template>, All
 fn numbers_of(alloc: Global, checked: &Checked) -> Result<RuleTable, AllocError>
     ensures { IfOk result (λ t. IsTableOf checked.now.tables checked.now.rules t) }
 {
-    checked.is_accepted();
+    use_promise!(checked.is_accepted());
     checked.numbers().copy(alloc)
 }
 
@@ -39,7 +40,7 @@ fn numbers_of(alloc: Global, checked: &Checked) -> Result<RuleTable, AllocError>
 fn start_of(alloc: Global, checked: &Checked) -> Result<Member, AllocError>
     ensures { IfOk result (λ m. IsMemberOf checked.now.tables checked.now.net m) }
 {
-    checked.is_accepted();
+    use_promise!(checked.is_accepted());
     member_of(alloc, checked.symbols(), checked.net())
 }
 

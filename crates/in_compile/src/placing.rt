@@ -16,6 +16,7 @@ use crate::member::Member;
 use crate::placed::Placed;
 use crate::stock::Stock;
 use in_arena::{Bag, CellIndex, EndWord};
+use in_base::use_promise;
 
 /// The end for a joint, if the agents have these cells.
 #[inline(always)]
@@ -41,7 +42,7 @@ fn take_cells(member: &Member, stock: &mut Stock, numbers: &mut Vec<CellIndex>, 
     ensures taken { AreTakenBelow member.now stock.old bag.old (length member.now.agents) stock.new numbers.new.items bag.new }
     ensures room { vec_capacity numbers.new ≡ vec_capacity numbers.old }
 {
-    member.is_sound();
+    use_promise!(member.is_sound());
     for agent in 0..member.agents() {
         let cell = stock.take(member.class(agent), bag);
         numbers.push_reserved(cell);
@@ -56,7 +57,7 @@ fn write_agent(member: &Member, numbers: &[CellIndex], bag: &mut Bag, agent: u32
     requires cell { (a : AgentParts) (n : Number) → slice_get member.now.agents agent ≡ Some a → slice_get numbers.now agent ≡ Some n → IsNumberOf bag.old.cells a.class n.0 × IsInBag bag.old n.0 }
     ensures { (a : AgentParts) (n : Number) → slice_get member.now.agents agent ≡ Some a → slice_get numbers.now agent ≡ Some n → bag.new ≡ changed bag.old n.0 (content numbers.now a) }
 {
-    member.is_sound();
+    use_promise!(member.is_sound());
     let cell = numbers[agent as usize];
     let places = member.places(agent);
     bag.begin(cell.no(), member.head(agent));
@@ -91,7 +92,7 @@ pub fn place_into(member: &Member, stock: &mut Stock, placed: &mut Placed)
     ensures takes { TakesCells member.now.need placed.new.cells stock.old stock.new }
     ensures same { AreOfOne placed.old.bag placed.new.bag × (placed.new.room ≡ placed.old.room) }
 {
-    member.is_sound();
+    use_promise!(member.is_sound());
     let Placed { numbers, bag } = placed;
     numbers.clear();
     take_cells(member, stock, numbers, bag);

@@ -14,6 +14,7 @@ use crate::member::Member;
 use crate::placed::Placed;
 use crate::placing::end_of;
 use in_arena::{Arena, CellClass, CellIndex, CellNo};
+use in_base::use_promise;
 
 impl Member {
     /// Makes a free cell live for the agent of that number: a cell of its class, with its symbol and its places, whose ends are open. Such a cell has
@@ -25,7 +26,7 @@ impl Member {
         requires free { (a : AgentParts) → slice_get self.now.agents agent ≡ Some a → 0 < free_of arena.old a.class }
         ensures { (a : AgentParts) → slice_get self.now.agents agent ≡ Some a → BeginsAgent a arena.old result.0 arena.new }
     {
-        self.is_sound();
+        use_promise!(self.is_sound());
         let begun = arena.begin(self.class(agent), self.head(agent));
         let Some(cell) = begun else {
             // A cell of that class is free.
@@ -44,7 +45,7 @@ impl Member {
         requires free { (a : AgentParts) → slice_get self.now.agents agent ≡ Some a → 0 < free_of (changed arena.old cell.0 Vacant) a.class }
         ensures { (a : AgentParts) → slice_get self.now.agents agent ≡ Some a → BeginsAgent a (changed arena.old cell.0 Vacant) result.0 arena.new }
     {
-        self.is_sound();
+        use_promise!(self.is_sound());
         if self.class(agent).number() == own.number() {
             return arena.renew(cell, self.head(agent));
         }
@@ -63,7 +64,7 @@ fn begin_all(member: &Member, arena: &mut Arena, numbers: &mut Vec<CellIndex>)
     ensures begun { AreBegunBelow member.now arena.old (length member.now.agents) arena.new numbers.new.items }
     ensures room { vec_capacity numbers.new ≡ vec_capacity numbers.old }
 {
-    member.is_sound();
+    use_promise!(member.is_sound());
     for agent in 0..member.agents() {
         let cell = member.begin(agent, arena);
         numbers.push_reserved(cell);
@@ -78,7 +79,7 @@ fn write(member: &Member, numbers: &[CellIndex], arena: &mut Arena, agent: u32)
     requires begun { (a : AgentParts) (n : Number) → slice_get member.now.agents agent ≡ Some a → slice_get numbers.now agent ≡ Some n → IsBegun a.symbol.0 (length a.ends) (state_at arena.old n.0) }
     ensures { (a : AgentParts) (n : Number) → slice_get member.now.agents agent ≡ Some a → slice_get numbers.now agent ≡ Some n → arena.new ≡ changed arena.old n.0 (content numbers.now a) }
 {
-    member.is_sound();
+    use_promise!(member.is_sound());
     let cell = numbers[agent as usize];
     for place in 0..member.places(agent) {
         let end = end_of(numbers, member.end(agent, place));
@@ -106,10 +107,11 @@ impl Placed {
         requires free { IsEnough (count_of member.now.need) (free_of arena.old) }
         requires room { length member.now.agents ≤ self.old.room }
         ensures put { IsPut member.now self.new.cells arena.old arena.new }
+        ensures vacant { (k : ℕ) (n : Number) → slice_get self.new.cells k ≡ Some n → state_at arena.old n.0 ≡ Vacant }
         ensures same { (self.new.bag ≡ self.old.bag) × (self.new.room ≡ self.old.room) }
     {
-        arena.cells();
-        member.is_sound();
+        use_promise!(arena.cells());
+        use_promise!(member.is_sound());
         let Placed { numbers, bag: _ } = self;
         numbers.clear();
         begin_all(member, arena, numbers);

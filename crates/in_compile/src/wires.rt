@@ -11,6 +11,7 @@ use crate::joints::Joint;
 use crate::member::Member;
 use in_arena::PlaceStep;
 use sqlite_items::Items;
+use in_base::use_promise;
 use std::alloc::{AllocError, Global};
 use std::marker::Model;
 
@@ -179,7 +180,7 @@ pub(crate) fn over_wires(alloc: Global, member: &Member) -> Result<Items<OverWir
     requires { IsSmallMember member.now }
     ensures { IfOk result (λ ws. ws ≡ over_of member.now) }
 {
-    member.is_sound();
+    use_promise!(member.is_sound());
     let mut wires = Items::new(alloc);
     for number in 0..member.boundary_ends() {
         let end = number as u8;
@@ -200,7 +201,7 @@ fn add_within(member: &Member, agent: u32, wires: &mut Items<WithinWire>) -> Res
     requires small { IsSmallMember member.now }
     ensures { (a : AgentParts) → slice_get member.now.agents agent ≡ Some a → OnOk result (wires.new ≡ wires.old ++ filter is_from_first (wires_at (agent, a))) }
 {
-    member.is_sound();
+    use_promise!(member.is_sound());
     for place in 0..member.places(agent) {
         let to = member.end(agent, place);
         if starts_first(agent, place, to) {

@@ -8,6 +8,7 @@ ghost use Rattle.in_rounds.specs.Holding.{HaveAllLeased};
 ghost use Rattle.in_rounds.specs.Laws.{Shares};
 
 use in_arena::{Arena, CellClass};
+use in_base::use_promise;
 use in_check::Checked;
 use in_compile::{Need, Placed, Stock, Templates};
 use in_harness_texts::{Sheet, are_free, small, word};
@@ -192,7 +193,7 @@ pub fn add_gather(
     let Ok(mut gather) = Gather::new(sheet.alloc, &jobs) else {
         return sheet.fail();
     };
-    arena.cells();
+    use_promise!(arena.cells());
     let Ok(mut stock) = Stock::fill(sheet.alloc, arena, need) else {
         return sheet.fail();
     };

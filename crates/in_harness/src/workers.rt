@@ -8,6 +8,7 @@ ghost use Rattle.in_rounds.specs.Holding.{HaveAllLeased};
 
 use crate::gathers::is_pair;
 use in_arena::{Arena, CellClass};
+use in_base::use_promise;
 use in_check::Checked;
 use in_compile::{Need, Templates};
 use in_harness_texts::{Sheet, small};
@@ -75,7 +76,7 @@ fn add_done<R: Threads + Wait>(
     if !are_shares(arena, workers) {
         return;
     }
-    program.is_accepted();
+    use_promise!(program.is_accepted());
     let next = (SymbolNo(1), SymbolNo(2));
     let jobs = [next, next, next, next, next, next];
     let plan = Plan::new(templates, &jobs);

@@ -8,6 +8,7 @@ ghost use Rattle.in_net.specs.Built.{IsOver};
 
 use crate::sheet::Sheet;
 use in_arena::Arena;
+use in_base::use_promise;
 use in_check::{Checked, Item, Plain};
 use in_compile::{Need, Stock, compile};
 use in_interaction::MOST_AGENTS;
@@ -110,7 +111,7 @@ fn filled(alloc: Global, arena: &mut Arena, need: Need) -> Came
     if !are_free(arena, need) {
         return Came::Wrong;
     }
-    arena.cells();
+    use_promise!(arena.cells());
     match Stock::fill(alloc, arena, need) {
         Ok(stock) => {
             stock.spend(arena);

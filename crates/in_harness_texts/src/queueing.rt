@@ -4,6 +4,7 @@ ghost use Rattle.in_net.specs.ActivePairs.{AreActive};
 ghost use Rattle.in_net.specs.Built.{IsOver};
 ghost use Rattle.in_net.specs.Rules.{HasTypesOfHeads, IsRuleOver};
 
+use in_base::use_promise;
 use in_check::{Checked, Plain};
 use in_cover::RuleNo;
 use in_interaction::{MOST_AGENTS, made};
@@ -33,7 +34,7 @@ fn rule_at(checked: &Checked, number: u32) -> &Rule
     ensures over { IsRuleOver checked.now.tables result.now }
     ensures declared { HasTypesOfHeads checked.now.tables result.now }
 {
-    checked.is_accepted();
+    use_promise!(checked.is_accepted());
     checked.rule(RuleNo(number))
 }
 

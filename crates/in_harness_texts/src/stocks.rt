@@ -12,6 +12,7 @@ use crate::sheet::Sheet;
 use crate::templates::{add_joint, add_need, template_of};
 use crate::words::small;
 use in_arena::{Arena, CellClass};
+use in_base::use_promise;
 use in_check::Checked;
 use in_compile::{
     Member, Need, Placed, PlacedTemplate, Stock, Template, Templates, compile, place, place_into,
@@ -26,7 +27,7 @@ fn add_filled(sheet: &mut Sheet, arena: &mut Arena, need: Need)
     if !are_free(arena, need) {
         return;
     }
-    arena.cells();
+    use_promise!(arena.cells());
     let Ok(stock) = Stock::fill(sheet.alloc, arena, need) else {
         return sheet.fail();
     };
@@ -42,7 +43,7 @@ fn add_added(sheet: &mut Sheet, arena: &mut Arena, need: Need)
     if !are_free(arena, need) {
         return;
     }
-    arena.cells();
+    use_promise!(arena.cells());
     let Ok(mut stock) = Stock::empty(sheet.alloc, arena, need) else {
         return sheet.fail();
     };
@@ -71,7 +72,7 @@ fn add_placed(sheet: &mut Sheet, arena: &mut Arena, member: &Member)
     if !are_free(arena, member.need()) {
         return;
     }
-    arena.cells();
+    use_promise!(arena.cells());
     let Ok(mut placed) = Placed::empty(sheet.alloc, arena, member.agents()) else {
         return sheet.fail();
     };
@@ -121,7 +122,7 @@ fn spent(sheet: &mut Sheet, arena: &mut Arena, template: &Template, room: Placed
     if !are_free(arena, template.need()) {
         return None;
     }
-    arena.cells();
+    use_promise!(arena.cells());
     let Ok(mut stock) = Stock::fill(sheet.alloc, arena, template.need()) else {
         return None;
     };
@@ -144,7 +145,7 @@ fn settle(sheet: &mut Sheet, arena: &mut Arena, template: &Template, room: Place
     if !are_free(arena, template.need()) {
         return;
     }
-    arena.cells();
+    use_promise!(arena.cells());
     let Ok(mut stock) = Stock::fill(sheet.alloc, arena, template.need()) else {
         return sheet.fail();
     };

@@ -55,7 +55,7 @@ impl<'a> Machine<'a> {
         requires most { cells ≤ most_cells }
         ensures { Starts checked.now cells result }
     {
-        checked.is_accepted();
+        use_promise!(checked.is_accepted());
         let need = need_of_net(checked.symbols(), checked.net());
         if let Some(class) = need.first_short(Need::each(cells)) {
             return Err(StartFault::Full {

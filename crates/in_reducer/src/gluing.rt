@@ -137,8 +137,8 @@ fn glue_ends(halves: &Halves, ends: &mut Vec<EndWord>)
 impl<'a> Reducer<'a> {
     /// Glues on a part that has as many free ends as there were cuts when it was split off. These alternate with the rest's ends of the cuts, so the
     /// two ends of a cut are side by side again, the last ones last, and `join_last` undoes the cuts. Each class must have as many free cells as the
-    /// part has agents. The new numbers of the part's cells are written in `names`, which has a place for each number in an arena of as many cells as
-    /// the seam is for. It takes no memory: the seam has all other room.
+    /// part has agents. `names` is room for the new numbers of the part's cells, with a place for each number in an arena of as many cells as the seam
+    /// is for; what it holds afterwards isn't promised. It takes no memory: the seam has all other room.
     pub fn glue_on(&mut self, part: &Reducer, seam: Seam, names: &mut [CellIndex])
         requires can { CanAppend self.old part.now }
         requires fewer { length part.now.free ≤ length self.old.free }

@@ -177,8 +177,8 @@ fn split_queue(arena: &Arena, names: &[CellIndex], queue: &mut PairQueue, part: 
 impl<'a> Reducer<'a> {
     /// Splits these agents off, as a reducer by itself with `cells` cells of each class, which shares nothing with the rest. They and the first ends
     /// of `cuts` cuts, which came after `own` free ends, must lead only to each other, so both agents of a pair go or stay. The part has the first
-    /// ends of the cuts, in their order, and the rest the others. It writes the new numbers of the agents in `names`, which is long enough for the
-    /// number of each agent. Refused only when out of memory, and then the reducer is as it was.
+    /// ends of the cuts, in their order, and the rest the others. `names` is room for the new numbers, long enough for the number of each agent; what
+    /// it holds afterwards isn't promised. Refused only when out of memory, and then the reducer is as it was.
     pub fn split_off(
         &mut self,
         alloc: Global,

@@ -19,6 +19,7 @@ use crate::queueing::queue_own;
 use crate::reducer::Reducer;
 use crate::sides::inner;
 use in_arena::{Arena, EndWord};
+use in_base::use_promise;
 use in_check::Checked;
 use in_compile::{Member, Placed, Templates};
 use in_net::Net;
@@ -55,7 +56,7 @@ fn lay(alloc: Global, start: &Member, fresh: &mut Fresh) -> Result<Vec<EndWord>,
     ensures laid { IfOk result (λ es. IsLaid start.now fresh.old fresh.new es.items) }
     ensures refused { OnErr result (fresh.new.arena ≡ fresh.old.arena) }
 {
-    start.is_sound();
+    use_promise!(start.is_sound());
     let own = start.boundary_ends() as usize;
     let mut ends = vec![in alloc; EndWord::free(0); own + 2 * MOST_ENDS]?;
     let placed = place_start(alloc, start, &mut fresh.arena)?;
@@ -81,7 +82,7 @@ impl<'a> Reducer<'a> {
         requires fits { (c : Class) → agents_of checked.now.tables c checked.now.net.cells ≤ cells }
         ensures { IfOk result (IsStart checked.now cells) }
     {
-        checked.is_accepted();
+        use_promise!(checked.is_accepted());
         let free = free_ends(alloc, checked.net())?;
         let mut fresh = fresh_cells(alloc, cells)?;
         let ends = lay(alloc, templates.start(), &mut fresh)?;

@@ -7,6 +7,7 @@ ghost use Rattle.in_reducer.specs.Steps.{StepsAt};
 ghost use Rattle.in_reducer.specs.Templates.{IsTemplateAt};
 
 use crate::body::Body;
+use in_base::use_promise;
 use in_compile::PlacedTemplate;
 use std::mem;
 
@@ -23,7 +24,7 @@ impl<'a> Body<'a> {
         ensures settled { AreSettled done.entry.placed.bag self.old.arena self.new.arena }
         ensures program { self.new.checked ≡ self.old.checked }
     {
-        done.is_of_template();
+        use_promise!(done.is_of_template());
         let template = done.template();
         template.member().is_sound();
         let settled = done.settle(&mut self.arena);

@@ -18,6 +18,7 @@ use crate::limits::MOST_ENDS;
 use crate::pair_queue::PairQueue;
 use crate::sides::Pair;
 use in_arena::{Arena, CellClass, CellNo, EndWord, PlaceStep};
+use in_base::use_promise;
 use in_cells::exchange;
 use in_compile::{Member, Template};
 use in_net::MAX_MEMBER_AGENTS;
@@ -33,7 +34,7 @@ fn begin_from(member: &Member, from: u32, arena: &mut Arena, points: &mut [EndWo
     ensures ends { (e : ℕ) → e < most_ends → slice_get points.new e ≡ slice_get points.old e }
     ensures long { length points.new ≡ length points.old }
 {
-    member.is_sound();
+    use_promise!(member.is_sound());
     for agent in from..member.agents() {
         let cell = member.begin(agent, arena);
         points[MOST_ENDS + agent as usize] = EndWord::place_of(cell, 0);
@@ -211,7 +212,7 @@ fn begin_in(
     ensures ends { (e : ℕ) → e < most_ends → slice_get points.new e ≡ slice_get points.old e }
     ensures long { length points.new ≡ length points.old }
 {
-    member.is_sound();
+    use_promise!(member.is_sound());
     let many = member.agents();
     if many == 0 {
         arena.retire(pair.one);

@@ -9,7 +9,7 @@ ghost use Rattle.in_compile.specs.Templates.{template_at, TemplateParts};
 ghost use Rattle.in_rounds.specs.Dones.{IsItsTemplate};
 
 use in_arena::Arena;
-use in_base::use_invariant;
+use in_base::{use_invariant, use_promise};
 use in_compile::{Placed, PlacedTemplate, Stock, Templates, place};
 use in_symbols::SymbolNo;
 use std::marker::Model;
@@ -62,7 +62,7 @@ impl<'t> Done<'t> {
     {
         let template = templates.of(constructor, destructor);
         let placed = place(template, stock, room);
-        placed.is_of_template();
+        use_promise!(placed.is_of_template());
         Done {
             job,
             heads: (constructor, destructor),

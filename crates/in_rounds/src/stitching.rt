@@ -12,6 +12,7 @@ ghost use Rattle.in_rounds.specs.Bringing.{AreMadeWith};
 
 use crate::done::Done;
 use crate::gather::Gather;
+use in_base::use_promise;
 use in_compile::Templates;
 use in_reducer::Body;
 
@@ -67,7 +68,7 @@ pub(crate) fn stitch_all<'t>(
             put_back(body, done);
             return job;
         }
-        done.is_its_template();
+        use_promise!(done.is_its_template());
         body.stitch(done.into_placed());
     }
     jobs

@@ -7,6 +7,7 @@ ghost use Rattle.in_machine.specs.Texts.{text_of};
 
 use crate::next::stop;
 use crate::running::Outcome;
+use in_base::use_promise;
 use in_check::Checked;
 use in_limits::Limits;
 use in_machine::{Machine, StartFault};
@@ -23,7 +24,7 @@ pub fn run_in_turn<'a>(
     ensures runs { RunsTo checked.now limits (at_start result) }
     ensures order { IfOk result (λ o. o.stop ≡ Normal → EndsOnce checked.now o.interactions (text_of o.machine)) }
 {
-    checked.is_accepted();
+    use_promise!(checked.is_accepted());
     let mut machine = Machine::new(alloc, checked, limits.cells())?;
     let mut interactions = 0;
     loop {

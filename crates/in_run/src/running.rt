@@ -11,6 +11,7 @@ use crate::next::stop;
 use crate::pace::Pace;
 use crate::stops::Stop;
 use crate::watching::{NoWatch, Progress, Watch};
+use in_base::use_promise;
 use in_check::Checked;
 use in_claims::Gate;
 use in_limits::Limits;
@@ -61,7 +62,7 @@ pub fn run_watched<'a, R: Threads, W: Watch>(
     ensures full { (limits.workers ≡ 1 → ⊥) → GoesOnToTheEnd checked.now limits result }
     ensures order { IfOk result (λ o. o.stop ≡ Normal → EndsOnce checked.now o.interactions (text_of o.machine)) }
 {
-    checked.is_accepted();
+    use_promise!(checked.is_accepted());
     watch.begin();
     let mut machine = match Machine::new(alloc, checked, limits.cells()) {
         Ok(machine) => machine,
