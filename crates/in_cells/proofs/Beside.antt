@@ -36,8 +36,27 @@ pub at_placed : (number : ℕ × ℕ → ℕ) (name : ℕ → ℕ) (i : ℕ) (p 
 at_placed number name i (Port x k) = refl
 at_placed number name i (Free k) = refl
 
-module _ (from before old new : ArenaView) (agents names : List CellNo) (numbers : List ℕ) (own : ℕ → ℕ) (of_from of_before of_new : List End) (ends : List (ℕ × ℕ)) (n m w : Net ℕ) (shows_n : ShowsAll from of_from n) (shows_m : ShowsAll before of_before m)
-    (all : AreAllLive from agents) (numbered : AreRenumbered own before old) (copied : IsCopied from agents numbers names old new) (lists : AreEndsOfBoth m n (name_in names) own (number_in numbers) of_before of_from ends of_new) (shows_w : IsShown new of_new w) where
+-- all agents of a net are copied into the cells of another net, whose free ends get other numbers before: the cells then show both
+pub record AreCopiedBeside (from before old new : ArenaView) (agents names : List CellNo) (numbers : List ℕ) (own : ℕ → ℕ) (of_from of_before of_new : List End) (ends : List (ℕ × ℕ)) (n m w : Net ℕ) : Type 0 where
+  -- the cells that are copied show the one net
+  pub shows_n : ShowsAll from of_from n
+  -- the cells that the copies are put in show the other net
+  pub shows_m : ShowsAll before of_before m
+  -- these agents are all that the one net has
+  pub all : AreAllLive from agents
+  -- the free ends of the other net get their new numbers
+  pub numbered : AreRenumbered own before old
+  -- each agent is copied to its own cell
+  pub copied : IsCopied from agents numbers names old new
+  -- the new list has the partner of each free end of both nets
+  pub lists : AreEndsOfBoth m n (name_in names) own (number_in numbers) of_before of_from ends of_new
+  -- the cells afterwards show this net
+  pub shows_w : IsShown new of_new w
+
+module _ (from before old new : ArenaView) (agents names : List CellNo) (numbers : List ℕ) (own : ℕ → ℕ) (of_from of_before of_new : List End) (ends : List (ℕ × ℕ)) (n m w : Net ℕ)
+    (given : AreCopiedBeside from before old new agents names numbers own of_from of_before of_new ends n m w) where
+  open given use {shows_n, shows_m, all, numbered, copied, lists, shows_w}
+
   abbrev name : ℕ → ℕ
   name = name_in names
 
@@ -208,7 +227,9 @@ module _ (from before old new : ArenaView) (agents names : List CellNo) (numbers
 
 pub copies_stand_beside : CopiesStandBeside
 copies_stand_beside from before old new agents names numbers own of_from of_before of_new ends n m w shows_n shows_m all numbered copied lists shows_w free =
-    stands from before old new agents names numbers own of_from of_before of_new ends n m w shows_n shows_m all numbered copied lists shows_w free
+    stands from before old new agents names numbers own of_from of_before of_new ends n m w
+    (record { shows_n = shows_n; shows_m = shows_m; all = all; numbered = numbered; copied = copied; lists = lists; shows_w = shows_w })
+    free
 
 -- ---- lists of free ends
 

@@ -44,10 +44,33 @@ shown_there a of_a n shows (Free k) v e =
     let t = mapped point_of (slice_get of_a k) v (sym (shows.shown.wires (Free k)) ∙ e) in
     subst (λ l. k < l) shows.many (slice_get_within of_a k t.0 t.1)
 
-module _ (from left old new : ArenaView) (agents names : List CellNo) (numbers : List ℕ) (own origin : ℕ → ℕ) (place : ℕ → ℕ → ℕ) (of_from of_left of_new : List End) (ends : List (ℕ × ℕ)) (n m p : Net ℕ) (shows_n : ShowsAll from of_from n) (back : WiresLeadBack n)
-    (shows_m : ShowsAll left of_left m) (shows_p : ShowsAll new of_new p) (copied : IsCopied from agents numbers names old new) (empty : HasNoAgent old) (out : AreTakenOut agents own from left)
-    (from_where : (k : ℕ) (c : CellNo) → slice_get agents k ≡ Some c → origin (name_in names c.0) ≡ c.0)
-    (closed : (k i : ℕ) (c : CellNo) (x : End) → slice_get agents k ≡ Some c → end_at (state_at from c.0) i ≡ Some x → LeadsIntoPart agents ends x) (split : AreEndsSplit m p agents (name_in names) own (number_in numbers) place of_from of_left of_new ends) where
+-- some agents of a net are taken out of its cells, and are copied to cells of their own: the rest and the part are nets in cells, too
+pub record IsSplit (from left old new : ArenaView) (agents names : List CellNo) (numbers : List ℕ) (own origin : ℕ → ℕ) (place : ℕ → ℕ → ℕ) (of_from of_left of_new : List End) (ends : List (ℕ × ℕ)) (n m p : Net ℕ) : Type 0 where
+  -- the cells before show the whole net
+  pub shows_n : ShowsAll from of_from n
+  -- each of its wires leads back
+  pub back : WiresLeadBack n
+  -- the cells that are left show the rest
+  pub shows_m : ShowsAll left of_left m
+  -- the cells with the copies show the part
+  pub shows_p : ShowsAll new of_new p
+  -- each agent of the part is copied to its own cell
+  pub copied : IsCopied from agents numbers names old new
+  -- no agent stood in the cells that the copies are put in
+  pub empty : HasNoAgent old
+  -- these agents are gone from the rest, and the other cells stay
+  pub out : AreTakenOut agents own from left
+  -- the name of a copy tells from which cell it comes
+  pub from_where : (k : ℕ) (c : CellNo) → slice_get agents k ≡ Some c → origin (name_in names c.0) ≡ c.0
+  -- each wire of an agent of the part stays in the part
+  pub closed : (k i : ℕ) (c : CellNo) (x : End) → slice_get agents k ≡ Some c → end_at (state_at from c.0) i ≡ Some x → LeadsIntoPart agents ends x
+  -- each free end is one of the rest or one of the part
+  pub split : AreEndsSplit m p agents (name_in names) own (number_in numbers) place of_from of_left of_new ends
+
+module _ (from left old new : ArenaView) (agents names : List CellNo) (numbers : List ℕ) (own origin : ℕ → ℕ) (place : ℕ → ℕ → ℕ) (of_from of_left of_new : List End) (ends : List (ℕ × ℕ)) (n m p : Net ℕ)
+    (given : IsSplit from left old new agents names numbers own origin place of_from of_left of_new ends n m p) where
+  open given use {shows_n, back, shows_m, shows_p, copied, empty, out, from_where, closed, split}
+
   abbrev name : ℕ → ℕ
   name = name_in names
 
@@ -349,7 +372,9 @@ module _ (from left old new : ArenaView) (agents names : List CellNo) (numbers :
 
 pub part_stands_beside : PartStandsBeside
 part_stands_beside from left old new agents names numbers own origin place of_from of_left of_new ends n m p shows_n back shows_m shows_p copied empty out from_where closed split free =
-    stand from left old new agents names numbers own origin place of_from of_left of_new ends n m p shows_n back shows_m shows_p copied empty out from_where closed split free
+    stand from left old new agents names numbers own origin place of_from of_left of_new ends n m p
+    (record { shows_n = shows_n; back = back; shows_m = shows_m; shows_p = shows_p; copied = copied; empty = empty; out = out; from_where = from_where; closed = closed; split = split })
+    free
 
 -- .. and both are nets, if it is one
 pub split_are_nets : (sig : Signature) (from left old new : ArenaView) (agents names : List CellNo) (numbers : List ℕ) (own origin : ℕ → ℕ) (place : ℕ → ℕ → ℕ) (of_from of_left of_new : List End) (ends : List (ℕ × ℕ)) (n m p : Net ℕ) →
@@ -360,8 +385,21 @@ pub split_are_nets : (sig : Signature) (from left old new : ArenaView) (agents n
     AreEndsSplit m p agents (name_in names) own (number_in numbers) place of_from of_left of_new ends →
     map (λ t. Some t) n.free ≡ map (λ q. slice_get (two_parts m p q.0).free q.1) ends → IsNet sig m × IsNet sig p
 split_are_nets sig from left old new agents names numbers own origin place of_from of_left of_new ends n m p net shows_n shows_m shows_p copied empty out from_where closed split free =
-    let back : WiresLeadBack n = (net.back, net.apart) in
     beside_parts_are_nets sig m p n origin ends net
-    (left_wired from left old new agents names numbers own origin place of_from of_left of_new ends n m p shows_n back shows_m shows_p copied empty out from_where closed split net.agents net.all)
-    (part_wired from left old new agents names numbers own origin place of_from of_left of_new ends n m p shows_n back shows_m shows_p copied empty out from_where closed split)
-    (stand from left old new agents names numbers own origin place of_from of_left of_new ends n m p shows_n back shows_m shows_p copied empty out from_where closed split free)
+    (left_wired from left old new agents names numbers own origin place of_from of_left of_new ends n m p given net.agents net.all)
+    (part_wired from left old new agents names numbers own origin place of_from of_left of_new ends n m p given)
+    (stand from left old new agents names numbers own origin place of_from of_left of_new ends n m p given free)
+  where
+    given : IsSplit from left old new agents names numbers own origin place of_from of_left of_new ends n m p
+    given = record {
+      shows_n = shows_n;
+      back = (net.back, net.apart);
+      shows_m = shows_m;
+      shows_p = shows_p;
+      copied = copied;
+      empty = empty;
+      out = out;
+      from_where = from_where;
+      closed = closed;
+      split = split;
+    }

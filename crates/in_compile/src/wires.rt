@@ -10,8 +10,8 @@ ghost use Rattle.in_compile.specs.Wires.{first_agent_slot, is_from_first, is_fro
 use crate::joints::Joint;
 use crate::member::Member;
 use in_arena::PlaceStep;
-use sqlite_items::Items;
 use in_base::use_promise;
+use sqlite_items::Items;
 use std::alloc::{AllocError, Global};
 use std::marker::Model;
 

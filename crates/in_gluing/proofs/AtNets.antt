@@ -29,6 +29,25 @@ way_map O O' I End f Inner u [] t v w = w
 way_map O O' I End f Outer u (e ∷ es) t v w = (f u e w.0, w.1, way_map O O' I End f Inner e es t v w.2)
 way_map O O' I End f Inner u (e ∷ es) t v w = (w.0, w.1, way_map O O' I End f Outer e es t v w.2)
 
+-- two interactions on pairs that share no agent, one after the other
+pub record AreOneByOne {A B : Type 0} (sig : Signature) (n : Net A) (x y : Redex A B) (of_x of_y : B → A) (one m : Net A) : Type 0 where
+  -- the right member for the first pair is a net
+  pub in_x : IsNet sig x.member
+  -- so is that for the second pair
+  pub in_y : IsNet sig y.member
+  -- the net has the first pair
+  pub rx : IsRedex sig n x
+  -- it has the second pair
+  pub ry : IsRedex sig n y
+  -- no agent is in both pairs
+  pub apart : AreApart x y
+  -- the new agents of the second interaction have names that the net doesn't have
+  pub naming : IsNaming n y of_y
+  -- the first interaction leads to this net
+  pub first : IsStep sig n x of_x one
+  -- the second one leads on from there
+  pub second : IsStep sig one y of_y m
+
 module _ {A B : Type 0} (sig : Signature) where
   -- the right member's points are at no port of a pair that shares no agent with its own, if its agents are new
   module _ (n : Net A) (x y : Redex A B) (of_x : B → A) (inside : IsNet sig x.member) (ry : IsRedex sig n y) (fresh : (k : B) (s : ℕ) → x.member.symbol k ≡ Some s → n.symbol (of_x k) ≡ None) (apart : AreApart x y) where
@@ -67,7 +86,9 @@ module _ {A B : Type 0} (sig : Signature) where
   pair_apart x y apart (Port z i) (inr h) (inr k) = apart.two.1 (sym h ∙ k)
   pair_apart x y apart (Free j) h k = h
 
-  module _ (n : Net A) (x y : Redex A B) (of_x of_y : B → A) (in_x : IsNet sig x.member) (in_y : IsNet sig y.member) (rx : IsRedex sig n x) (ry : IsRedex sig n y) (apart : AreApart x y) (naming : IsNaming n y of_y) (one m : Net A) (first : IsStep sig n x of_x one) (second : IsStep sig one y of_y m) where
+  module _ (n : Net A) (x y : Redex A B) (of_x of_y : B → A) (one m : Net A) (given : AreOneByOne sig n x y of_x of_y one m) where
+    open given use {in_x, in_y, rx, ry, apart, naming, first, second}
+
     abbrev W : Point A → Point A → Type 0
     W u v = n.partner u ≡ Some v
 
@@ -183,5 +204,5 @@ one_of_both sig n x y of_x of_y m k s t =
 pub commute : {A B : Type 0} (sig : Signature) (n : Net A) (x y : Redex A B) (of_x of_y : B → A) → IsNet sig x.member → IsNet sig y.member → IsRedex sig n x → IsRedex sig n y → AreApart x y → (one other m k : Net A) → IsStep sig n x of_x one → IsStep sig one y of_y m → IsStep sig n y of_y other → IsStep sig other x of_x k → m ≡ k
 commute sig n x y of_x of_y in_x in_y rx ry apart one other m k first second first' second' =
     one_of_both sig n x y of_x of_y m k
-    (both_at_once sig n x y of_x of_y in_x in_y rx ry apart first'.naming one m first second)
-    (both_at_once sig n y x of_y of_x in_y in_x ry rx (turned x y apart) first.naming other k first' second')
+    (both_at_once sig n x y of_x of_y one m (record { in_x = in_x; in_y = in_y; rx = rx; ry = ry; apart = apart; naming = first'.naming; first = first; second = second }))
+    (both_at_once sig n y x of_y of_x other k (record { in_x = in_y; in_y = in_x; rx = ry; ry = rx; apart = turned x y apart; naming = first.naming; first = first'; second = second' }))

@@ -71,4 +71,4 @@ orders_are_one sig n x y net in_x in_y rx ry differ one other m k s t u v =
 
 pub orders_are_both_at_once : OrdersAreBothAtOnce
 orders_are_both_at_once sig n x y net in_x in_y rx ry differ one m naming s t =
-    both_at_once sig n x y (born x) (born y) in_x in_y rx ry (apart sig n net x y rx ry differ) naming one m s t
+    both_at_once sig n x y (born x) (born y) one m (record { in_x = in_x; in_y = in_y; rx = rx; ry = ry; apart = apart sig n net x y rx ry differ; naming = naming; first = s; second = t })

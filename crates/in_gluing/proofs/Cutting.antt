@@ -123,7 +123,24 @@ join_exists m a b differ lead = (joined m a b differ lead.0 lead.1, is_joined m 
 
 -- ---- a cut
 
-module _ (w : Net ℕ) (u v : Point ℕ) (a b : ℕ) (m : Net ℕ) (back : (u v : Point ℕ) → w.partner u ≡ Some v → w.partner v ≡ Some u) (wire : w.partner u ≡ Some v) (differ : a ≢ b) (no_a : w.partner (Free a) ≡ None) (no_b : w.partner (Free b) ≡ None) (cut : CutsWire w u v a b m) where
+-- a wire is cut, and its two points get partners that are new free ends
+pub record CutsToNewEnds (w : Net ℕ) (u v : Point ℕ) (a b : ℕ) (m : Net ℕ) : Type 0 where
+  -- each wire leads back
+  pub back : (u v : Point ℕ) → w.partner u ≡ Some v → w.partner v ≡ Some u
+  -- this wire is there
+  pub wire : w.partner u ≡ Some v
+  -- the two new free ends differ
+  pub differ : a ≢ b
+  -- the first one has no wire before
+  pub no_a : w.partner (Free a) ≡ None
+  -- the second one has none before
+  pub no_b : w.partner (Free b) ≡ None
+  -- the net after is the one before with that wire cut
+  pub cut : CutsWire w u v a b m
+
+module _ (w : Net ℕ) (u v : Point ℕ) (a b : ℕ) (m : Net ℕ) (given : CutsToNewEnds w u v a b m) where
+  open given use {back, wire, differ, no_a, no_b, cut}
+
   abbrev Before : Point ℕ → Point ℕ → Type 0
   Before x y = (m.partner x ≡ Some y) ⊎ ((m.partner x ≡ Some (Free a)) × (m.partner (Free b) ≡ Some y)) ⊎ ((m.partner x ≡ Some (Free b)) × (m.partner (Free a) ≡ Some y))
 
@@ -230,4 +247,4 @@ module _ (w : Net ℕ) (u v : Point ℕ) (a b : ℕ) (m : Net ℕ) (back : (u v 
   is_cut = record { agents = cut.agents; wires = λ x y. ((λ e. cut_forth x y e), (λ h. cut_back x y h)) }
 
 pub cuts_are_joined : CutsAreJoined
-cuts_are_joined w u v a b m lead wire differ no_a no_b cut = is_cut w u v a b m lead.0 wire differ no_a no_b cut
+cuts_are_joined w u v a b m lead wire differ no_a no_b cut = is_cut w u v a b m (record { back = lead.0; wire = wire; differ = differ; no_a = no_a; no_b = no_b; cut = cut })

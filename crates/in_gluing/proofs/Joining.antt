@@ -38,7 +38,28 @@ module _ {A : Type 0} (parts : ℕ → Net A) (cuts : Cuts) where
       inr (inr ((p.0, w.0), w.4 ∙ ap (λ (f : ℕ). Some (q.0, f)) same))
   used_last s p (g ∷ gs) q w f h = used_last (other s) g gs q w.2 f h
 
-module _ {A C : Type 0} (parts : ℕ → Net A) (name : ℕ → A → C) (number : ℕ × ℕ → ℕ) (cuts more : Cuts) (one two : ℕ × ℕ) (m w : Net C) (own_one : HasOwnNumber parts more number one) (own_two : HasOwnNumber parts more number two) (back : (p q : ℕ × ℕ) → cuts.across p ≡ Some q → cuts.across q ≡ Some p) (m_back : (u v : Point C) → m.partner u ≡ Some v → m.partner v ≡ Some u) (m_apart : (u : Point C) → m.partner u ≢ Some u) (joined : IsJoinedBy parts name number cuts m) (is_more : IsOneMore cuts more one two) (ends : JoinsEnds m (number one) (number two) w) where
+-- parts are joined so far, and one joint more joins two of their free ends
+pub record JoinsOneMore {A C : Type 0} (parts : ℕ → Net A) (name : ℕ → A → C) (number : ℕ × ℕ → ℕ) (cuts more : Cuts) (one two : ℕ × ℕ) (m w : Net C) : Type 0 where
+  -- no other free end in use has the number of the one
+  pub own_one : HasOwnNumber parts more number one
+  -- none has the number of the other
+  pub own_two : HasOwnNumber parts more number two
+  -- each joint so far leads back
+  pub back : (p q : ℕ × ℕ) → cuts.across p ≡ Some q → cuts.across q ≡ Some p
+  -- each wire of the net so far leads back
+  pub m_back : (u v : Point C) → m.partner u ≡ Some v → m.partner v ≡ Some u
+  -- none leads to its own point
+  pub m_apart : (u : Point C) → m.partner u ≢ Some u
+  -- the net so far is the parts, joined by the joints so far
+  pub joined : IsJoinedBy parts name number cuts m
+  -- the next joint is between these two free ends
+  pub is_more : IsOneMore cuts more one two
+  -- the net after has their two wires as one
+  pub ends : JoinsEnds m (number one) (number two) w
+
+module _ {A C : Type 0} (parts : ℕ → Net A) (name : ℕ → A → C) (number : ℕ × ℕ → ℕ) (cuts more : Cuts) (one two : ℕ × ℕ) (m w : Net C) (given : JoinsOneMore parts name number cuts more one two m w) where
+  open given use {own_one, own_two, back, m_back, m_apart, joined, is_more, ends}
+
   abbrev Spot : Type 0
   Spot = ℕ × Point A
 
@@ -301,4 +322,5 @@ module _ {A C : Type 0} (parts : ℕ → Net A) (name : ℕ → A → C) (number
 
 pub joins_next : JoinsNext
 joins_next parts name number cuts more one two m w own_one own_two back lead joined is_more ends =
-    next parts name number cuts more one two m w own_one own_two back lead.0 lead.1 joined is_more ends
+    next parts name number cuts more one two m w
+    (record { own_one = own_one; own_two = own_two; back = back; m_back = lead.0; m_apart = lead.1; joined = joined; is_more = is_more; ends = ends })

@@ -32,26 +32,46 @@ no_work plan p q done seat stock = record {
   cells = λ n. ap (λ (s : StockParts). holders n (s.bag ∷ [])) stock;
 }
 
--- a job that was claimed and placed
-module _ (plan : PlanParts) (p q r : Hand) (d : DoneParts) (need : Need) (w : Works plan p q) (done : r.done.items ≡ q.done.items ++ d ∷ []) (board : r.seat.board ≡ q.seat.board) (numbers : r.seat.numbers ≡ q.seat.numbers ++ d.job ∷ []) (is : IsDoneJob plan d) (takes : TakesCells need d.placed.placed.cells q.stock r.stock) (cells : AreCellsOf d.placed.placed.bag d.placed.placed.cells) (one : AreOfOne p.stock.bag d.placed.placed.bag) where
+-- a worker that has done some jobs claims one more and places it
+pub record DoesOneMore (plan : PlanParts) (p q r : Hand) (d : DoneParts) (need : Need) : Type 0 where
+  -- so far it did only jobs that its seat claimed
+  pub works : Works plan p q
+  -- the job is listed after those
+  pub done : r.done.items ≡ q.done.items ++ d ∷ []
+  -- the seat is at the same board
+  pub board : r.seat.board ≡ q.seat.board
+  -- the seat claimed the job's number
+  pub numbers : r.seat.numbers ≡ q.seat.numbers ++ d.job ∷ []
+  -- the job is one of the plan
+  pub is : IsDoneJob plan d
+  -- the stock loses the cells of the job's agents
+  pub takes : TakesCells need d.placed.placed.cells q.stock r.stock
+  -- the job's bag has these cells and no other
+  pub cells : AreCellsOf d.placed.placed.bag d.placed.placed.cells
+  -- this bag is of the same arena as the stock
+  pub one : AreOfOne p.stock.bag d.placed.placed.bag
+
+module _ (plan : PlanParts) (p q r : Hand) (d : DoneParts) (need : Need) (given : DoesOneMore plan p q r d need) where
+  open given use {works, done, board, numbers, is, takes, cells, one}
+
   pub one_done : Works plan p r
   one_done = record {
-    more = w.more ++ d ∷ [];
-    list = done ∙ ap (λ l. l ++ d ∷ []) w.list ∙ append_assoc p.done.items w.more (d ∷ []);
-    board = board ∙ w.board;
-    claimed = numbers ∙ ap (λ l. l ++ d.job ∷ []) w.claimed ∙ append_assoc p.seat.numbers (jobs w.more) (d.job ∷ []) ∙ ap (λ l. p.seat.numbers ++ l) (sym (map-append (λ (e : DoneParts). e.job) w.more (d ∷ [])));
-    each = All-push (IsDoneJob plan) w.more d w.each is;
+    more = works.more ++ d ∷ [];
+    list = done ∙ ap (λ l. l ++ d ∷ []) works.list ∙ append_assoc p.done.items works.more (d ∷ []);
+    board = board ∙ works.board;
+    claimed = numbers ∙ ap (λ l. l ++ d.job ∷ []) works.claimed ∙ append_assoc p.seat.numbers (jobs works.more) (d.job ∷ []) ∙ ap (λ l. p.seat.numbers ++ l) (sym (map-append (λ (e : DoneParts). e.job) works.more (d ∷ [])));
+    each = All-push (IsDoneJob plan) works.more d works.each is;
     one = (
-      one_of_one p.stock.bag q.stock.bag r.stock.bag w.one.0 (stays_of_one need q.stock r.stock d.placed.placed takes cells),
-      All-push (λ (e : DoneParts). AreOfOne p.stock.bag e.placed.placed.bag) w.more d w.one.1 one,
+      one_of_one p.stock.bag q.stock.bag r.stock.bag works.one.0 (stays_of_one need q.stock r.stock d.placed.placed takes cells),
+      All-push (λ (e : DoneParts). AreOfOne p.stock.bag e.placed.placed.bag) works.more d works.one.1 one,
     );
     cells = λ n.
         let bag = d.placed.placed.bag in
         let placed = placed_count need q.stock r.stock d.placed.placed takes cells n in
-        let before = w.cells n in
-        let old = holders-cons n q.stock.bag (bags w.more) in
-        let new = holders-cons n r.stock.bag (bags (w.more ++ d ∷ [])) in
-        let split = ap (holders n) (map-append (λ (e : DoneParts). e.placed.placed.bag) w.more (d ∷ [])) ∙ holders-append n (bags w.more) (bag ∷ []) in
+        let before = works.cells n in
+        let old = holders-cons n q.stock.bag (bags works.more) in
+        let new = holders-cons n r.stock.bag (bags (works.more ++ d ∷ [])) in
+        let split = ap (holders n) (map-append (λ (e : DoneParts). e.placed.placed.bag) works.more (d ∷ [])) ∙ holders-append n (bags works.more) (bag ∷ []) in
         omega (arith, placed, before, old, new, split);
   }
 

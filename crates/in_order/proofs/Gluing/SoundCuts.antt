@@ -32,7 +32,24 @@ get_second : {T : Type 0} (xs : List T) (s t : T) → slice_get (xs ++ (s ∷ t 
 get_second [] s t = refl
 get_second (x ∷ xs) s t = get_second xs s t
 
-module _ (p : System) (w : Net ℕ) (u v : Point ℕ) (s t : PortType) (m : Net ℕ) (sound : IsSound p w) (wire : w.partner u ≡ Some v) (type_u : type_in p.symbols w u ≡ Some s) (type_v : type_in p.symbols w v ≡ Some t) (frees : m.free ≡ w.free ++ (s ∷ t ∷ [])) (cut : CutsWire w u v (length w.free) (suc (length w.free)) m) where
+-- a wire of a sound net is cut, and two free ends are added to its last ones
+pub record CutsSoundNet (p : System) (w : Net ℕ) (u v : Point ℕ) (s t : PortType) (m : Net ℕ) : Type 0 where
+  -- the net before is sound
+  pub sound : IsSound p w
+  -- this wire is there
+  pub wire : w.partner u ≡ Some v
+  -- its one point has this type
+  pub type_u : type_in p.symbols w u ≡ Some s
+  -- its other point has this type
+  pub type_v : type_in p.symbols w v ≡ Some t
+  -- the two new free ends come last, with these types
+  pub frees : m.free ≡ w.free ++ (s ∷ t ∷ [])
+  -- the net after is the one before with that wire cut
+  pub cut : CutsWire w u v (length w.free) (suc (length w.free)) m
+
+module _ (p : System) (w : Net ℕ) (u v : Point ℕ) (s t : PortType) (m : Net ℕ) (given : CutsSoundNet p w u v s t m) where
+  open given use {sound, wire, type_u, type_v, frees, cut}
+
   abbrev a : ℕ
   a = length w.free
 
@@ -233,4 +250,4 @@ module _ (p : System) (w : Net ℕ) (u v : Point ℕ) (s t : PortType) (m : Net 
   }
 
 pub cuts_keep_sound : CutsKeepSound
-cuts_keep_sound p w u v s t m sound wire type_u type_v frees cut = is_sound p w u v s t m sound wire type_u type_v frees cut
+cuts_keep_sound p w u v s t m sound wire type_u type_v frees cut = is_sound p w u v s t m (record { sound = sound; wire = wire; type_u = type_u; type_v = type_v; frees = frees; cut = cut })

@@ -66,6 +66,27 @@ there_of : (o : Option SymbolNo) (s : ℕ) → option_map (λ (s : SymbolNo). s.
 there_of None s e = cc
 there_of (Some c) s e = (c, refl, same_Some c.0 s e)
 
+-- the wire at a place of an agent is cut in the cells, and the reducer's lists get two more free ends and what they lead to
+pub record IsCutOff (r : Body) (c i : ℕ) (b : ArenaView) (es : List End) (own : ℕ) (ends : List End) (symbol : SymbolNo) (kind : PortType) (new : List OwnEnd) (x y : End) (list : List End) : Type 0 where
+  -- each cell keeps its symbol word and its places
+  pub kept : KeepsCells r.arena b
+  -- the ends are as many as before
+  pub long : length es ≡ length r.ends.items
+  -- this is the number of free ends before
+  pub is_own : own ≡ length r.free.items
+  -- these are the ends before
+  pub is_ends : ends ≡ r.ends.items
+  -- each net that the cells show after is the net before with that wire cut
+  pub cut : (w m : Net ℕ) → Shows (signature_of r.checked.now.tables) own r.arena ends w → IsShown b (take (own + 2) es) m → IsCutAt w c i own m
+  -- this is the agent's symbol
+  pub is_symbol : symbol_in (parts_of (reducer_view r)) c ≡ Some symbol
+  -- this is the type of its port there
+  pub is_kind : kind ≡ port_at r.checked.now.tables symbol.0 i
+  -- the two new free ends have this type and its opposite
+  pub is_new : new ≡ (r.free.items ++ Cut kind ∷ []) ++ Cut (opposite kind) ∷ []
+  -- the list of ends is longer by two
+  pub is_list : list ≡ (es ++ x ∷ []) ++ y ∷ []
+
 -- ---- before
 
 module _ (r : Body) (k : KeepsNet r) (c i : ℕ) (can : CanCut (reducer_view r) c i) where
@@ -124,9 +145,9 @@ module _ (r : Body) (k : KeepsNet r) (c i : ℕ) (can : CanCut (reducer_view r) 
 
   -- ---- after
 
-  module _ (b : ArenaView) (es : List End) (kept : KeepsCells r.arena b) (long : length es ≡ length r.ends.items) (own : ℕ) (is_own : own ≡ length r.free.items) (ends : List End) (is_ends : ends ≡ r.ends.items)
-      (cut : (w m : Net ℕ) → Shows (signature_of t) own r.arena ends w → IsShown b (take (own + 2) es) m → IsCutAt w c i own m)
-      (symbol : SymbolNo) (is_symbol : symbol_in (parts_of (reducer_view r)) c ≡ Some symbol) (kind : PortType) (is_kind : kind ≡ port_at t symbol.0 i) (new : List OwnEnd) (is_new : new ≡ (r.free.items ++ Cut kind ∷ []) ++ Cut (opposite kind) ∷ []) (x y : End) (list : List End) (is_list : list ≡ (es ++ x ∷ []) ++ y ∷ []) where
+  module _ (b : ArenaView) (es : List End) (own : ℕ) (ends : List End) (symbol : SymbolNo) (kind : PortType) (new : List OwnEnd) (x y : End) (list : List End) (given : IsCutOff r c i b es own ends symbol kind new x y list) where
+    open given use {kept, long, is_own, is_ends, cut, is_symbol, is_kind, is_new, is_list}
+
     abbrev gs : List FreeEnd
     gs = map (declared_as r.checked.now) new
 

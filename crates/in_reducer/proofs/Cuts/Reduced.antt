@@ -63,18 +63,36 @@ reductions_go_on l m n j k first on = record {
 
 -- ---- parts
 
-module _ (m rest part rest_after part_after after : MachineParts) (agents : List CellNo) (own cuts size j k : ℕ) (h : IsReducer m) (h_rest : IsReducer rest) (h_part : IsReducer part) (off : IsSplitButQueues m agents own cuts size rest part)
-    (first : ReducesTo rest j rest_after) (second : ReducesTo part k part_after) (glued : IsGluedButQueue rest_after part_after own cuts after) where
+-- a reducer is split in a rest and a part, each is reduced by itself, and both are glued again
+pub record AreReducedApart (m rest part rest_after part_after after : MachineParts) (agents : List CellNo) (own cuts size j k : ℕ) : Type 0 where
+  -- the whole is a reducer
+  pub reducer : IsReducer m
+  -- the rest is one
+  pub reducer_rest : IsReducer rest
+  -- the part is one
+  pub reducer_part : IsReducer part
+  -- these agents are the part, and the others the rest
+  pub off : IsSplitButQueues m agents own cuts size rest part
+  -- so many interactions lead from the rest to the rest after
+  pub first : ReducesTo rest j rest_after
+  -- so many lead from the part to the part after
+  pub second : ReducesTo part k part_after
+  -- the rest after and the part after are glued where the wires were cut
+  pub glued : IsGluedButQueue rest_after part_after own cuts after
+
+module _ (m rest part rest_after part_after after : MachineParts) (agents : List CellNo) (own cuts size j k : ℕ) (given : AreReducedApart m rest part rest_after part_after after agents own cuts size j k) where
+  open given use {reducer, reducer_rest, reducer_part, off, first, second, glued}
+
   good : IsSoundSystem (system_of m.program)
-  good = is_sound h.accepted.0 m.program h.accepted.1
+  good = is_sound reducer.accepted.0 m.program reducer.accepted.1
 
   whole_program : after.program ≡ m.program
   whole_program = sym glued.two.program_rest ∙ first.program ∙ off.two.program_rest
 
   whole_leads : Leads (system_of m.program) (j + k) (net_in m) (net_in after)
   whole_leads =
-      beside_leads (system_of m.program) j k (net_in rest) (net_in part) (net_in rest_after) (net_in part_after) (net_in m) (net_in after) off.two.name glued.two.name (ends_of_two own cuts) good h.net.sound
-      (subst (λ (z : Program). IsSound (system_of z) (net_in rest)) off.two.program_rest h_rest.net.sound) (subst (λ (z : Program). IsSound (system_of z) (net_in part)) off.two.program_part h_part.net.sound) off.two.beside
+      beside_leads (system_of m.program) j k (net_in rest) (net_in part) (net_in rest_after) (net_in part_after) (net_in m) (net_in after) off.two.name glued.two.name (ends_of_two own cuts) good reducer.net.sound
+      (subst (λ (z : Program). IsSound (system_of z) (net_in rest)) off.two.program_rest reducer_rest.net.sound) (subst (λ (z : Program). IsSound (system_of z) (net_in part)) off.two.program_part reducer_part.net.sound) off.two.beside
       (leads_over rest.program m.program j (net_in rest) (net_in rest_after) off.two.program_rest first.leads) (leads_over part.program m.program k (net_in part) (net_in part_after) off.two.program_part second.leads) glued.two.beside
 
   whole_names : names_of after ≡ names_of m
@@ -86,11 +104,14 @@ module _ (m rest part rest_after part_after after : MachineParts) (agents : List
 
 pub parts_reduce_the_whole : PartsReduceTheWhole
 parts_reduce_the_whole m rest part rest_after part_after after agents own cuts size j k h h_rest h_part off first second glued = record {
-  program = whole_program m rest part rest_after part_after after agents own cuts size j k h h_rest h_part off first second glued;
-  leads = whole_leads m rest part rest_after part_after after agents own cuts size j k h h_rest h_part off first second glued;
-  names = whole_names m rest part rest_after part_after after agents own cuts size j k h h_rest h_part off first second glued;
-  cells = whole_cells m rest part rest_after part_after after agents own cuts size j k h h_rest h_part off first second glued;
+  program = whole_program m rest part rest_after part_after after agents own cuts size j k given;
+  leads = whole_leads m rest part rest_after part_after after agents own cuts size j k given;
+  names = whole_names m rest part rest_after part_after after agents own cuts size j k given;
+  cells = whole_cells m rest part rest_after part_after after agents own cuts size j k given;
 }
+  where
+    given : AreReducedApart m rest part rest_after part_after after agents own cuts size j k
+    given = record { reducer = h; reducer_rest = h_rest; reducer_part = h_part; off = off; first = first; second = second; glued = glued }
 
 -- ---- the same agents, at each number
 

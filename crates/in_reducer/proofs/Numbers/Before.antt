@@ -341,16 +341,19 @@ module _ (m n o : MachineParts) (i : ℕ) (reducer : IsReducer m) (s : StepsAt m
   opposed : AreOpposed t (parts_of n)
   opposed = subst (λ (p : Program). AreOpposed p.tables (parts_of n)) s.step.program (opposed_at n next)
 
+  abbrev alike : two_steps.ActAlike m.program h m first s.pair r n o
+  alike = record { net = net; net_other = net_at first first_reducer; inside = inside; is_renamed = renamed_first.net; act = x; other_act = y; opposed_after = opposed }
+
   e : ℕ → ℕ
-  e = two_steps.g m.program h m first s.pair r n o net (net_at first first_reducer) inside renamed_first.net x y opposed
+  e = two_steps.g m.program h m first s.pair r n o alike
 
   e_old : (z : ℕ) → IsSome (before.symbol z) → e z ≡ h z
   unfolding e
-  e_old = two_steps.g_old m.program h m first s.pair r n o net (net_at first first_reducer) inside renamed_first.net x y opposed
+  e_old = two_steps.g_old m.program h m first s.pair r n o alike
 
   e_new : (k k' : ℕ) → (net_of r.member).symbol k ≡ Some k' → e (s.name k) ≡ named k
   unfolding e x y
-  e_new = two_steps.g_new m.program h m first s.pair r n o net (net_at first first_reducer) inside renamed_first.net x y opposed
+  e_new = two_steps.g_new m.program h m first s.pair r n o alike
 
   e_is : (z : ℕ) → IsSome (after.symbol z) → e z ≡ f z
   e_is = agrees e e_old e_new
@@ -360,14 +363,14 @@ module _ (m n o : MachineParts) (i : ℕ) (reducer : IsReducer m) (s : StepsAt m
 
   over_ends : AreMadeOverEnds t (parts_of first) r (agents_at (both h s.pair)).0 (agents_at (both h s.pair)).1 named (map (moved_pair e) s.new.over)
   unfolding e x y
-  over_ends = all_moved m.program h m first s.pair r n o net (net_at first first_reducer) inside renamed_first.net x y opposed s.new.over s.new.are_over
+  over_ends = all_moved m.program h m first s.pair r n o alike s.new.over s.new.are_over
 
   new : AreMade t (parts_of first) r (agents_at (both h s.pair)).0 (agents_at (both h s.pair)).1 named made
   new = record { over = map (moved_pair e) s.new.over; own = s.new.own; are_over = over_ends; are_own = s.new.are_own; listed = refl }
 
   queue_moved_on : remove first.queue i ++ (map numbers_of (map (moved_pair e) s.new.over) ++ map (both named) s.new.own) ≡ map (both e) (remove m.queue i ++ (map numbers_of s.new.over ++ map (both s.name) s.new.own))
   unfolding e x y
-  queue_moved_on = queue_on m.program h m first s.pair r n o net (net_at first first_reducer) inside renamed_first.net x y opposed s.new.over s.new.are_over i reducer.queue refl s.new.own s.new.are_own
+  queue_moved_on = queue_on m.program h m first s.pair r n o alike s.new.over s.new.are_over i reducer.queue refl s.new.own s.new.are_own
 
   queue_agrees : map (both f) n.queue ≡ map (both e) n.queue
   queue_agrees = map_same (both f) (both e) n.queue (λ k q at. (

@@ -72,8 +72,26 @@ acts_of m o i h s = record { can = can_at m o i h s; name = s.name; acts = s.ste
 abbrev pub moved_pair : (ℕ → ℕ) → AgentNo × AgentNo → AgentNo × AgentNo
 moved_pair f q = agents_at (both f (numbers_of q))
 
-module _ (p : Program) (f : ℕ → ℕ) (m n : MachineParts) (pair : ℕ × ℕ) (r : RuleParts) (o u : MachineParts) (net : IsNet (signature_of p.tables) (net_of (parts_of m))) (net_n : IsNet (signature_of p.tables) (net_of (parts_of n))) (inside : IsNet (signature_of p.tables) (net_of r.member))
-    (named : IsRenamed f (net_of (parts_of m)) (net_of (parts_of n))) (x : Acts p m pair r o) (y : Acts p n (both f pair) r u) (opposed : AreOpposed p.tables (parts_of o)) where
+-- the same pair interacts in two machines that are the same up to the numbers of their agents
+pub record ActAlike (p : Program) (f : ℕ → ℕ) (m n : MachineParts) (pair : ℕ × ℕ) (r : RuleParts) (o u : MachineParts) : Type 0 where
+  -- the one machine has a net
+  pub net : IsNet (signature_of p.tables) (net_of (parts_of m))
+  -- the other has one
+  pub net_other : IsNet (signature_of p.tables) (net_of (parts_of n))
+  -- the right member is a net
+  pub inside : IsNet (signature_of p.tables) (net_of r.member)
+  -- the other has the agents of the one, under other numbers
+  pub is_renamed : IsRenamed f (net_of (parts_of m)) (net_of (parts_of n))
+  -- the pair interacts in the one
+  pub act : Acts p m pair r o
+  -- it interacts in the other, under its numbers there
+  pub other_act : Acts p n (both f pair) r u
+  -- of each active pair after, just one agent is a constructor
+  pub opposed_after : AreOpposed p.tables (parts_of o)
+
+module _ (p : Program) (f : ℕ → ℕ) (m n : MachineParts) (pair : ℕ × ℕ) (r : RuleParts) (o u : MachineParts) (given : ActAlike p f m n pair r o u) where
+  open given use {net, net_other, inside, is_renamed, act, other_act, opposed_after}
+
   abbrev t : Tables
   t = p.tables
 
@@ -90,73 +108,73 @@ module _ (p : Program) (f : ℕ → ℕ) (m n : MachineParts) (pair : ℕ × ℕ
   fb = (agents_at (both f pair)).1
 
   redex : IsRedex (signature_of p.tables) (net_of (parts_of m)) (redex_at r pair.0 pair.1)
-  redex = redex_in t (parts_of m) r a b net x.can
+  redex = redex_in t (parts_of m) r a b net act.can
 
   pub g : ℕ → ℕ
-  g = moving.g (signature_of t) (net_of (parts_of m)) (net_of (parts_of n)) net f named (redex_at r pair.0 pair.1) inside redex x.name y.name (net_of (parts_of o)) (net_of (parts_of u)) x.acts.step y.acts.step
+  g = moving.g (signature_of t) (net_of (parts_of m)) (net_of (parts_of n)) net f is_renamed (redex_at r pair.0 pair.1) inside redex act.name other_act.name (net_of (parts_of o)) (net_of (parts_of u)) act.acts.step other_act.acts.step
 
   pub named_after : IsRenamed g (net_of (parts_of o)) (net_of (parts_of u))
   unfolding g
-  named_after = moving.named_after (signature_of t) (net_of (parts_of m)) (net_of (parts_of n)) net f named (redex_at r pair.0 pair.1) inside redex x.name y.name (net_of (parts_of o)) (net_of (parts_of u)) x.acts.step y.acts.step
+  named_after = moving.named_after (signature_of t) (net_of (parts_of m)) (net_of (parts_of n)) net f is_renamed (redex_at r pair.0 pair.1) inside redex act.name other_act.name (net_of (parts_of o)) (net_of (parts_of u)) act.acts.step other_act.acts.step
 
   pub g_old : (z : ℕ) → IsSome ((net_of (parts_of m)).symbol z) → g z ≡ f z
   unfolding g
-  g_old = moving.g_old (signature_of t) (net_of (parts_of m)) (net_of (parts_of n)) net f named (redex_at r pair.0 pair.1) inside redex x.name y.name (net_of (parts_of o)) (net_of (parts_of u)) x.acts.step y.acts.step
+  g_old = moving.g_old (signature_of t) (net_of (parts_of m)) (net_of (parts_of n)) net f is_renamed (redex_at r pair.0 pair.1) inside redex act.name other_act.name (net_of (parts_of o)) (net_of (parts_of u)) act.acts.step other_act.acts.step
 
-  pub g_new : (k s : ℕ) → (net_of r.member).symbol k ≡ Some s → g (x.name k) ≡ y.name k
+  pub g_new : (k s : ℕ) → (net_of r.member).symbol k ≡ Some s → g (act.name k) ≡ other_act.name k
   unfolding g
-  g_new = moving.g_new (signature_of t) (net_of (parts_of m)) (net_of (parts_of n)) net f named (redex_at r pair.0 pair.1) inside redex x.name y.name (net_of (parts_of o)) (net_of (parts_of u)) x.acts.step y.acts.step
+  g_new = moving.g_new (signature_of t) (net_of (parts_of m)) (net_of (parts_of n)) net f is_renamed (redex_at r pair.0 pair.1) inside redex act.name other_act.name (net_of (parts_of o)) (net_of (parts_of u)) act.acts.step other_act.acts.step
 
   -- ---- the pairs that they make
 
-  wire_m : (e : ℕ) (q : AgentNo × AgentNo) → IsMade t (parts_of m) r a b x.name e q → (net_of (parts_of o)).partner (Port q.0.0 0) ≡ Some (Port q.1.0 0)
+  wire_m : (e : ℕ) (q : AgentNo × AgentNo) → IsMade t (parts_of m) r a b act.name e q → (net_of (parts_of o)).partner (Port q.0.0 0) ≡ Some (Port q.1.0 0)
   wire_m e q h =
-      (x.acts.step.wires (Port q.0.0 0) (Port q.1.0 0)).1 (
-        stays_after t (parts_of m) r a b x.name (parts_of o) net inside x.can x.acts q.0 h.first h.one,
-        stays_after t (parts_of m) r a b x.name (parts_of o) net inside x.can x.acts q.1 h.second h.two,
+      (act.acts.step.wires (Port q.0.0 0) (Port q.1.0 0)).1 (
+        stays_after t (parts_of m) r a b act.name (parts_of o) net inside act.can act.acts q.0 h.first h.one,
+        stays_after t (parts_of m) r a b act.name (parts_of o) net inside act.can act.acts q.1 h.second h.two,
         (h.path.passed.0, h.path.passed.1, h.path.passed.2),
       )
 
-  wire_n : (e : ℕ) (q : AgentNo × AgentNo) → IsMade t (parts_of n) r fa fb y.name e q → (net_of (parts_of u)).partner (Port q.0.0 0) ≡ Some (Port q.1.0 0)
+  wire_n : (e : ℕ) (q : AgentNo × AgentNo) → IsMade t (parts_of n) r fa fb other_act.name e q → (net_of (parts_of u)).partner (Port q.0.0 0) ≡ Some (Port q.1.0 0)
   wire_n e q h =
-      (y.acts.step.wires (Port q.0.0 0) (Port q.1.0 0)).1 (
-        stays_after t (parts_of n) r fa fb y.name (parts_of u) net_n inside y.can y.acts q.0 h.first h.one,
-        stays_after t (parts_of n) r fa fb y.name (parts_of u) net_n inside y.can y.acts q.1 h.second h.two,
+      (other_act.acts.step.wires (Port q.0.0 0) (Port q.1.0 0)).1 (
+        stays_after t (parts_of n) r fa fb other_act.name (parts_of u) net_other inside other_act.can other_act.acts q.0 h.first h.one,
+        stays_after t (parts_of n) r fa fb other_act.name (parts_of u) net_other inside other_act.can other_act.acts q.1 h.second h.two,
         (h.path.passed.0, h.path.passed.1, h.path.passed.2),
       )
 
-  made_forth : (e : ℕ) (q : AgentNo × AgentNo) → IsMade t (parts_of m) r a b x.name e q → IsMade t (parts_of n) r fa fb y.name e (moved_pair g q)
+  made_forth : (e : ℕ) (q : AgentNo × AgentNo) → IsMade t (parts_of m) r a b act.name e q → IsMade t (parts_of n) r fa fb other_act.name e (moved_pair g q)
   unfolding g
   made_forth e q h =
       let wire = wire_m e q h in
       let active : AreActive (parts_of o) q.0 q.1 = map_is (partner_in (parts_of o) (code.Port q.0 0)) (Port q.1.0 0) wire in
-      let one : symbol_in (parts_of o) q.0.0 ≡ Some h.first = has_symbol t (parts_of m) r a b x.name (parts_of o) net inside x.can x.acts q.0 h.first h.one in
-      let two : symbol_in (parts_of o) q.1.0 ≡ Some h.second = has_symbol t (parts_of m) r a b x.name (parts_of o) net inside x.can x.acts q.1 h.second h.two in
+      let one : symbol_in (parts_of o) q.0.0 ≡ Some h.first = has_symbol t (parts_of m) r a b act.name (parts_of o) net inside act.can act.acts q.0 h.first h.one in
+      let two : symbol_in (parts_of o) q.1.0 ≡ Some h.second = has_symbol t (parts_of m) r a b act.name (parts_of o) net inside act.can act.acts q.1 h.second h.two in
       record {
         first = h.first;
         second = h.second;
-        one = symbol_after t (parts_of n) r fa fb y.name (parts_of u) net_n inside y.can y.acts (moved_pair g q).0 h.first (symbol_moved g (parts_of o) (parts_of u) named_after q.0.0 h.first one);
-        two = symbol_after t (parts_of n) r fa fb y.name (parts_of u) net_n inside y.can y.acts (moved_pair g q).1 h.second (symbol_moved g (parts_of o) (parts_of u) named_after q.1.0 h.second two);
-        path = moving.lowest (signature_of t) (net_of (parts_of m)) (net_of (parts_of n)) net f named (redex_at r pair.0 pair.1) inside redex x.name y.name (net_of (parts_of o)) (net_of (parts_of u)) x.acts.step y.acts.step e (Port q.0.0 0) (Port q.1.0 0) wire h.path;
-        order = stands_anywhere t (parts_of o) q.0 q.1 q.0 q.1 h.first h.second opposed active one two h.order (moved_pair g q).0 (moved_pair g q).1;
+        one = symbol_after t (parts_of n) r fa fb other_act.name (parts_of u) net_other inside other_act.can other_act.acts (moved_pair g q).0 h.first (symbol_moved g (parts_of o) (parts_of u) named_after q.0.0 h.first one);
+        two = symbol_after t (parts_of n) r fa fb other_act.name (parts_of u) net_other inside other_act.can other_act.acts (moved_pair g q).1 h.second (symbol_moved g (parts_of o) (parts_of u) named_after q.1.0 h.second two);
+        path = moving.lowest (signature_of t) (net_of (parts_of m)) (net_of (parts_of n)) net f is_renamed (redex_at r pair.0 pair.1) inside redex act.name other_act.name (net_of (parts_of o)) (net_of (parts_of u)) act.acts.step other_act.acts.step e (Port q.0.0 0) (Port q.1.0 0) wire h.path;
+        order = stands_anywhere t (parts_of o) q.0 q.1 q.0 q.1 h.first h.second opposed_after active one two h.order (moved_pair g q).0 (moved_pair g q).1;
       }
 
-  made_back : (e : ℕ) (q : AgentNo × AgentNo) → IsMade t (parts_of n) r fa fb y.name e q → (z : AgentNo × AgentNo) × (moved_pair g z ≡ q) × IsMade t (parts_of m) r a b x.name e z
+  made_back : (e : ℕ) (q : AgentNo × AgentNo) → IsMade t (parts_of n) r fa fb other_act.name e q → (z : AgentNo × AgentNo) × (moved_pair g z ≡ q) × IsMade t (parts_of m) r a b act.name e z
   unfolding g
   made_back e q h =
       let w = agents_before g (net_of (parts_of o)) (net_of (parts_of u)) named_after q.0.0 q.1.0 (wire_n e q h) in
       go w.0 w.1 w.2 w.3 w.4
     where
       net_o : IsNet (signature_of t) (net_of (parts_of o))
-      net_o = moving.net_after (signature_of t) (net_of (parts_of m)) (net_of (parts_of n)) net f named (redex_at r pair.0 pair.1) inside redex x.name y.name (net_of (parts_of o)) (net_of (parts_of u)) x.acts.step y.acts.step
+      net_o = moving.net_after (signature_of t) (net_of (parts_of m)) (net_of (parts_of n)) net f is_renamed (redex_at r pair.0 pair.1) inside redex act.name other_act.name (net_of (parts_of o)) (net_of (parts_of u)) act.acts.step other_act.acts.step
 
-      go : (k l : ℕ) → g k ≡ q.0.0 → g l ≡ q.1.0 → (net_of (parts_of o)).partner (Port k 0) ≡ Some (Port l 0) → (z : AgentNo × AgentNo) × (moved_pair g z ≡ q) × IsMade t (parts_of m) r a b x.name e z
+      go : (k l : ℕ) → g k ≡ q.0.0 → g l ≡ q.1.0 → (net_of (parts_of o)).partner (Port k 0) ≡ Some (Port l 0) → (z : AgentNo × AgentNo) × (moved_pair g z ≡ q) × IsMade t (parts_of m) r a b act.name e z
       go k l is_k is_l wire =
           let z : AgentNo × AgentNo = agents_at (k, l) in
           let same : moved_pair g z ≡ q = ap (λ (v : ℕ). agents_at (v, g l)) is_k ∙ ap (λ (v : ℕ). agents_at (q.0.0, v)) is_l in
-          let h' : IsMade t (parts_of n) r fa fb y.name e (moved_pair g z) = subst (IsMade t (parts_of n) r fa fb y.name e) (sym same) h in
-          let one_u : symbol_in (parts_of u) (g k) ≡ Some h'.first = has_symbol t (parts_of n) r fa fb y.name (parts_of u) net_n inside y.can y.acts (moved_pair g z).0 h'.first h'.one in
-          let two_u : symbol_in (parts_of u) (g l) ≡ Some h'.second = has_symbol t (parts_of n) r fa fb y.name (parts_of u) net_n inside y.can y.acts (moved_pair g z).1 h'.second h'.two in
+          let h' : IsMade t (parts_of n) r fa fb other_act.name e (moved_pair g z) = subst (IsMade t (parts_of n) r fa fb other_act.name e) (sym same) h in
+          let one_u : symbol_in (parts_of u) (g k) ≡ Some h'.first = has_symbol t (parts_of n) r fa fb other_act.name (parts_of u) net_other inside other_act.can other_act.acts (moved_pair g z).0 h'.first h'.one in
+          let two_u : symbol_in (parts_of u) (g l) ≡ Some h'.second = has_symbol t (parts_of n) r fa fb other_act.name (parts_of u) net_other inside other_act.can other_act.acts (moved_pair g z).1 h'.second h'.two in
           let s = symbol_of (signature_of t) ((net_of (parts_of o)).symbol k) 0 (net_o.points (Port k 0) (Port l 0) wire) in
           let v = symbol_of (signature_of t) ((net_of (parts_of o)).symbol l) 0 (net_o.points (Port l 0) (Port k 0) (net_o.back (Port k 0) (Port l 0) wire)) in
           let one : symbol_in (parts_of o) k ≡ Some h'.first = symbol_back g (parts_of o) (parts_of u) named_after k s.0 h'.first s.1 one_u in
@@ -167,34 +185,34 @@ module _ (p : Program) (f : ℕ → ℕ) (m n : MachineParts) (pair : ℕ × ℕ
             record {
               first = h'.first;
               second = h'.second;
-              one = symbol_after t (parts_of m) r a b x.name (parts_of o) net inside x.can x.acts z.0 h'.first one;
-              two = symbol_after t (parts_of m) r a b x.name (parts_of o) net inside x.can x.acts z.1 h'.second two;
-              path = moving.lowest_back (signature_of t) (net_of (parts_of m)) (net_of (parts_of n)) net f named (redex_at r pair.0 pair.1) inside redex x.name y.name (net_of (parts_of o)) (net_of (parts_of u)) x.acts.step y.acts.step e (Port k 0) (Port l 0) wire h'.path;
-              order = stands_anywhere t (parts_of o) z.0 z.1 (moved_pair g z).0 (moved_pair g z).1 h'.first h'.second opposed active one two h'.order z.0 z.1;
+              one = symbol_after t (parts_of m) r a b act.name (parts_of o) net inside act.can act.acts z.0 h'.first one;
+              two = symbol_after t (parts_of m) r a b act.name (parts_of o) net inside act.can act.acts z.1 h'.second two;
+              path = moving.lowest_back (signature_of t) (net_of (parts_of m)) (net_of (parts_of n)) net f is_renamed (redex_at r pair.0 pair.1) inside redex act.name other_act.name (net_of (parts_of o)) (net_of (parts_of u)) act.acts.step other_act.acts.step e (Port k 0) (Port l 0) wire h'.path;
+              order = stands_anywhere t (parts_of o) z.0 z.1 (moved_pair g z).0 (moved_pair g z).1 h'.first h'.second opposed_after active one two h'.order z.0 z.1;
             },
           )
 
-  module _ (made : List (AgentNo × AgentNo)) (new : AreMadeOverEnds t (parts_of m) r a b x.name made) where
-    pub all_moved : AreMadeOverEnds t (parts_of n) r fa fb y.name (map (moved_pair g) made)
+  module _ (made : List (AgentNo × AgentNo)) (new : AreMadeOverEnds t (parts_of m) r a b act.name made) where
+    pub all_moved : AreMadeOverEnds t (parts_of n) r fa fb other_act.name (map (moved_pair g) made)
     all_moved = record {
-      each = λ k q h. (let z = of_mapped (moved_pair g) made k q h in let e = new.each k z.0 z.1 in (e.0, subst (IsMade t (parts_of n) r fa fb y.name e.0) z.2 (made_forth e.0 z.0 e.1)));
+      each = λ k q h. (let z = of_mapped (moved_pair g) made k q h in let e = new.each k z.0 z.1 in (e.0, subst (IsMade t (parts_of n) r fa fb other_act.name e.0) z.2 (made_forth e.0 z.0 e.1)));
       all = λ e q h. (let z = made_back e q h in let k = new.all e z.0 z.2 in (k.0, to_mapped (moved_pair g) made k.0 z.0 k.1 ∙ ap (λ (v : AgentNo × AgentNo). Some v) z.1));
       rising = rising;
     }
       where
-        rising : (j k d e : ℕ) (v w : AgentNo × AgentNo) → j < k → slice_get (map (moved_pair g) made) j ≡ Some v → slice_get (map (moved_pair g) made) k ≡ Some w → IsMade t (parts_of n) r fa fb y.name d v → IsMade t (parts_of n) r fa fb y.name e w → d < e
+        rising : (j k d e : ℕ) (v w : AgentNo × AgentNo) → j < k → slice_get (map (moved_pair g) made) j ≡ Some v → slice_get (map (moved_pair g) made) k ≡ Some w → IsMade t (parts_of n) r fa fb other_act.name d v → IsMade t (parts_of n) r fa fb other_act.name e w → d < e
         rising j k d e v w l at_j at_k one two =
             let q = of_mapped (moved_pair g) made j v at_j in
             let z = of_mapped (moved_pair g) made k w at_k in
             let c = new.each j q.0 q.1 in
             let h = new.each k z.0 z.1 in
             let less = new.rising j k c.0 h.0 q.0 z.0 l q.1 z.1 c.1 h.1 in
-            let first = end_once t (parts_of n) r fa fb y.name c.0 d v (subst (IsMade t (parts_of n) r fa fb y.name c.0) q.2 (made_forth c.0 q.0 c.1)) one in
-            let second = end_once t (parts_of n) r fa fb y.name h.0 e w (subst (IsMade t (parts_of n) r fa fb y.name h.0) z.2 (made_forth h.0 z.0 h.1)) two in
+            let first = end_once t (parts_of n) r fa fb other_act.name c.0 d v (subst (IsMade t (parts_of n) r fa fb other_act.name c.0) q.2 (made_forth c.0 q.0 c.1)) one in
+            let second = end_once t (parts_of n) r fa fb other_act.name h.0 e w (subst (IsMade t (parts_of n) r fa fb other_act.name h.0) z.2 (made_forth h.0 z.0 h.1)) two in
             omega (arith, less, first, second)
 
-    pub same_made : (other : List (AgentNo × AgentNo)) → AreMadeOverEnds t (parts_of n) r fa fb y.name other → other ≡ map (moved_pair g) made
-    same_made other there = one_made_over_ends t (parts_of n) r fa fb y.name other (map (moved_pair g) made) there all_moved
+    pub same_made : (other : List (AgentNo × AgentNo)) → AreMadeOverEnds t (parts_of n) r fa fb other_act.name other → other ≡ map (moved_pair g) made
+    same_made other there = one_made_over_ends t (parts_of n) r fa fb other_act.name other (map (moved_pair g) made) there all_moved
 
     -- ---- their queues
 
@@ -214,22 +232,22 @@ module _ (p : Program) (f : ℕ → ℕ) (m n : MachineParts) (pair : ℕ × ℕ
       over_ends : map numbers_of (map (moved_pair g) made) ≡ map (both g) (map numbers_of made)
       over_ends = map_twice numbers_of (moved_pair g) made ∙ sym (map_twice (both g) numbers_of made)
 
-      inner_pairs : map (both y.name) own ≡ map (both g) (map (both x.name) own)
+      inner_pairs : map (both other_act.name) own ≡ map (both g) (map (both act.name) own)
       inner_pairs =
-          map_same (both y.name) (λ q. both g (both x.name q)) own (λ k q e. (
+          map_same (both other_act.name) (λ q. both g (both act.name q)) own (λ k q e. (
           let h = inner.pairs.pairs k q e in
-          both_same y.name (λ z. g (x.name z)) q (sym (g_new q.0 h.first.0 (symbol_number (symbol_in r.member q.0) h.first h.one))) (sym (g_new q.1 h.second.0 (symbol_number (symbol_in r.member q.1) h.second h.two)))
+          both_same other_act.name (λ z. g (act.name z)) q (sym (g_new q.0 h.first.0 (symbol_number (symbol_in r.member q.0) h.first h.one))) (sym (g_new q.1 h.second.0 (symbol_number (symbol_in r.member q.1) h.second h.two)))
           ))
-          ∙ sym (map_twice (both g) (both x.name) own)
+          ∙ sym (map_twice (both g) (both act.name) own)
 
       -- the rest of the queue, and the new pairs by their two kinds
-      pub queue_on : remove n.queue i ++ (map numbers_of (map (moved_pair g) made) ++ map (both y.name) own) ≡ map (both g) (remove m.queue i ++ (map numbers_of made ++ map (both x.name) own))
+      pub queue_on : remove n.queue i ++ (map numbers_of (map (moved_pair g) made) ++ map (both other_act.name) own) ≡ map (both g) (remove m.queue i ++ (map numbers_of made ++ map (both act.name) own))
       queue_on =
-          ap (λ (z : List (ℕ × ℕ)). z ++ (map numbers_of (map (moved_pair g) made) ++ map (both y.name) own)) left
-          ∙ ap (λ (z : List (ℕ × ℕ)). map (both g) (remove m.queue i) ++ (z ++ map (both y.name) own)) over_ends
+          ap (λ (z : List (ℕ × ℕ)). z ++ (map numbers_of (map (moved_pair g) made) ++ map (both other_act.name) own)) left
+          ∙ ap (λ (z : List (ℕ × ℕ)). map (both g) (remove m.queue i) ++ (z ++ map (both other_act.name) own)) over_ends
           ∙ ap (λ (z : List (ℕ × ℕ)). map (both g) (remove m.queue i) ++ (map (both g) (map numbers_of made) ++ z)) inner_pairs
-          ∙ ap (λ (z : List (ℕ × ℕ)). map (both g) (remove m.queue i) ++ z) (sym (map-append (both g) (map numbers_of made) (map (both x.name) own)))
-          ∙ sym (map-append (both g) (remove m.queue i) (map numbers_of made ++ map (both x.name) own))
+          ∙ ap (λ (z : List (ℕ × ℕ)). map (both g) (remove m.queue i) ++ z) (sym (map-append (both g) (map numbers_of made) (map (both act.name) own)))
+          ∙ sym (map-append (both g) (remove m.queue i) (map numbers_of made ++ map (both act.name) own))
 
 -- ---- the need of a pair
 
@@ -297,23 +315,26 @@ module _ (f : ℕ → ℕ) (m n o u : MachineParts) (i : ℕ) (reducer : IsReduc
   own_is : y.own ≡ s.new.own
   own_is = same_first m.program.tables s.step.rule.member y.own s.new.own y.inner s.new.are_own
 
+  abbrev alike : ActAlike m.program f m n s.pair s.step.rule o u
+  alike = record { net = net_at m reducer; net_other = net_n; inside = inside_at m o i reducer s; is_renamed = same.net; act = x; other_act = y.acts; opposed_after = opposed }
+
   h : ℕ → ℕ
-  h = g m.program f m n s.pair s.step.rule o u (net_at m reducer) net_n (inside_at m o i reducer s) same.net x y.acts opposed
+  h = g m.program f m n s.pair s.step.rule o u alike
 
   named : IsRenamed h (net_of (parts_of o)) (net_of (parts_of u))
   unfolding h
-  named = named_after m.program f m n s.pair s.step.rule o u (net_at m reducer) net_n (inside_at m o i reducer s) same.net x y.acts opposed
+  named = named_after m.program f m n s.pair s.step.rule o u alike
 
   made_is : y.made ≡ map (λ q. agents_at (both h (numbers_of q))) s.new.over
   unfolding h x
-  made_is = same_made m.program f m n s.pair s.step.rule o u (net_at m reducer) net_n (inside_at m o i reducer s) same.net x y.acts opposed s.new.over s.new.are_over y.made y.new
+  made_is = same_made m.program f m n s.pair s.step.rule o u alike s.new.over s.new.are_over y.made y.new
 
   queue_is : u.queue ≡ map (both h) o.queue
   unfolding h x
   queue_is =
       y.queue ∙ ap (λ (z : List (AgentNo × AgentNo)). remove n.queue i ++ (map numbers_of z ++ map (both y.acts.name) y.own)) made_is
       ∙ ap (λ (z : List (ℕ × ℕ)). remove n.queue i ++ (map numbers_of (map (λ q. agents_at (both h (numbers_of q))) s.new.over) ++ map (both y.acts.name) z)) own_is
-      ∙ queue_on m.program f m n s.pair s.step.rule o u (net_at m reducer) net_n (inside_at m o i reducer s) same.net x y.acts opposed s.new.over s.new.are_over i reducer.queue same.queue s.new.own s.new.are_own
+      ∙ queue_on m.program f m n s.pair s.step.rule o u alike s.new.over s.new.are_over i reducer.queue same.queue s.new.own s.new.are_own
       ∙ ap (map (both h)) (sym (queue_by_kinds m o i reducer s))
 
   free_is : (c : CellClass) → count_of u.vacant c ≡ count_of o.vacant c

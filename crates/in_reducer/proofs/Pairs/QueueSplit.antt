@@ -81,10 +81,30 @@ module _ {X : Type 0} (P : X → Bool) where
 
 -- ---- the pairs of two nets side by side
 
-module _ (t : Tables) (n m w : Parts) (f : ℕ → ℕ) (ends : List (ℕ × ℕ)) (net_n : IsNet (signature_of t) (net_of n)) (net_m : IsNet (signature_of t) (net_of m)) (stand : StandBeside (net_of n) (net_of m) f ends (net_of w))
-    (opposed : AreOpposed t m) (name : ℕ → ℕ) (stay go : ℕ × ℕ → Bool) (one_of_two : (q : ℕ × ℕ) → (stay q ≡ true) ⊎ (go q ≡ true))
-    (stays : (q : ℕ × ℕ) → stay q ≡ true → IsSome ((net_of w).symbol q.0) → IsSome ((net_of n).symbol q.0)) (goes : (q : ℕ × ℕ) → go q ≡ true → IsSome ((net_of w).symbol q.0) → (y : ℕ) × IsSome ((net_of m).symbol y) × (f y ≡ q.0))
-    (named : (y : ℕ) → IsSome ((net_of m).symbol y) → name (f y) ≡ y) (qs : List (ℕ × ℕ)) (queue : IsQueueOf t w qs) where
+-- a net is a rest and a part side by side, and two tests tell which of its active pairs stay in the rest and which go to the part
+pub record ArePairsSplit (t : Tables) (n m w : Parts) (f : ℕ → ℕ) (ends : List (ℕ × ℕ)) (name : ℕ → ℕ) (stay go : ℕ × ℕ → Bool) (qs : List (ℕ × ℕ)) : Type 0 where
+  -- the rest is a net
+  pub net_n : IsNet (signature_of t) (net_of n)
+  -- the part is a net
+  pub net_m : IsNet (signature_of t) (net_of m)
+  -- the whole is the rest and the part side by side, the agents of the part under these names
+  pub stand : StandBeside (net_of n) (net_of m) f ends (net_of w)
+  -- of each active pair of the part, just one agent is a constructor
+  pub opposed : AreOpposed t m
+  -- each pair stays or goes
+  pub one_of_two : (q : ℕ × ℕ) → (stay q ≡ true) ⊎ (go q ≡ true)
+  -- if a pair stays, its first agent is in the rest
+  pub stays : (q : ℕ × ℕ) → stay q ≡ true → IsSome ((net_of w).symbol q.0) → IsSome ((net_of n).symbol q.0)
+  -- if a pair goes, its first agent is one of the part
+  pub goes : (q : ℕ × ℕ) → go q ≡ true → IsSome ((net_of w).symbol q.0) → (y : ℕ) × IsSome ((net_of m).symbol y) × (f y ≡ q.0)
+  -- from its name in the whole, an agent of the part gets its own name back
+  pub named : (y : ℕ) → IsSome ((net_of m).symbol y) → name (f y) ≡ y
+  -- the queue has the active pairs of the whole
+  pub queue : IsQueueOf t w qs
+
+module _ (t : Tables) (n m w : Parts) (f : ℕ → ℕ) (ends : List (ℕ × ℕ)) (name : ℕ → ℕ) (stay go : ℕ × ℕ → Bool) (qs : List (ℕ × ℕ)) (given : ArePairsSplit t n m w f ends name stay go qs) where
+  open given use {net_n, net_m, stand, opposed, one_of_two, stays, goes, named, queue}
+
   lives : (q : ℕ × ℕ) → IsActivePair t w (agents_at q) → IsSome ((net_of w).symbol q.0)
   lives q h = there ((net_of w).symbol q.0) h.first.0 (symbol_number (symbol_in w q.0) h.first h.one)
 

@@ -83,8 +83,30 @@ module _ (t : Tables) (n : Parts) (a b : AgentNo) (qs : List (ℕ × ℕ)) (i : 
 
 -- ---- the queue after
 
-module _ (t : Tables) (n : Parts) (r : RuleParts) (a b : AgentNo) (name : ℕ → ℕ) (m : Parts) (made : List (AgentNo × AgentNo)) (own qs : List (ℕ × ℕ)) (i : ℕ) (net : IsNet (signature_of t) (net_of n)) (inside : IsNet (signature_of t) (net_of r.member))
-    (can : CanInteract t n r a b) (act : InteractsAs t n r a b name m) (opposed : AreOpposed t r.member) (are_made : AreMadeOverEnds t n r a b name made) (inner : IsQueueOf t r.member own) (queue : IsQueueOf t n qs) (stands : slice_get qs i ≡ Some (a.0, b.0)) where
+-- an interaction of two agents that stand at a place of the queue
+pub record InteractsInQueue (t : Tables) (n : Parts) (r : RuleParts) (a b : AgentNo) (name : ℕ → ℕ) (m : Parts) (made : List (AgentNo × AgentNo)) (own qs : List (ℕ × ℕ)) (i : ℕ) : Type 0 where
+  -- the agents before are those of a net
+  pub net : IsNet (signature_of t) (net_of n)
+  -- so are those of the right member
+  pub inside : IsNet (signature_of t) (net_of r.member)
+  -- the two agents are an active pair of the rule's two symbols
+  pub can : CanInteract t n r a b
+  -- their interaction leads to the net after, with these names of the new agents
+  pub act : InteractsAs t n r a b name m
+  -- of each active pair of the right member, just one agent is a constructor
+  pub opposed : AreOpposed t r.member
+  -- these are the active pairs that are made over boundary ends
+  pub are_made : AreMadeOverEnds t n r a b name made
+  -- these are the right member's own active pairs
+  pub inner : IsQueueOf t r.member own
+  -- the queue has the active pairs of the net before
+  pub queue : IsQueueOf t n qs
+  -- the two agents stand at this place of it
+  pub stands : slice_get qs i ≡ Some (a.0, b.0)
+
+module _ (t : Tables) (n : Parts) (r : RuleParts) (a b : AgentNo) (name : ℕ → ℕ) (m : Parts) (made : List (AgentNo × AgentNo)) (own qs : List (ℕ × ℕ)) (i : ℕ) (given : InteractsInQueue t n r a b name m made own qs i) where
+  open given use {net, inside, can, act, opposed, are_made, inner, queue, stands}
+
   abbrev Made : AgentNo × AgentNo → Type 0
   Made q = (k : ℕ) × (slice_get made k ≡ Some q)
 

@@ -140,13 +140,24 @@ module _ (r : Body) (k : KeepsNet r) (agents : List CellNo) (own cuts : ℕ) (ca
   there_in_rest : (q : ℕ × ℕ) → stays x.left q ≡ true → IsSome ((net_in (reducer_view r)).symbol q.0) → IsSome ((net_of rest_parts).symbol q.0)
   there_in_rest q e s = subst IsSome (sym (symbol_seen x.left rest_fs x.rest_ends q.0)) (there_word (state_at x.left q.0) e)
 
+  pairs_split : queues.ArePairsSplit t rest_parts part_parts (parts_of (reducer_view r)) (nets.origin r k agents own cuts can x h) (ends_of_two own cuts) name (stays x.left) (goes x.left) r.queue.items
+  pairs_split = record {
+    net_n = (nets.nets r k agents own cuts can x h).0;
+    net_m = (nets.nets r k agents own cuts can x h).1;
+    stand = nets.stand r k agents own cuts can x h;
+    opposed = opposed;
+    one_of_two = λ q. either (state_at x.left q.0);
+    stays = there_in_rest;
+    goes = whole_alive;
+    named = named_again;
+    queue = k.reducer.queue;
+  }
+
   rest_queue : IsQueueOf t rest_parts rest_pairs
-  rest_queue = queues.rest_queue t rest_parts part_parts (parts_of (reducer_view r)) (nets.origin r k agents own cuts can x h) (ends_of_two own cuts) (nets.nets r k agents own cuts can x h).0 (nets.nets r k agents own cuts can x h).1 (nets.stand r k agents own cuts can x h)
-      opposed name (stays x.left) (goes x.left) (λ q. either (state_at x.left q.0)) there_in_rest whole_alive named_again r.queue.items k.reducer.queue
+  rest_queue = queues.rest_queue t rest_parts part_parts (parts_of (reducer_view r)) (nets.origin r k agents own cuts can x h) (ends_of_two own cuts) name (stays x.left) (goes x.left) r.queue.items pairs_split
 
   part_queue : IsQueueOf t part_parts part_pairs
-  part_queue = queues.part_queue t rest_parts part_parts (parts_of (reducer_view r)) (nets.origin r k agents own cuts can x h) (ends_of_two own cuts) (nets.nets r k agents own cuts can x h).0 (nets.nets r k agents own cuts can x h).1 (nets.stand r k agents own cuts can x h)
-      opposed name (stays x.left) (goes x.left) (λ q. either (state_at x.left q.0)) there_in_rest whole_alive named_again r.queue.items k.reducer.queue
+  part_queue = queues.part_queue t rest_parts part_parts (parts_of (reducer_view r)) (nets.origin r k agents own cuts can x h) (ends_of_two own cuts) name (stays x.left) (goes x.left) r.queue.items pairs_split
 
   -- ---- reducers
 

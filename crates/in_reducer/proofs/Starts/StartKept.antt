@@ -28,11 +28,36 @@ use Rattle.in_reducer.proofs.Starts.Started.{start_reducer}
 pub member_is : (p : Program) (ts : TemplatesParts) (m : MemberParts) → AreTemplatesOf p ts → m ≡ ts.start → IsMemberOf p.tables p.net m
 member_is p ts m of e = subst (IsMemberOf p.tables p.net) (sym e) of.start
 
-module _ (text : List ℕ) (x : Body) (accepted : IsAccepted text x.checked.now) (ts : TemplatesParts) (of : AreTemplatesOf x.checked.now ts) (m : MemberParts) (is : m ≡ ts.start) (cells : ℕ) (few : cells ≤ most_cells)
-    (a : ArenaView) (same : a.cells ≡ cells) (empty : a.states ≡ replicate (length classes * cells) Vacant) (ns : List CellNo) (put : IsPut m ns a x.arena)
-    (first : take (length m.joints) x.ends.items ≡ map (inner_of ns 0) m.joints) (long : length m.joints + most_ends + most_ends ≤ length x.ends.items) (queue : x.queue.items ≡ map (both (named ns)) m.pairs) (free : own_free x ≡ x.checked.now.net.free) where
+-- the net of an accepted program is put into cells that were all free, and the reducer's lists are those of this net
+pub record HoldsStart (text : List ℕ) (x : Body) (ts : TemplatesParts) (m : MemberParts) (cells : ℕ) (a : ArenaView) (ns : List CellNo) : Type 0 where
+  -- the check accepts the program's text
+  pub accepted : IsAccepted text x.checked.now
+  -- these are the program's templates
+  pub templates : AreTemplatesOf x.checked.now ts
+  -- this is the member for its net
+  pub start : m ≡ ts.start
+  -- a reducer can have so many cells of each class
+  pub few : cells ≤ most_cells
+  -- the arena has so many
+  pub same : a.cells ≡ cells
+  -- all of them were free
+  pub empty : a.states ≡ replicate (length classes * cells) Vacant
+  -- each agent is put into its own cell
+  pub put : IsPut m ns a x.arena
+  -- the first ends lead where the free ends do
+  pub first : take (length m.joints) x.ends.items ≡ map (inner_of ns 0) m.joints
+  -- there is room for both sides of each boundary end of a right member
+  pub long : length m.joints + most_ends + most_ends ≤ length x.ends.items
+  -- the queue has the net's active pairs
+  pub queue : x.queue.items ≡ map (both (named ns)) m.pairs
+  -- the free ends are those of the program's net
+  pub free : own_free x ≡ x.checked.now.net.free
+
+module _ (text : List ℕ) (x : Body) (ts : TemplatesParts) (m : MemberParts) (cells : ℕ) (a : ArenaView) (ns : List CellNo) (given : HoldsStart text x ts m cells a ns) where
+  open given use {accepted, templates, start, few, same, empty, put, first, long, queue, free}
+
   member : IsMemberOf x.checked.now.tables x.checked.now.net m
-  member = member_is x.checked.now ts m of is
+  member = member_is x.checked.now ts m templates start
 
   pub starts : IsStart x.checked.now cells (reducer_view x)
   starts = subst (λ (fs : List FreeEnd). IsStart x.checked.now cells (record { program = x.checked.now; agents = agents_in x.arena; free = leading_to fs x.ends.items; queue = x.queue.items; vacant = vacant_in (at_rest x.arena) })) (sym free)

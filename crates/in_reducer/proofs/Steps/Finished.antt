@@ -18,6 +18,23 @@ use Rattle.in_reducer.proofs.Steps.Stepped as stepped
 use Rattle.in_reducer.proofs.Steps.Laid as laid
 use Rattle.in_reducer.proofs.Steps.StillNet as still
 
+-- a pair whose right member was put beside it has interacted in the cells; its queue is still the one before
+pub record HasInteracted (r : Body) (a : ArenaView) (i : ℕ) (p : TemplateParts) (sb : StandsBeside r a i p) (own : ℕ) (b : ArenaView) (es : List End) (made : List (ℕ × ℕ)) (tables : Tables) (old : List (ℕ × ℕ)) : Type 0 where
+  -- this is the number of free ends
+  pub is_own : own ≡ length r.free.items
+  -- these are the program's tables
+  pub same : tables ≡ r.checked.now.tables
+  -- no pair was listed before
+  pub none : old ≡ []
+  -- the cells show the net after, and the pairs that are made over boundary ends are listed
+  pub adds : IsInteracted tables (stepped.setting (over a r) sb.net i p sb.at) own r.tools.placed.cells b es old made
+  -- each live cell is of the class of its agent's symbol, and none is on lease
+  pub still_net : IsNetIn tables (at_rest b)
+  -- the arena has as many cells as before
+  pub cells : b.cells ≡ r.arena.cells
+  -- the ends are as many as before
+  pub long : length es ≡ length r.ends.items
+
 module _ (r : Body) (a : ArenaView) (i : ℕ) (p : TemplateParts) (sb : StandsBeside r a i p) where
   abbrev t : Tables
   t = r.checked.now.tables
@@ -55,8 +72,9 @@ module _ (r : Body) (a : ArenaView) (i : ℕ) (p : TemplateParts) (sb : StandsBe
         sb.put,
       )
 
-  module _ (own : ℕ) (is_own : own ≡ length r.free.items) (b : ArenaView) (es : List End) (made : List (ℕ × ℕ)) (tables : Tables) (same : tables ≡ r.checked.now.tables) (old : List (ℕ × ℕ)) (none : old ≡ [])
-      (adds : IsInteracted tables (stepped.setting (over a r) sb.net i p sb.at) own r.tools.placed.cells b es old made) (still_net : IsNetIn tables (at_rest b)) (cells : b.cells ≡ r.arena.cells) (long : length es ≡ length r.ends.items) where
+  module _ (own : ℕ) (b : ArenaView) (es : List End) (made : List (ℕ × ℕ)) (tables : Tables) (old : List (ℕ × ℕ)) (given : HasInteracted r a i p sb own b es made tables old) where
+    open given use {is_own, same, none, adds, still_net, cells, long}
+
     did : IsInteracted t setting own ns b es [] made
     did = subst (λ (zs : List (ℕ × ℕ)). IsInteracted t setting own ns b es zs made) none (subst (λ (u : Tables). IsInteracted u setting own ns b es old made) same adds)
 

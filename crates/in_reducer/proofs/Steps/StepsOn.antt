@@ -80,8 +80,17 @@ module _ (m o : MachineParts) (i : ℕ) (h : IsReducer m) (s : StepsAt m i o) wh
 
   queue_on : IsQueueOf m.program.tables (parts_of o) (remove m.queue i ++ (map numbers_of s.new.over ++ map (both s.name) s.new.own))
   queue_on =
-      is_queue_after m.program.tables (parts_of m) s.step.rule one two s.name (parts_of o) s.new.over s.new.own m.queue i (net_at m h) inside_at can_at s.step.acts
-      (member_opposed m h s.step.number s.step.rule s.step.is_rule.stands) s.new.are_over s.new.are_own.pairs h.queue s.stands
+      is_queue_after m.program.tables (parts_of m) s.step.rule one two s.name (parts_of o) s.new.over s.new.own m.queue i (record {
+        net = net_at m h;
+        inside = inside_at;
+        can = can_at;
+        act = s.step.acts;
+        opposed = member_opposed m h s.step.number s.step.rule s.step.is_rule.stands;
+        are_made = s.new.are_over;
+        inner = s.new.are_own.pairs;
+        queue = h.queue;
+        stands = s.stands;
+      })
 
   -- the queue, the new pairs by their two kinds
   pub queue_by_kinds : o.queue ≡ remove m.queue i ++ (map numbers_of s.new.over ++ map (both s.name) s.new.own)

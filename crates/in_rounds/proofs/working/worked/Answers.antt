@@ -64,7 +64,16 @@ loop-plan-preserved-in-Some g c =
     let one = one_of_one c.args.hand.stock.bag c.take_last-room.result.bag d.placed.placed.bag room.one made.same in
     let numbers = ap (λ (s : SeatView). s.numbers) claimed.1 ∙ ap (λ (k : ℕ). c.loop-plan.seat.numbers ++ k ∷ []) (sym made.job) in
     record {
-      works = one_done c.args.plan.now c.args.hand q r d d.placed.template.member.need v.works c.push_reserved.ensures.items (ap (λ (s : SeatView). s.board) claimed.1) numbers is made.takes made.template.placed.written.cells one;
+      works = one_done c.args.plan.now c.args.hand q r d d.placed.template.member.need (record {
+        works = v.works;
+        done = c.push_reserved.ensures.items;
+        board = ap (λ (s : SeatView). s.board) claimed.1;
+        numbers = numbers;
+        is = is;
+        takes = made.takes;
+        cells = made.template.placed.written.cells;
+        one = one;
+      });
       rooms = all_but_last (IsEmptyRoom c.args.hand.stock) c.loop-plan.rooms.items c.take_last-room.new.self.items c.take_last-room.result c.take_last-room.ensures.items v.rooms;
       list = omega (arith, v.list, c.take_last-room.ensures.len, c.push_reserved.ensures.len, c.push_reserved.ensures.capacity);
     }

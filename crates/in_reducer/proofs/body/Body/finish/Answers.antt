@@ -45,8 +45,8 @@ queue_made-requires c =
     c.as_mut_slice.result.now c.as_mut_slice.ensures.value in
     let adds = c.interact.ensures.interacted (finished.setting r a c.args.number p sb) is_beside in
     let long = c.interact.ensures.long ∙ ap length c.as_mut_slice.ensures.value in
-    let few = finished.lengths r a c.args.number p sb c.len-own.result own c.interact.new.arena c.interact.new.ends c.interact.new.made.items c.symbols.result.now c.symbols.ensures r.tools.made.items c.requires.made.0
-    adds c.interact.ensures.net c.interact.ensures.leased.cells long in
+    let few = finished.lengths r a c.args.number p sb c.len-own.result c.interact.new.arena c.interact.new.ends c.interact.new.made.items c.symbols.result.now r.tools.made.items
+    (record { is_own = own; same = c.symbols.ensures; none = c.requires.made.0; adds = adds; still_net = c.interact.ensures.net; cells = c.interact.ensures.leased.cells; long = long }) in
     let gone = ap length c.take_out.ensures.items in
     record { room = (let e = c.take_out.ensures.room in omega (arith, few, gone, e)) }
 
@@ -68,8 +68,8 @@ queue_own-requires-clause-room c =
     let adds = c.interact.ensures.interacted (finished.setting r a c.args.number p sb) is_beside in
     let long = c.interact.ensures.long ∙ ap length c.as_mut_slice.ensures.value in
     let made = c.interact.new.made.items in
-    let few = finished.lengths r a c.args.number p sb c.len-own.result own c.interact.new.arena c.interact.new.ends made c.symbols.result.now c.symbols.ensures r.tools.made.items c.requires.made.0
-    adds c.interact.ensures.net c.interact.ensures.leased.cells long in
+    let few = finished.lengths r a c.args.number p sb c.len-own.result c.interact.new.arena c.interact.new.ends made c.symbols.result.now r.tools.made.items
+    (record { is_own = own; same = c.symbols.ensures; none = c.requires.made.0; adds = adds; still_net = c.interact.ensures.net; cells = c.interact.ensures.leased.cells; long = long }) in
     let gone = ap length c.take_out.ensures.items in
     let pairs = ap (λ (m : MemberParts). length m.pairs) c.member.ensures in
     let more = ap length c.queue_made.ensures.items in
@@ -91,8 +91,9 @@ returns-clause-steps c a sb =
     let es = c.interact.new.ends in
     let pairs = ap (λ (m : MemberParts). m.pairs) c.member.ensures in
     let items : (with_items r.ends es).items ≡ es = with_items_is r.ends es (let ok = r.ends.ok.0 in omega (arith, ok, long)) in
-    finished.steps r a c.args.number p sb c.len-own.result own c.interact.new.arena es c.interact.new.made.items c.symbols.result.now c.symbols.ensures r.tools.made.items c.requires.made.0
-    adds c.interact.ensures.net c.interact.ensures.leased.cells long c.take_out.new.queue.items c.queue_made.new.queue.items c.queue_own.new.queue.items
+    finished.steps r a c.args.number p sb c.len-own.result c.interact.new.arena es c.interact.new.made.items c.symbols.result.now r.tools.made.items
+    (record { is_own = own; same = c.symbols.ensures; none = c.requires.made.0; adds = adds; still_net = c.interact.ensures.net; cells = c.interact.ensures.leased.cells; long = long })
+    c.take_out.new.queue.items c.queue_made.new.queue.items c.queue_own.new.queue.items
     c.take_out.ensures.items c.queue_made.ensures.items (c.queue_own.ensures.items ∙ ap (λ (z : List (ℕ × ℕ)). c.queue_made.new.queue.items ++ map (both (named r.tools.placed.cells)) z) pairs) (with_items r.ends es).items items
 
 pub returns-clause-net : goal.returns-clause-net
@@ -112,8 +113,9 @@ returns-clause-net c =
     let items : (with_items r.ends es).items ≡ es = with_items_is r.ends es (let ok = r.ends.ok.0 in omega (arith, ok, long)) in
     let cells = c.interact.ensures.leased.cells ∙ sb.put.cells in
     record {
-      reducer = finished.is_reducer r a c.args.number p sb c.len-own.result own b es c.interact.new.made.items c.symbols.result.now c.symbols.ensures r.tools.made.items c.requires.made.0
-          adds c.interact.ensures.net c.interact.ensures.leased.cells long c.take_out.new.queue.items c.queue_made.new.queue.items c.queue_own.new.queue.items
+      reducer = finished.is_reducer r a c.args.number p sb c.len-own.result b es c.interact.new.made.items c.symbols.result.now r.tools.made.items
+          (record { is_own = own; same = c.symbols.ensures; none = c.requires.made.0; adds = adds; still_net = c.interact.ensures.net; cells = c.interact.ensures.leased.cells; long = long })
+          c.take_out.new.queue.items c.queue_made.new.queue.items c.queue_own.new.queue.items
           c.take_out.ensures.items c.queue_made.ensures.items (c.queue_own.ensures.items ∙ ap (λ (z : List (ℕ × ℕ)). c.queue_made.new.queue.items ++ map (both (named r.tools.placed.cells)) z) pairs) (with_items r.ends es).items items;
       net = subst (λ (t : Tables). IsNetIn t (at_rest b)) c.symbols.ensures c.interact.ensures.net;
       few = (let k = sb.net.few in omega (arith, cells, k));

@@ -47,8 +47,9 @@ returns-clause-cut c =
     let new = c.push_reserved-2.ensures.items ∙ ap (λ (z : List OwnEnd). z ++ Cut c.opposite_of.result ∷ []) first ∙ ap (λ (z : PortType). (r.free.items ++ Cut kind ∷ []) ++ Cut z ∷ []) c.opposite_of.ensures in
     let list = c.push_reserved-4.ensures.items ∙ ap (λ (z : List End). z ++ c.free-2.result ∷ []) (c.push_reserved-3.ensures.items ∙ ap (λ (z : List End). z ++ c.free.result ∷ []) items) in
     cuts_there _ _ _ c.args.cell.0 c.args.place c.self.view_is
-    (cut_off.cuts r k c.args.cell.0 c.args.place can c.cut.new.arena es c.cut.ensures.kept long c.len-own.result own c.as_mut_slice.result.now value
-    (c.cut.ensures.cut (signature_of r.checked.now.tables)) c.symbol.result c.symbol.ensures kind is_kind c.push_reserved-2.new.self.items new c.free.result c.free-2.result c.push_reserved-4.new.self.items list c.self.invariant.none)
+    (cut_off.cuts r k c.args.cell.0 c.args.place can c.cut.new.arena es c.len-own.result c.as_mut_slice.result.now c.symbol.result kind c.push_reserved-2.new.self.items c.free.result c.free-2.result c.push_reserved-4.new.self.items
+    (record { kept = c.cut.ensures.kept; long = long; is_own = own; is_ends = value; cut = c.cut.ensures.cut (signature_of r.checked.now.tables); is_symbol = c.symbol.ensures; is_kind = is_kind; is_new = new; is_list = list })
+    c.self.invariant.none)
 
 pub invariant_of-self-2 : goal.invariant_of-self-2
 invariant_of-self-2 c =
@@ -71,15 +72,15 @@ invariant_of-self-2 c =
     let second = c.push_reserved-2.ensures.items ∙ ap (λ (z : List OwnEnd). z ++ Cut c.opposite_of.result ∷ []) first in
     let new = second ∙ ap (λ (z : PortType). (r.free.items ++ Cut kind ∷ []) ++ Cut z ∷ []) c.opposite_of.ensures in
     let list = c.push_reserved-4.ensures.items ∙ ap (λ (z : List End). z ++ c.free-2.result ∷ []) (c.push_reserved-3.ensures.items ∙ ap (λ (z : List End). z ++ c.free.result ∷ []) items) in
+    let given : cut_off.IsCutOff r c.args.cell.0 c.args.place b es c.len-own.result c.as_mut_slice.result.now c.symbol.result kind c.push_reserved-2.new.self.items c.free.result c.free-2.result c.push_reserved-4.new.self.items =
+    record { kept = kept; long = long; is_own = own; is_ends = value; cut = c.cut.ensures.cut (signature_of r.checked.now.tables); is_symbol = c.symbol.ensures; is_kind = is_kind; is_new = new; is_list = list } in
     let alike = still.kept_alike r.arena b kept in
     let few : length r.free.items + 2 ≤ most_free = (let m = cut_off.free_many r k in let v = ap (λ (m : MachineParts). length m.free) c.self.view_is in let f = c.requires.few in omega (arith, m, v, f)) in
     record {
       all = record {
         net = record {
-          reducer = cut_off.is_reducer r k c.args.cell.0 c.args.place can b es kept long c.len-own.result own c.as_mut_slice.result.now value
-              (c.cut.ensures.cut (signature_of r.checked.now.tables)) c.symbol.result c.symbol.ensures kind is_kind c.push_reserved-2.new.self.items new c.free.result c.free-2.result c.push_reserved-4.new.self.items list;
-          net = cut_off.still_net r k c.args.cell.0 c.args.place can b es kept long c.len-own.result own c.as_mut_slice.result.now value
-              (c.cut.ensures.cut (signature_of r.checked.now.tables)) c.symbol.result c.symbol.ensures kind is_kind c.push_reserved-2.new.self.items new c.free.result c.free-2.result c.push_reserved-4.new.self.items list;
+          reducer = cut_off.is_reducer r k c.args.cell.0 c.args.place can b es c.len-own.result c.as_mut_slice.result.now c.symbol.result kind c.push_reserved-2.new.self.items c.free.result c.free-2.result c.push_reserved-4.new.self.items given;
+          net = cut_off.still_net r k c.args.cell.0 c.args.place can b es c.len-own.result c.as_mut_slice.result.now c.symbol.result kind c.push_reserved-2.new.self.items c.free.result c.free-2.result c.push_reserved-4.new.self.items given;
           few = (let e = kept.cells in let f = k.few in omega (arith, e, f));
           few_free = (let n = cut_off.two_longer r.free.items (Cut kind) (Cut c.opposite_of.result) c.push_reserved-2.new.self.items second in omega (arith, few, n));
           free = cut_off.own_ends r.checked.now r.free.items kind _ c.push_reserved-2.new.self.items new k.free;

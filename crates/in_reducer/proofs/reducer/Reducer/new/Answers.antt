@@ -42,8 +42,19 @@ invariant_of-result c =
     let room : length classes * c.args.cells + 2 * most_ends ≤ 2 * f.queue.room + 1 = (let r = laid.room in let s = fresh.queue_room in omega (arith, r, s)) in
     let tools = subst (λ (t : Tools). AreTools t c.in_ok-fresh.fresh.arena) (sym laid.tools) fresh.tools in
     subst IsKept (sym c.into_body.ensures)
-    (is_kept h.0 x h.1 c.args.templates.now c.requires.templates c.start.result.now c.start.ensures c.args.cells c.requires.cells c.in_ok-fresh.fresh.arena fresh.cells fresh.empty laid.names laid.put laid.first laid.long laid.queue
-    (c.in_ok-free.ensures.program p (sym c.net.ensures)) room tools (c.in_ok-free.ensures.each p (sym c.net.ensures)))
+    (is_kept h.0 x c.args.templates.now c.start.result.now c.args.cells c.in_ok-fresh.fresh.arena laid.names (record {
+      accepted = h.1;
+      templates = c.requires.templates;
+      start = c.start.ensures;
+      few = c.requires.cells;
+      same = fresh.cells;
+      empty = fresh.empty;
+      put = laid.put;
+      first = laid.first;
+      long = laid.long;
+      queue = laid.queue;
+      free = c.in_ok-free.ensures.program p (sym c.net.ensures);
+    }) room tools (c.in_ok-free.ensures.each p (sym c.net.ensures)))
 
 pub returns : goal.returns
 returns c =
@@ -54,5 +65,16 @@ returns c =
     let laid = c.in_ok-ends.ensures.laid in
     let x : Body = record { checked = c.args.checked; arena = f.arena; free = c.in_ok-free.free; ends = c.in_ok-ends.ends; queue = f.queue; tools = f.tools } in
     subst (λ (b : Body). IsStart p c.args.cells (reducer_view b)) (sym c.into_body.ensures)
-    (starts h.0 x h.1 c.args.templates.now c.requires.templates c.start.result.now c.start.ensures c.args.cells c.requires.cells c.in_ok-fresh.fresh.arena fresh.cells fresh.empty laid.names laid.put laid.first laid.long laid.queue
-    (c.in_ok-free.ensures.program p (sym c.net.ensures)))
+    (starts h.0 x c.args.templates.now c.start.result.now c.args.cells c.in_ok-fresh.fresh.arena laid.names (record {
+      accepted = h.1;
+      templates = c.requires.templates;
+      start = c.start.ensures;
+      few = c.requires.cells;
+      same = fresh.cells;
+      empty = fresh.empty;
+      put = laid.put;
+      first = laid.first;
+      long = laid.long;
+      queue = laid.queue;
+      free = c.in_ok-free.ensures.program p (sym c.net.ensures);
+    }))
