@@ -1,7 +1,7 @@
 use Rattle.std.proofs.Common.{◌<◌, length, arith}
 use Rattle.std.proofs.lemmas.Option.{slice_get_within}
 use Rattle.in_base.proofs.Each.{at_index}
-use Rattle.in_compile.proofs.putting.Placed.put.Goals as goal
+use Rattle.in_compile.proofs.placed.Placed.put.Goals as goal
 
 -- each cell has an agent, for which it was begun as a free one
 pub returns-clause-vacant : goal.returns-clause-vacant
