@@ -6,6 +6,7 @@ ghost use Rattle.in_reducer.specs.Standing.{IsNetIn, AreLeasedAlike, at_rest};
 
 use crate::sides::{PlacedPair, set_sides};
 use in_arena::{Arena, EndWord};
+use in_base::use_promise;
 use in_cells::join_all;
 use in_symbols::Symbols;
 
@@ -29,7 +30,7 @@ pub(crate) fn interact(
     ensures made_room { vec_capacity made.new ≡ vec_capacity made.old }
 {
     let many = u32::from(next.template.boundary_ends());
-    next.template.member().is_sound();
+    use_promise!(next.template.member().is_sound());
     set_sides(arena, next, ends);
     arena.retire(next.pair.one);
     arena.retire(next.pair.other);

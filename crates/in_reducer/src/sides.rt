@@ -7,6 +7,7 @@ ghost use Rattle.in_reducer.specs.Inside.{most_ends, most_free};
 ghost use Rattle.in_reducer.specs.Sides.{port_at, end_there, outer_of, inner_of, AreSetBelow, HasPort, HasJoint};
 
 use in_arena::{Arena, CellNo, End, EndWord};
+use in_base::use_promise;
 use in_compile::{Joint, Placed, Template};
 
 /// Two agents that interact, the one with the first boundary ends, and the number of these.
@@ -84,7 +85,7 @@ pub(crate) fn set_sides(arena: &Arena, next: &PlacedPair, ends: &mut [EndWord])
     requires room { next.now.own + length next.now.template.now.member.joints + length next.now.template.now.member.joints ≤ length ends.old }
     ensures { AreSetBelow next.now.pair arena.now next.now.template.now.member.joints next.now.placed.now.cells next.now.own (length next.now.template.now.member.joints) (length next.now.template.now.member.joints) ends.old ends.new }
 {
-    next.template.member().is_sound();
+    use_promise!(next.template.member().is_sound());
     let own = next.own;
     let many = next.template.boundary_ends();
     let inner_sides = own + u32::from(many);

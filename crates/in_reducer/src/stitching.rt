@@ -26,7 +26,7 @@ impl<'a> Body<'a> {
     {
         use_promise!(done.is_of_template());
         let template = done.template();
-        template.member().is_sound();
+        use_promise!(template.member().is_sound());
         let settled = done.settle(&mut self.arena);
         let own = mem::replace(&mut self.tools.placed, settled);
         self.finish(template, 0);
