@@ -119,9 +119,11 @@ version() {
   sed -n 's/^pub const VERSION: .*"\(.*\)";$/\1/p' "$top/crates/in_version/src/lib.rt"
 }
 
-# Becomes this program, with these words. Under `set -e` an `exec` that fails would end the script with status 1.
+# Becomes this program, with these words. Under `set -e` an `exec` that fails would end the script with status 1. The C library is told to ask for
+# large pages, if the variable says nothing else: a run whose net outgrows the cache takes less time with them (docs/work/SPEED.md).
 become() {
   set +e
+  export GLIBC_TUNABLES="${GLIBC_TUNABLES-glibc.malloc.hugetlb=1}"
   shopt -s execfail
   exec "$@"
   exit 70

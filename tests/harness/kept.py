@@ -102,6 +102,14 @@ def replace_by_another(copy):
     note_sums(copy)
 
 
+def show_tunables(copy):
+    """The kept programs print what they pass on to the C library."""
+    for name in NAMES:
+        with open(kept_at(copy, name), "w", encoding="utf-8") as file:
+            print('#!/bin/sh\necho "$GLIBC_TUNABLES"', file=file)
+    note_sums(copy)
+
+
 def leave_out(copy):
     for name in NAMES:
         os.remove(kept_at(copy, name))
@@ -209,6 +217,17 @@ def wrong_refusal(program, change, said, name):
     return None
 
 
+def wrong_tunables(program):
+    """What is wrong with what the scripts pass on to the C library: large pages, but for who says something else."""
+    copy = changed(program, show_tunables, "tunables")
+    for script in ("./inet", "./inet_export"):
+        for passed, wanted in (({}, "glibc.malloc.hugetlb=1"), ({"GLIBC_TUNABLES": "glibc.malloc.hugetlb=0"}, "glibc.malloc.hugetlb=0")):
+            answer = asked(copy, [script], **passed)
+            if answer.output.decode() != f"{wanted}\n":
+                return f"{script} passes {answer.output!r}, not {wanted}"
+    return None
+
+
 def wrong_check(program, change, said, statuses, name):
     """What is wrong with the comparison in a changed copy, outside of a landing and at one."""
     copy = changed(program, change, f"checked {name}")
@@ -278,5 +297,6 @@ def kept(program):
         yield f"./inet noted, {name}", partial(wrong_note, program, change, said, name)
     for name, (change, said) in UNANSWERED.items():
         yield f"./inet {name}", partial(wrong_refusal, program, change, said, name)
+    yield "large pages", partial(wrong_tunables, program)
     for name, (change, said, *statuses) in CHECKED.items():
         yield f"dist/keep check {name}", partial(wrong_check, program, change, said, statuses, name)
