@@ -1,5 +1,6 @@
-"""Runs with too few cells: the line of the stop, the same each time, and free cells and agents that make up all cells; several workers go on as
-long as a pair has room, so they do as many interactions as one at least. And the figures of `inet run --stats`, among them the most cells in use; and what helps where a run has stopped early."""
+"""Runs with too few cells: the line of the stop, the same each time, and free cells and agents that make up all cells. Several workers go on as
+long as a pair has room, so they do as many interactions as one at least. And the figures of `inet run --stats`, among them the most cells in
+use; and what helps where a run has stopped early."""
 import itertools
 import re
 from functools import partial
