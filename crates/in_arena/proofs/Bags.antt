@@ -6,7 +6,7 @@ use Rattle.std.proofs.lemmas.List.Sums.{sum_by-cons, sum_by-take-drop, sum_by-ta
 use Rattle.in_arena.specs.Arenas.{ArenaView, IsOf, changed, free_of, state_at}
 use Rattle.in_arena.specs.Bags.{IsBagOf}
 use Rattle.in_arena.specs.Changes.{one_if_free, EmptyBagIsOf, BagsStay, LeaseToTakesOne, BagsStayApart, MovingKeepsApart, LeaseIsInNoBag}
-use Rattle.in_arena.specs.Classes.{classes, class_no, IsNumberOf}
+use Rattle.in_arena.specs.Classes.{IsNumberOf, all_of, amount, first_of}
 use Rattle.in_arena.specs.States.{State, Vacant, Leased, Live, IsLeased, IsLive, places, is_vacant}
 use Rattle.in_arena.proofs.Rows.{stays}
 use Rattle.in_arena.proofs.Changes.{counts_change, lease_stays}
@@ -104,9 +104,9 @@ part_replicate k n m =
 
 pub empty_is_of : EmptyBagIsOf
 empty_is_of a = (
-  record { memory = refl; cells = refl; leased = λ n in_it. absurd (in_it (subst IsLeased (sym (none_in n (length classes * a.cells))) tt)) },
-  length-replicate (length classes * a.cells) Leased,
-  λ c. part_replicate a.cells (class_no c * a.cells) (length classes * a.cells),
+  record { memory = refl; cells = refl; leased = λ n in_it. absurd (in_it (subst IsLeased (sym (none_in n (all_of a.cells))) tt)) },
+  length-replicate (all_of a.cells) Leased,
+  λ c. part_replicate (amount a.cells c) (first_of a.cells c) (all_of a.cells),
 )
   where
     none_in : (n m : ℕ) → get_or (replicate m Leased) n Leased ≡ Leased

@@ -1,72 +1,61 @@
 -- An arena's counts and leases after a change of one cell.
 use Rattle.std.proofs.Common.{◌≡◌, ℕ, zero, suc, ◌+◌, ◌*◌, ◌-◌, ◌<◌, ◌≤◌, List, take, drop, length, set, get_or, count_by, sym, ap, ◌∙◌, subst, ⊎_elim, arith, get_or-set_other}
-use Rattle.std.proofs.Math.Nat.{suc-mul}
 use Rattle.std.proofs.lemmas.Bool.{cases_lt}
 use Rattle.std.proofs.lemmas.List.{drop-set-add, drop-set-lt, take-set-le, get_or-take, get_or-drop, length-take, length-drop, set-get_or}
 use Rattle.std.proofs.lemmas.List.Sums.{sum_by-set}
 use Rattle.in_arena.specs.Arenas.{ArenaView, BeginsCell, IsOf, changed, free_of, part_of, state_at}
 use Rattle.in_arena.specs.Changes.{AllButOneStay, HasAllCells, OneFewerIsFree, one_if_free, FreeCountsChange, LeaseTakesOne, LeasesStay, LeasesDiffer}
-use Rattle.in_arena.specs.Classes.{classes, class_no, IsNumberOf}
+use Rattle.in_arena.specs.Classes.{IsNumberOf, all_of, amount, first_of}
 use Rattle.in_arena.specs.States.{State, Leased, IsLeased, is_vacant}
 use Rattle.in_arena.specs.declared.content.CellClass.{CellClass}
-use Rattle.in_arena.proofs.Classes.{known, numbers_apart}
+use Rattle.in_arena.proofs.Classes.{class_within, numbers_apart}
 use Rattle.in_arena.proofs.FreeLists.{take_set}
 
--- all cells of a class are below those of the next one
-next_class : (c : CellClass) (cells : ℕ) → (class_no c + 1) * cells ≡ class_no c * cells + cells
-next_class c cells = ap (λ k. k * cells) (omega arith) ∙ suc-mul (class_no c) cells
-
--- this many classes have at least this many cells
-up_to : (k m cells : ℕ) → k ≤ m → k * cells ≤ m * cells
-up_to zero m cells le = omega arith
-up_to (suc k) zero cells le = absurd (omega arith)
-up_to (suc k) (suc m) cells le = omega (arith, suc-mul k cells, suc-mul m cells, up_to k m cells (omega arith))
-
 pub number_inside : (a : ArenaView) (n : ℕ) (c : CellClass) → HasAllCells a → IsNumberOf a.cells c n → n < length a.states
-number_inside a n c all is = let lt = is.1 in omega (arith, all, lt, up_to (class_no c + 1) (length classes) a.cells (omega (arith, known c)))
+number_inside a n c all is = let lt = is.1 in omega (arith, all, lt, class_within a.cells c)
 
 module _ (a : ArenaView) (n : ℕ) (x : State) where
   abbrev new : List State
   new = set a.states n x
 
   -- the class of the cell
-  part_set : (c : CellClass) → IsNumberOf a.cells c n → part_of (changed a n x) c ≡ set (part_of a c) (n - class_no c * a.cells) x
+  part_set : (c : CellClass) → IsNumberOf a.cells c n → part_of (changed a n x) c ≡ set (part_of a c) (n - first_of a.cells c) x
   part_set c is =
-      let start = class_no c * a.cells in let i = n - start in let from = is.0 in
+      let start = first_of a.cells c in let i = n - start in let from = is.0 in
       let at : n ≡ start + i = omega (arith, from) in
-      ap (λ k. take a.cells (drop start (set a.states k x))) at ∙ ap (take a.cells) (drop-set-add start a.states i x) ∙ take_set a.cells (drop start a.states) i x
+      ap (λ k. take (amount a.cells c) (drop start (set a.states k x))) at ∙ ap (take (amount a.cells c)) (drop-set-add start a.states i x) ∙ take_set (amount a.cells c) (drop start a.states) i x
 
-  part_at : (c : CellClass) → IsNumberOf a.cells c n → get_or (part_of a c) (n - class_no c * a.cells) Leased ≡ state_at a n
+  part_at : (c : CellClass) → IsNumberOf a.cells c n → get_or (part_of a c) (n - first_of a.cells c) Leased ≡ state_at a n
   part_at c is =
-      let start = class_no c * a.cells in let i = n - start in let from = is.0 in let below = is.1 in
+      let start = first_of a.cells c in let i = n - start in let from = is.0 in let below = is.1 in
       let at : start + i ≡ n = omega (arith, from) in
-      get_or-take a.cells (drop start a.states) i Leased (omega (arith, from, below, next_class c a.cells)) ∙ get_or-drop start a.states i Leased ∙ ap (state_at a) at
+      get_or-take (amount a.cells c) (drop start a.states) i Leased (omega (arith, from, below)) ∙ get_or-drop start a.states i Leased ∙ ap (state_at a) at
 
-  part_long : (c : CellClass) → HasAllCells a → length (part_of a c) ≡ a.cells
+  part_long : (c : CellClass) → HasAllCells a → length (part_of a c) ≡ amount a.cells c
   part_long c all =
-      let start = class_no c * a.cells in let first = length-take a.cells (drop start a.states) in let rest = length-drop start a.states in
-      omega (arith, first, rest, all, next_class c a.cells, up_to (class_no c + 1) (length classes) a.cells (omega (arith, known c)))
+      let start = first_of a.cells c in let first = length-take (amount a.cells c) (drop start a.states) in let rest = length-drop start a.states in
+      omega (arith, first, rest, all, class_within a.cells c)
 
   -- another class than the cell's
   part_other : (c d : CellClass) → IsNumberOf a.cells c n → (d ≡ c → ⊥) → part_of (changed a n x) d ≡ part_of a d
   part_other c d is apart =
-      let start = class_no d * a.cells in let i = n - start in
+      let start = first_of a.cells d in let i = n - start in
       ⊎_elim
-      (λ (before : n < start). ap (take a.cells) (drop-set-lt start a.states n x before))
+      (λ (before : n < start). ap (take (amount a.cells d)) (drop-set-lt start a.states n x before))
       (λ (from : start ≤ n).
       let at : n ≡ start + i = omega (arith, from) in
-      let beyond : a.cells ≤ i = ⊎_elim
-      (λ (lt : n < (class_no d + 1) * a.cells). absurd (apart (numbers_apart a.cells n d c (from, lt) is)))
-      (λ ge. omega (arith, from, ge, next_class d a.cells)) (cases_lt n ((class_no d + 1) * a.cells))
+      let beyond : amount a.cells d ≤ i = ⊎_elim
+      (λ (lt : n < first_of a.cells d + amount a.cells d). absurd (apart (numbers_apart a.cells n d c (from, lt) is)))
+      (λ ge. omega (arith, from, ge)) (cases_lt n (first_of a.cells d + amount a.cells d))
       in
-      ap (λ k. take a.cells (drop start (set a.states k x))) at ∙ ap (take a.cells) (drop-set-add start a.states i x) ∙ take-set-le a.cells (drop start a.states) i x beyond)
+      ap (λ k. take (amount a.cells d) (drop start (set a.states k x))) at ∙ ap (take (amount a.cells d)) (drop-set-add start a.states i x) ∙ take-set-le (amount a.cells d) (drop start a.states) i x beyond)
       (cases_lt n start)
 
 pub counts_change : FreeCountsChange
 counts_change a n c x all is =
-    let i = n - class_no c * a.cells in let from = is.0 in let below = is.1 in
+    let i = n - first_of a.cells c in let from = is.0 in let below = is.1 in
     let old = ap one_if_free (part_at a n x c is) in
-    let sum = sum_by-set one_if_free (part_of a c) i x Leased (omega (arith, part_long a n x c all, from, below, next_class c a.cells)) in (
+    let sum = sum_by-set one_if_free (part_of a c) i x Leased (omega (arith, part_long a n x c all, from, below)) in (
       omega (arith, ap (count_by is_vacant) (part_set a n x c is), sum, old),
       λ d apart. ap (count_by is_vacant) (part_other a n x c d is apart),
     )

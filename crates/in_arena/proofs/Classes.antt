@@ -1,10 +1,12 @@
 -- Consequences of the numbers and widths of classes.
-use Rattle.std.proofs.Common.{◌≡◌, ◌<◌, ◌+◌, ◌*◌, ℕ, zero, suc, length, map, get_or, slice_get, Some, None, refl, sym, ap, ⊎_elim, arith}
+use Rattle.std.proofs.Common.{◌≡◌, ◌≤◌, ◌<◌, ◌+◌, ℕ, zero, suc, length, map, get_or, slice_get, Some, None, refl, sym, ap, ⊎_elim, arith}
 use Rattle.std.proofs.lemmas.Option.{same_Some}
 use Rattle.std.proofs.lemmas.Bool.{cases_lt}
-use Rattle.in_arena.specs.Classes.{classes, class_no, IsNumberOf}
+use Rattle.in_arena.specs.Classes.{IsNumberOf, all_of, amount, class_no, classes, first_of}
+use Rattle.in_arena.specs.Limiting.{AreAllowed}
 use Rattle.in_arena.specs.declared.content.CellClass.{CellClass}
 use Rattle.in_arena.specs.declared.content.CellClass.TheVariants.{Small, Large, Wide}
+use Rattle.in_arena.specs.declared.content.CellCounts.{CellCounts}
 
 pub known : (c : CellClass) → class_no c < length classes
 known Small = omega arith
@@ -24,14 +26,14 @@ number_at (suc zero) c e = ap class_no (sym (same_Some Large c e))
 number_at (suc (suc zero)) c e = ap class_no (sym (same_Some Wide c e))
 number_at (suc (suc (suc i))) c e = absurd (let f : None ≡ Some c = e in cc)
 
-pub class_of_number : (cells n : ℕ) → n < length classes * cells → (c : CellClass) × IsNumberOf cells c n
+pub class_of_number : (cells : CellCounts) (n : ℕ) → n < all_of cells → (c : CellClass) × IsNumberOf cells c n
 class_of_number cells n lt =
     ⊎_elim
     (λ first. (Small, (omega arith, omega (arith, first))))
-    (λ after. ⊎_elim (λ second. (Large, (omega (arith, after), omega (arith, second)))) (λ third. (Wide, (omega (arith, third), omega (arith, lt)))) (cases_lt n (cells + cells)))
-    (cases_lt n cells)
+    (λ after. ⊎_elim (λ second. (Large, (omega (arith, after), omega (arith, second)))) (λ third. (Wide, (omega (arith, third), omega (arith, lt)))) (cases_lt n (cells.small + cells.large)))
+    (cases_lt n cells.small)
 
-pub numbers_apart : (cells n : ℕ) (c d : CellClass) → IsNumberOf cells c n → IsNumberOf cells d n → c ≡ d
+pub numbers_apart : (cells : CellCounts) (n : ℕ) (c d : CellClass) → IsNumberOf cells c n → IsNumberOf cells d n → c ≡ d
 numbers_apart cells n Small Small p q = refl
 numbers_apart cells n Small Large p q = let below = p.1 in let from = q.0 in absurd (omega (arith, below, from))
 numbers_apart cells n Small Wide p q = let below = p.1 in let from = q.0 in absurd (omega (arith, below, from))
@@ -41,6 +43,18 @@ numbers_apart cells n Large Wide p q = let below = p.1 in let from = q.0 in absu
 numbers_apart cells n Wide Small p q = let from = p.0 in let below = q.1 in absurd (omega (arith, below, from))
 numbers_apart cells n Wide Large p q = let from = p.0 in let below = q.1 in absurd (omega (arith, below, from))
 numbers_apart cells n Wide Wide p q = refl
+
+-- the cells of a class are among all cells
+pub class_within : (cells : CellCounts) (c : CellClass) → first_of cells c + amount cells c ≤ all_of cells
+class_within cells Small = omega arith
+class_within cells Large = omega arith
+class_within cells Wide = omega arith
+
+-- a class has no more cells than there are of all classes
+pub class_few : (cells : CellCounts) → AreAllowed cells → (c : CellClass) → (amount cells c ≤ 16777216) × (all_of cells ≤ 33554432)
+class_few cells few Small = let s = few.small in let l = few.large in let w = few.wide in (s, omega (arith, s, l, w))
+class_few cells few Large = let s = few.small in let l = few.large in let w = few.wide in (omega (arith, l), omega (arith, s, l, w))
+class_few cells few Wide = let s = few.small in let l = few.large in let w = few.wide in (omega (arith, w), omega (arith, s, l, w))
 
 -- two classes with one number are one
 pub same_class : (c d : CellClass) → class_no c ≡ class_no d → c ≡ d
@@ -53,3 +67,16 @@ same_class Large Small e = absurd (omega (arith, e))
 same_class Large Wide e = absurd (omega (arith, e))
 same_class Wide Small e = absurd (omega (arith, e))
 same_class Wide Large e = absurd (omega (arith, e))
+
+-- the number of cells of the first k classes
+abbrev pub of_first : CellCounts → ℕ → ℕ
+of_first cells zero = 0
+of_first cells (suc zero) = cells.small
+of_first cells (suc (suc zero)) = cells.small + cells.large
+of_first cells (suc (suc (suc k))) = all_of cells
+
+-- the classes before one have the cells before its first
+pub first_is : (cells : CellCounts) (c : CellClass) → (of_first cells (class_no c) ≡ first_of cells c) × (of_first cells (class_no c + 1) ≡ first_of cells c + amount cells c)
+first_is cells Small = (refl, omega arith)
+first_is cells Large = (refl, refl)
+first_is cells Wide = (refl, refl)

@@ -4,11 +4,12 @@ use Rattle.std.specs.Prelude.{Option}
 use Rattle.std.proofs.lemmas.Bool.{cases_eq, cases_lt}
 use Rattle.std.proofs.lemmas.List.{take_more, take_more_set}
 use Rattle.in_memory.specs.declared.cells.Cells.{Cells}
-use Rattle.in_arena.specs.Classes.{width}
+use Rattle.in_arena.specs.Classes.{amount, width}
 use Rattle.in_arena.specs.Rows.{Rewrites}
 use Rattle.in_arena.specs.declared.spot.Spot.{Spot}
-use Rattle.in_arena.specs.Words.{Word, Content, slots, head, slot_of, IsHead, end_of, cell_of, word_at, ends_in, cell_in, IsInOneState, Gone, New, Filled, AreWhole, ChangesCell}
+use Rattle.in_arena.specs.Words.{Word, Content, slots, head, slot_of, IsHead, end_of, cell_of, word_at, ends_in, cell_in, IsInOneState, Gone, New, Filled, AreWhole, ChangesCell, words_of}
 use Rattle.in_arena.specs.declared.content.CellClass.{CellClass}
+use Rattle.in_arena.specs.declared.content.CellCounts.{CellCounts}
 use Rattle.in_arena.specs.declared.content.End.{End}
 use Rattle.in_arena.proofs.Rows.{with_word, here_now, elsewhere, one_changes}
 use Rattle.in_arena.proofs.Words.{head_inside, slot_inside, slot_no_head, slot_one}
@@ -21,22 +22,22 @@ slot_cases c (suc (suc zero)) lt = inr (2, omega (arith, head_inside c), refl)
 slot_cases c (suc (suc (suc zero))) lt = inl refl
 slot_cases c (suc (suc (suc (suc q)))) lt = inr (suc (suc (suc q)), omega (arith, lt), refl)
 
-pub changes_none : (cells : ℕ) (ws : List Word) (c : CellClass) (i : ℕ) → ChangesCell cells ws ws c i
+pub changes_none : (cells : CellCounts) (ws : List Word) (c : CellClass) (i : ℕ) → ChangesCell cells ws ws c i
 changes_none cells ws c i = record { long = refl; others = λ x none. refl }
 
-pub changes_twice : (cells : ℕ) (a b d : List Word) (c : CellClass) (i : ℕ) → ChangesCell cells a b c i → ChangesCell cells b d c i → ChangesCell cells a d c i
+pub changes_twice : (cells : CellCounts) (a b d : List Word) (c : CellClass) (i : ℕ) → ChangesCell cells a b c i → ChangesCell cells b d c i → ChangesCell cells a d c i
 changes_twice cells a b d c i f g = record { long = g.long ∙ f.long; others = λ x none. g.others x none ∙ f.others x none }
 
 -- all its words are here, and those of the first places are written
-pub record IsFilledTo (cells : ℕ) (old now : List Word) (c : CellClass) (i to : ℕ) : Type 0 where
+pub record IsFilledTo (cells : CellCounts) (old now : List Word) (c : CellClass) (i to : ℕ) : Type 0 where
   pub change : ChangesCell cells old now c i
   pub here : (q : ℕ) → q < slots c → (w : Option End) × (word_at cells now c i q ≡ Some w)
   pub written : (p : ℕ) → p < to → p < width c → (e : End) × (word_at cells now c i (slot_of p) ≡ Some (Some e))
 
-pub filled_none : (cells : ℕ) (ws : List Word) (c : CellClass) (i : ℕ) → ((q : ℕ) → q < slots c → word_at cells ws c i q ≡ Some None) → IsFilledTo cells ws ws c i 0
+pub filled_none : (cells : CellCounts) (ws : List Word) (c : CellClass) (i : ℕ) → ((q : ℕ) → q < slots c → word_at cells ws c i q ≡ Some None) → IsFilledTo cells ws ws c i 0
 filled_none cells ws c i fresh = record { change = changes_none cells ws c i; here = λ q lt. (None, fresh q lt); written = λ p lt inside. absurd (omega arith) }
 
-pub filled_more : (cells : ℕ) (old now : List Word) (c : CellClass) (i p : ℕ) (e : End) → length now ≡ 32 * cells → i < cells → p < width c → IsFilledTo cells old now c i p → IsFilledTo cells old (with_word cells now c i (slot_of p) e) c i (p + 1)
+pub filled_more : (cells : CellCounts) (old now : List Word) (c : CellClass) (i p : ℕ) (e : End) → length now ≡ words_of cells → i < amount cells c → p < width c → IsFilledTo cells old now c i p → IsFilledTo cells old (with_word cells now c i (slot_of p) e) c i (p + 1)
 filled_more cells old now c i p e long inside lt f =
     let in_it = slot_inside c p lt in record {
       change = changes_twice cells old now (with_word cells now c i (slot_of p) e) c i f.change (one_changes cells now c i (slot_of p) e long inside in_it);
@@ -54,7 +55,7 @@ filled_more cells old now c i p e long inside lt f =
     lesser r p lt other = ⊎_elim (λ a. a) (λ a. absurd (other (omega arith))) (cases_lt r p)
 
 -- then its head is written
-pub filled_all : (cells : ℕ) (old now : List Word) (c : CellClass) (i : ℕ) (h : End) → length now ≡ 32 * cells → i < cells → IsHead h → IsFilledTo cells old now c i (width c) → IsInOneState cells (with_word cells now c i head h) c i × ChangesCell cells old (with_word cells now c i head h) c i
+pub filled_all : (cells : CellCounts) (old now : List Word) (c : CellClass) (i : ℕ) (h : End) → length now ≡ words_of cells → i < amount cells c → IsHead h → IsFilledTo cells old now c i (width c) → IsInOneState cells (with_word cells now c i head h) c i × ChangesCell cells old (with_word cells now c i head h) c i
 filled_all cells old now c i h long inside is_head f =
     let ws = with_word cells now c i head h in let in_it = head_inside c in
     let at = here_now cells now c i head h long inside in_it in (
@@ -68,7 +69,7 @@ filled_all cells old now c i h long inside is_head f =
     )
 
 -- a cell that was never used
-pub new_of : (cells : ℕ) (ws : List Word) (c : CellClass) (i : ℕ) → IsInOneState cells ws c i → cell_in cells ws c i ≡ Some None → (q : ℕ) → q < slots c → word_at cells ws c i q ≡ Some None
+pub new_of : (cells : CellCounts) (ws : List Word) (c : CellClass) (i : ℕ) → IsInOneState cells ws c i → cell_in cells ws c i ≡ Some None → (q : ℕ) → q < slots c → word_at cells ws c i q ≡ Some None
 new_of cells ws c i (Gone none) at = absurd (gone_new (word_at cells ws c i head) (ends_in cells ws c i) (none head (head_inside c)) at)
   where
     gone_new : (w : Word) (es : List End) → w ≡ None → cell_of w es ≡ Some None → ⊥

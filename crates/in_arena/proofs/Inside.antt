@@ -10,17 +10,18 @@ use Rattle.in_memory.proofs.Public.{all_here}
 use denote.RawPtr.{Ptr, null_ptr}
 use Rattle.in_arena.specs.Arenas.{ArenaView, LeaseView, BeginsCell, IsOf, IsUsedOf, Leases, NoneLeased, changed, free_of, state_at, written}
 use Rattle.in_arena.specs.ByClass.{IsPlace, seen, view_of}
-use Rattle.in_arena.specs.Classes.{Holds, IsNumberOf, classes, class_no, width}
+use Rattle.in_arena.specs.Classes.{Holds, IsNumberOf, all_of, amount, first_of, width}
 use Rattle.in_arena.specs.FreeLists.{IsCell, ListsFree, list_in, state_in, state_of, states, vacancy, with_ends}
 use Rattle.in_arena.specs.Inside.{IsArena, arena_view}
 use Rattle.in_arena.specs.Leases.{IsLease, lease_view}
 use Rattle.in_arena.specs.declared.lease.Lease.TheInside.{Inside as LeaseInside}
 use Rattle.in_arena.specs.Rows.{EachListsFree, HasContent, MakesReady, OwnsOne, Rewrites, RowsBecome, RowsStay}
 use Rattle.in_arena.specs.States.{State, Vacant, Leased, Live, IsBegun, IsLeased, IsLive, end_at, places, with_end, word_of}
-use Rattle.in_arena.specs.Words.{Word, Content, spot, slots, head, slot_of, word_in, count_in, IsHead, end_of, cell_of, is_spot, word_at, words_each, ends_in, cell_in, row_in, IsInOneState, Gone, New, Filled, AreWhole, ChangesCell}
+use Rattle.in_arena.specs.Words.{Word, Content, spot, slots, head, slot_of, word_in, count_in, IsHead, end_of, cell_of, is_spot, word_at, words_of, ends_in, cell_in, row_in, IsInOneState, Gone, New, Filled, AreWhole, ChangesCell}
 use Rattle.in_arena.specs.declared.arena.Arena.TheInside.{Inside}
 use Rattle.in_arena.specs.declared.content.CellClass.{CellClass}
 use Rattle.in_arena.specs.declared.content.CellClass.TheVariants.{Small, Large, Wide}
+use Rattle.in_arena.specs.declared.content.CellCounts.{CellCounts}
 use Rattle.in_arena.specs.declared.content.CellNo.{CellNo}
 use Rattle.in_arena.specs.declared.content.End.{End}
 use Rattle.in_arena.specs.declared.content.End.TheVariants.{Cell}
@@ -39,27 +40,25 @@ use Rattle.in_arena.proofs.Words.{all_some, end_at_is, ends_long, head_inside, k
 
 -- ---- numbers
 
-pub place_of_number : (cells n : ℕ) → n < length classes * cells → (c : CellClass) × (i : ℕ) × IsPlace cells n c i
+pub place_of_number : (cells : CellCounts) (n : ℕ) → n < all_of cells → (c : CellClass) × (i : ℕ) × IsPlace cells n c i
 place_of_number cells n lt = let k = class_of_number cells n lt in by k.0 k.1
   where
     by : (c : CellClass) → IsNumberOf cells c n → (c : CellClass) × (i : ℕ) × IsPlace cells n c i
-    by Small at = let low = at.0 in let high = at.1 in (Small, n, (omega (arith, high), omega arith))
-    by Large at = let low = at.0 in let high = at.1 in (Large, n - cells, (omega (arith, low, high), omega (arith, low)))
-    by Wide at = let low = at.0 in let high = at.1 in (Wide, n - 2 * cells, (omega (arith, low, high), omega (arith, low)))
+    by c at = let low = at.0 in let high = at.1 in (c, n - first_of cells c, (omega (arith, low, high), omega (arith, low)))
 
-pub near_spot : (cells n : ℕ) (c : CellClass) (i q : ℕ) → IsPlace cells n c i → q < 4 → 4 * n + q ≡ spot c cells i q
+pub near_spot : (cells : CellCounts) (n : ℕ) (c : CellClass) (i q : ℕ) → IsPlace cells n c i → q < 4 → 4 * n + q ≡ spot c cells i q
 near_spot cells n c i q p lt = let at = p.1 in omega (arith, spot_near c cells i q lt, at)
 
 -- a place among the first three
-pub near_place : (cells n : ℕ) (c : CellClass) (i p : ℕ) → IsPlace cells n c i → p < 3 → 4 * n + p ≡ spot c cells i (slot_of p)
+pub near_place : (cells : CellCounts) (n : ℕ) (c : CellClass) (i p : ℕ) → IsPlace cells n c i → p < 3 → 4 * n + p ≡ spot c cells i (slot_of p)
 near_place cells n c i p at lt = near_spot cells n c i p at (omega (arith, lt)) ∙ ap (spot c cells i) (sym (slot_near p lt))
 
 -- one cell has one place
-pub one_class : (cells n : ℕ) (c d : CellClass) (i j : ℕ) → IsPlace cells n c i → IsPlace cells n d j → (c ≡ d) × (i ≡ j)
+pub one_class : (cells : CellCounts) (n : ℕ) (c d : CellClass) (i j : ℕ) → IsPlace cells n c i → IsPlace cells n d j → (c ≡ d) × (i ≡ j)
 one_class cells n c d i j p q = one_number c d cells i j p.0 q.0 (sym p.1 ∙ q.1)
 
 -- the same word, by both
-pub same_spot : (c d : CellClass) (cells cells' i j q k : ℕ) → c ≡ d → cells' ≡ cells → i ≡ j → k ≡ spot d cells' j q → k ≡ spot c cells i q
+pub same_spot : (c d : CellClass) (cells cells' : CellCounts) (i j q k : ℕ) → c ≡ d → cells' ≡ cells → i ≡ j → k ≡ spot d cells' j q → k ≡ spot c cells i q
 same_spot c d cells cells' i j q k f g h at = at ∙ ap (λ m. spot d m j q) g ∙ ap (λ e. spot e cells j q) (sym f) ∙ ap (λ m. spot c cells m q) (sym h)
 
 -- ---- a live cell
@@ -68,7 +67,7 @@ pub live_some : (n w : ℕ) (es : List End) → IsLive (with_ends n w es) → 0 
 live_some zero w es live = absurd live
 live_some (suc n) w es live = omega arith
 
-pub record LiveCell (cells : ℕ) (ws : List Word) (n : ℕ) : Type 0 where
+pub record LiveCell (cells : CellCounts) (ws : List Word) (n : ℕ) : Type 0 where
   pub class : CellClass
   pub index : ℕ
   pub place : IsPlace cells n class index
@@ -76,7 +75,7 @@ pub record LiveCell (cells : ℕ) (ws : List Word) (n : ℕ) : Type 0 where
   pub is : cell_in cells ws class index ≡ Some (Some content)
   pub some : 0 < content.count
 
-pub live_at : (at : Ptr) (cells : ℕ) (ws : List Word) (v : ArenaView) (n : ℕ) → view_of at cells ws ≡ v → IsLive (state_at v n) → LiveCell cells ws n
+pub live_at : (at : Ptr) (cells : CellCounts) (ws : List Word) (v : ArenaView) (n : ℕ) → view_of at cells ws ≡ v → IsLive (state_at v n) → LiveCell cells ws n
 live_at at cells ws v n e live =
     let seen_live = subst (λ a. IsLive (state_at a n)) (sym e) live in
     let k = place_of_number cells n (omega (arith, live_inside (view_of at cells ws) n seen_live, view_long at cells ws)) in
@@ -84,13 +83,13 @@ live_at at cells ws v n e live =
     let x = live_cell (cell_in cells ws k.0 k.1) there in
     record { class = k.0; index = k.1; place = k.2; content = x.0; is = x.1; some = live_some x.0.count x.0.word x.0.ends (subst IsLive (ap state_of x.1) there) }
 
-pub live_state : (at : Ptr) (cells : ℕ) (ws : List Word) (v : ArenaView) (n : ℕ) → view_of at cells ws ≡ v → (l : LiveCell cells ws n) → state_at v n ≡ state_in l.content
+pub live_state : (at : Ptr) (cells : CellCounts) (ws : List Word) (v : ArenaView) (n : ℕ) → view_of at cells ws ≡ v → (l : LiveCell cells ws n) → state_at v n ≡ state_in l.content
 live_state at cells ws v n e l = ap (λ a. state_at a n) (sym e) ∙ state_is at cells ws n l.class l.index l.place ∙ ap state_of l.is
 
-abbrev pub spot_at : (cells : ℕ) (ws : List Word) (n : ℕ) → LiveCell cells ws n → Spot
+abbrev pub spot_at : (cells : CellCounts) (ws : List Word) (n : ℕ) → LiveCell cells ws n → Spot
 spot_at cells ws n l = record { class = l.class; index = l.index; cells = cells }
 
-pub content_long : (cells : ℕ) (ws : List Word) (n : ℕ) → AreWhole cells ws → (l : LiveCell cells ws n) → length l.content.ends ≡ width l.class
+pub content_long : (cells : CellCounts) (ws : List Word) (n : ℕ) → AreWhole cells ws → (l : LiveCell cells ws n) → length l.content.ends ≡ width l.class
 content_long cells ws n all l =
     let f = all_filled cells ws l.class l.index l.content (all.each l.class l.index l.place.0) l.is in let h = f.0 head (head_inside l.class) in
     ap length (sym (head_is cells ws l.class l.index l.content h.0 l.is h.1).2) ∙ ends_long cells ws l.class l.index
@@ -113,7 +112,7 @@ word_is x some = ap word_of (live_written x.word x.count x.ends some)
 
 -- ---- an owner's live cell, by its words
 
-module _ (words : Cells End) (cells n : ℕ) (all : AreWhole cells words.slots) (l : LiveCell cells words.slots n) where
+module _ (words : Cells End) (cells : CellCounts) (n : ℕ) (all : AreWhole cells words.slots) (l : LiveCell cells words.slots n) where
   abbrev pub here : Spot
   here = spot_at cells words.slots n l
 
@@ -140,7 +139,7 @@ module _ (words : Cells End) (cells n : ℕ) (all : AreWhole cells words.slots) 
 
 -- ---- an arena
 
-pub view_stays : (at at' : Ptr) (cells : ℕ) (old new : List Word) → at' ≡ at → RowsStay cells old new → view_of at' cells new ≡ view_of at cells old
+pub view_stays : (at at' : Ptr) (cells : CellCounts) (old new : List Word) → at' ≡ at → RowsStay cells old new → view_of at' cells new ≡ view_of at cells old
 view_stays at at' cells old new same stay = λ z. seen (λ c. same z) cells (λ c. stay c z)
 
 abbrev pub with_row : Inside → Cells End → FreeLists → Inside
@@ -153,11 +152,11 @@ module _ (a : Inside) (h : IsArena a) where
   pub few_ends : (n : ℕ) (l : LiveCell a.cells a.words.slots n) → l.content.count ≤ width l.class
   few_ends n l = subst (IsCell (width l.class)) (row_at a.cells a.words.slots l.class l.index l.place.0 ∙ l.is) ((h.free l.class).few l.index)
 
-  pub arena_all : length (arena_view a).states ≡ length classes * a.cells
+  pub arena_all : length (arena_view a).states ≡ all_of a.cells
   arena_all = view_long a.words.at a.cells a.words.slots
 
   module _ (v : ArenaView) (e : arena_view a ≡ v) where
-    pub inside_all : (n : ℕ) → n < length v.states → n < length classes * a.cells
+    pub inside_all : (n : ℕ) → n < length v.states → n < all_of a.cells
     inside_all n lt = let long = ap (λ (w : ArenaView). length w.states) e in omega (arith, lt, long, arena_all)
 
     pub live_of : (n : ℕ) → IsLive (state_at v n) → LiveCell a.cells a.words.slots n
@@ -202,7 +201,7 @@ module _ (a : Inside) (h : IsArena a) where
 
 -- ---- a cell at a place that is known
 
-abbrev pub live_in_place : (at : Ptr) (cells : ℕ) (ws : List Word) (v : ArenaView) (n : ℕ) (c : CellClass) (i : ℕ) → view_of at cells ws ≡ v → IsPlace cells n c i → IsLive (state_at v n) → LiveCell cells ws n
+abbrev pub live_in_place : (at : Ptr) (cells : CellCounts) (ws : List Word) (v : ArenaView) (n : ℕ) (c : CellClass) (i : ℕ) → view_of at cells ws ≡ v → IsPlace cells n c i → IsLive (state_at v n) → LiveCell cells ws n
 live_in_place at cells ws v n c i e p live =
     let there : IsLive (state_of (cell_in cells ws c i)) = subst IsLive (state_is at cells ws n c i p) (subst (λ a. IsLive (state_at a n)) (sym e) live) in
     let x = live_cell (cell_in cells ws c i) there in
@@ -220,7 +219,7 @@ module _ (a : Inside) (h : IsArena a) (v : ArenaView) (e : arena_view a ≡ v) w
       (arena_with a h words lists same r.whole z.0, viewed a h v e words n l.class l.index Vacant Vacant same l.place z.1 refl)
 
   -- .. another owner's cell is back
-  pub back_in : (n : ℕ) (at : Spot) (words : Cells End) (lists : FreeLists) (x : State) → at.cells ≡ a.cells → n ≡ class_no at.class * at.cells + at.index → at.index < at.cells → words.at ≡ a.words.at → AreWhole at.cells words.slots → EachListsFree at.cells words.slots lists → RowsBecome at.cells a.words.slots words.slots at.class at.index x
+  pub back_in : (n : ℕ) (at : Spot) (words : Cells End) (lists : FreeLists) (x : State) → at.cells ≡ a.cells → n ≡ first_of at.cells at.class + at.index → at.index < amount at.cells at.class → words.at ≡ a.words.at → AreWhole at.cells words.slots → EachListsFree at.cells words.slots lists → RowsBecome at.cells a.words.slots words.slots at.class at.index x
       → IsArena (with_row a words lists) × (view_of words.at a.cells words.slots ≡ changed v n x)
   back_in n at words lists x many num inside same whole free become = (
     arena_with a h words lists same (subst (λ k. AreWhole k words.slots) many whole) (subst (λ k. EachListsFree k words.slots lists) many free),
@@ -228,18 +227,18 @@ module _ (a : Inside) (h : IsArena a) (v : ArenaView) (e : arena_view a ≡ v) w
   )
 
   -- after the first free cell of a class was looked for
-  pub ready_in : (c : CellClass) (words : Cells End) (lists : FreeLists) → MakesReady a.cells c a.words a.lists true words lists → IsArena (with_row a words lists) × (arena_view (with_row a words lists) ≡ v) × ((list_in lists c).next ≢ a.cells)
+  pub ready_in : (c : CellClass) (words : Cells End) (lists : FreeLists) → MakesReady a.cells c a.words a.lists true words lists → IsArena (with_row a words lists) × (arena_view (with_row a words lists) ≡ v) × ((list_in lists c).next ≢ amount a.cells c)
   ready_in c words lists r = (arena_with a h words lists r.0 r.1 r.2, view_stays a.words.at words.at a.cells a.words.slots words.slots r.0 r.3 ∙ e, r.4)
 
   pub none_ready_in : (c : CellClass) (words : Cells End) (lists : FreeLists) → MakesReady a.cells c a.words a.lists false words lists → (free_of v c ≡ 0) × (view_of words.at a.cells words.slots ≡ v)
   none_ready_in c words lists r = (ap (λ w. free_of w c) (sym e) ∙ free_in a.words.at a.cells a.words.slots c ∙ r.2, ap (λ (w : Cells End). view_of w.at a.cells w.slots) r.0 ∙ e)
 
   -- the first free cell of a class is live
-  module _ (c : CellClass) (some : (list_in a.lists c).next ≢ a.cells) where
+  module _ (c : CellClass) (some : (list_in a.lists c).next ≢ amount a.cells c) where
     abbrev i : ℕ
     i = (list_in a.lists c).next
 
-    pub first_inside : i < a.cells
+    pub first_inside : i < amount a.cells c
     first_inside = first_below a.cells c a.words a.lists h.whole h.free some
 
     pub first_head : (x : End) × (word_at a.cells a.words.slots c i head ≡ Some (Some x))
@@ -286,30 +285,23 @@ module _ (a : Inside) (h : IsArena a) where
       let f = h.free c in let few = f.unused.0 in
       omega (arith, f.count, f.all, few) ∙ vacancies_are (row_in a.cells a.words.slots c) ∙ sym (free_in a.words.at a.cells a.words.slots c)
 
-  pub fresh_few : (c : CellClass) → (list_in a.lists c).fresh ≤ a.cells
+  pub fresh_few : (c : CellClass) → (list_in a.lists c).fresh ≤ amount a.cells c
   fresh_few c = let few = (h.free c).unused.0 in omega (arith, few, row_long a.cells a.words.slots c)
 
-  pub never_used : (c : CellClass) (i : ℕ) → (list_in a.lists c).fresh ≤ i → i < a.cells → cell_in a.cells a.words.slots c i ≡ Some None
+  pub never_used : (c : CellClass) (i : ℕ) → (list_in a.lists c).fresh ≤ i → i < amount a.cells c → cell_in a.cells a.words.slots c i ≡ Some None
   never_used c i le lt = sym (row_at a.cells a.words.slots c i lt) ∙ (h.free c).unused.1 i le (omega (arith, lt, row_long a.cells a.words.slots c))
 
-  pub used_of : (v : ArenaView) → arena_view a ≡ v → (c : CellClass) → IsUsedOf v c (class_no c * a.cells + (list_in a.lists c).fresh)
-  used_of v e c = subst (λ w. IsUsedOf w c (class_no c * a.cells + (list_in a.lists c).fresh)) e (record {
+  pub used_of : (v : ArenaView) → arena_view a ≡ v → (c : CellClass) → IsUsedOf v c (first_of a.cells c + (list_in a.lists c).fresh)
+  used_of v e c = subst (λ w. IsUsedOf w c (first_of a.cells c + (list_in a.lists c).fresh)) e (record {
     some = omega arith;
-    within = within c (fresh_few c);
+    within = omega (arith, fresh_few c);
     rest = λ n low high. rest n low high c (place c n low high);
   })
     where
-      within : (c : CellClass) {k : ℕ} → k ≤ a.cells → class_no c * a.cells + k ≤ (class_no c + 1) * a.cells
-      within Small few = omega (arith, few)
-      within Large few = omega (arith, few)
-      within Wide few = omega (arith, few)
+      place : (c : CellClass) (n : ℕ) {k : ℕ} → first_of a.cells c + k ≤ n → n < first_of a.cells c + amount a.cells c → (i : ℕ) × IsPlace a.cells n c i × (k ≤ i)
+      place c n low high = (n - first_of a.cells c, (omega (arith, low, high), omega (arith, low)), omega (arith, low))
 
-      place : (c : CellClass) (n : ℕ) {k : ℕ} → class_no c * a.cells + k ≤ n → n < (class_no c + 1) * a.cells → (i : ℕ) × IsPlace a.cells n c i × (k ≤ i)
-      place Small n low high = (n, (omega (arith, high), omega arith), omega (arith, low))
-      place Large n low high = (n - a.cells, (omega (arith, low, high), omega (arith, low)), omega (arith, low))
-      place Wide n low high = (n - 2 * a.cells, (omega (arith, low, high), omega (arith, low)), omega (arith, low))
-
-      rest : (n : ℕ) → class_no c * a.cells + (list_in a.lists c).fresh ≤ n → n < (class_no c + 1) * a.cells → (c' : CellClass) → ((i : ℕ) × IsPlace a.cells n c i × ((list_in a.lists c).fresh ≤ i)) → state_at (arena_view a) n ≡ Vacant
+      rest : (n : ℕ) → first_of a.cells c + (list_in a.lists c).fresh ≤ n → n < first_of a.cells c + amount a.cells c → (c' : CellClass) → ((i : ℕ) × IsPlace a.cells n c i × ((list_in a.lists c).fresh ≤ i)) → state_at (arena_view a) n ≡ Vacant
       rest n low high c' p = state_is a.words.at a.cells a.words.slots n c p.0 p.1 ∙ ap state_of (never_used c p.0 p.2 p.1.0)
 
   -- ---- it ends
@@ -317,7 +309,7 @@ module _ (a : Inside) (h : IsArena a) where
   word_here : (v : ArenaView) → arena_view a ≡ v → NoneLeased v → (x : ℕ) → x < length a.words.slots → IsHere a.words.slots x
   word_here v e none x lt =
       let s = all_some a.cells x (omega (arith, lt, h.whole.long)) in let c = s.0 in let i = s.1 in
-      let n = class_no c * a.cells + i in let p : IsPlace a.cells n c i = (s.3, refl) in
+      let n = first_of a.cells c + i in let p : IsPlace a.cells n c i = (s.3, refl) in
       let inside : n < length v.states = (let long = ap (λ (w : ArenaView). length w.states) e in omega (arith, long, arena_all a h, near_below c a.cells i s.3)) in
       let out : IsLeased (state_of (cell_in a.cells a.words.slots c i)) → ⊥ = λ leased. none n inside (subst IsLeased (sym (ap (λ w. state_at w n) (sym e) ∙ state_is a.words.at a.cells a.words.slots n c i p)) leased) in
       let w = here_of (h.whole.each c i s.3) out s.2 s.4 in (w.0, ap (λ k. get_or a.words.slots k None) s.5 ∙ w.1)
@@ -332,35 +324,35 @@ module _ (a : Inside) (h : IsArena a) where
 
 -- ---- it begins
 
-new_word : (cells : ℕ) (ws : List Word) (c : CellClass) (i : ℕ) → ws ≡ replicate (words_each * cells) (Some None) → i < cells → (q : ℕ) → q < slots c → word_at cells ws c i q ≡ Some None
-new_word cells ws c i e lt q in_it = ap (λ l. get_or l (spot c cells i q) None) e ∙ get_or-replicate (words_each * cells) (spot c cells i q) (Some None) None (spot_inside c cells i q lt in_it)
+new_word : (cells : CellCounts) (ws : List Word) (c : CellClass) (i : ℕ) → ws ≡ replicate (words_of cells) (Some None) → i < amount cells c → (q : ℕ) → q < slots c → word_at cells ws c i q ≡ Some None
+new_word cells ws c i e lt q in_it = ap (λ l. get_or l (spot c cells i q) None) e ∙ get_or-replicate (words_of cells) (spot c cells i q) (Some None) None (spot_inside c cells i q lt in_it)
 
-new_row_is : (cells : ℕ) (ws : List Word) (c : CellClass) → ws ≡ replicate (words_each * cells) (Some None) → row_in cells ws c ≡ replicate cells (Some None)
+new_row_is : (cells : CellCounts) (ws : List Word) (c : CellClass) → ws ≡ replicate (words_of cells) (Some None) → row_in cells ws c ≡ replicate (amount cells c) (Some None)
 new_row_is cells ws c e =
-    ext_get_or None (row_in cells ws c) (replicate cells (Some None)) (row_long cells ws c ∙ sym (length-replicate cells (Some None)))
+    ext_get_or None (row_in cells ws c) (replicate (amount cells c) (Some None)) (row_long cells ws c ∙ sym (length-replicate (amount cells c) (Some None)))
     (λ i lt.
-    let inside : i < cells = omega (arith, lt, row_long cells ws c) in
-    row_at cells ws c i inside ∙ ap (λ w. cell_of w (ends_in cells ws c i)) (new_word cells ws c i e inside head (head_inside c)) ∙ sym (get_or-replicate cells i (Some None) None inside))
+    let inside : i < amount cells c = omega (arith, lt, row_long cells ws c) in
+    row_at cells ws c i inside ∙ ap (λ w. cell_of w (ends_in cells ws c i)) (new_word cells ws c i e inside head (head_inside c)) ∙ sym (get_or-replicate (amount cells c) i (Some None) None inside))
 
-pub new_whole : (cells : ℕ) (ws : List Word) → ws ≡ replicate (words_each * cells) (Some None) → AreWhole cells ws
-new_whole cells ws e = record { long = ap length e ∙ length-replicate (words_each * cells) (Some None); each = λ c i lt. New (new_word cells ws c i e lt) }
+pub new_whole : (cells : CellCounts) (ws : List Word) → ws ≡ replicate (words_of cells) (Some None) → AreWhole cells ws
+new_whole cells ws e = record { long = ap length e ∙ length-replicate (words_of cells) (Some None); each = λ c i lt. New (new_word cells ws c i e lt) }
 
-pub new_free : (cells : ℕ) (ws : List Word) (c : CellClass) (l : FreeList) → ws ≡ replicate (words_each * cells) (Some None) → l ≡ list_with cells 0 cells → ListsFree (width c) (row_in cells ws c) l
-new_free cells ws c l e is = subst (ListsFree (width c) (row_in cells ws c)) (sym is) (subst (λ xs. ListsFree (width c) xs (list_with cells 0 cells)) (sym (new_row_is cells ws c e)) (new_row (width c) cells).0)
+pub new_free : (cells : CellCounts) (ws : List Word) (c : CellClass) (l : FreeList) → ws ≡ replicate (words_of cells) (Some None) → l ≡ list_with (amount cells c) 0 (amount cells c) → ListsFree (width c) (row_in cells ws c) l
+new_free cells ws c l e is = subst (ListsFree (width c) (row_in cells ws c)) (sym is) (subst (λ xs. ListsFree (width c) xs (list_with (amount cells c) 0 (amount cells c))) (sym (new_row_is cells ws c e)) (new_row (width c) (amount cells c)).0)
 
-pub new_states : (at : Ptr) (cells : ℕ) (ws : List Word) → ws ≡ replicate (words_each * cells) (Some None) → (view_of at cells ws).states ≡ replicate (length classes * cells) Vacant
-new_states at cells ws e = alike (λ c. at) cells (λ c. states (row_in cells ws c)) Vacant (λ c. ap states (new_row_is cells ws c e) ∙ (new_row (width c) cells).1)
+pub new_states : (at : Ptr) (cells : CellCounts) (ws : List Word) → ws ≡ replicate (words_of cells) (Some None) → (view_of at cells ws).states ≡ replicate (all_of cells) Vacant
+new_states at cells ws e = alike (λ c. at) cells (λ c. states (row_in cells ws c)) Vacant (λ c. ap states (new_row_is cells ws c e) ∙ (new_row (width c) (amount cells c)).1)
 
 -- ---- a cell that was used and is here
 
-pub record UsedCell (cells : ℕ) (ws : List Word) (c : CellClass) (i : ℕ) : Type 0 where
+pub record UsedCell (cells : CellCounts) (ws : List Word) (c : CellClass) (i : ℕ) : Type 0 where
   pub content : Content
   pub is : cell_in cells ws c i ≡ Some (Some content)
   pub head : End
   pub at : word_at cells ws c i 3 ≡ Some (Some head)
   pub says : (x : End) → word_at cells ws c i 3 ≡ Some (Some x) → (count_in x ≡ content.count) × IsHead x
 
-pub used_here : (a : Inside) (h : IsArena a) (c : CellClass) (i : ℕ) → i < a.cells → i < (list_in a.lists c).fresh → (IsLeased (state_of (cell_in a.cells a.words.slots c i)) → ⊥) → UsedCell a.cells a.words.slots c i
+pub used_here : (a : Inside) (h : IsArena a) (c : CellClass) (i : ℕ) → i < amount a.cells c → i < (list_in a.lists c).fresh → (IsLeased (state_of (cell_in a.cells a.words.slots c i)) → ⊥) → UsedCell a.cells a.words.slots c i
 used_here a h c i inside lt out =
     let row = row_at a.cells a.words.slots c i inside in
     let x = used_cell (cell_in a.cells a.words.slots c i) out (λ e. used (width c) (row_in a.cells a.words.slots c) (list_in a.lists c) (h.free c) i lt (row ∙ e)) in
@@ -392,14 +384,14 @@ module _ (a : Inside) (h : IsArena a) (v : ArenaView) (e : arena_view a ≡ v) (
   pub lease_many : l.spot.cells ≡ a.cells
   lease_many = of_here.cells
 
-  pub lease_number : m.number ≡ class_no l.spot.class * l.spot.cells + l.spot.index
+  pub lease_number : m.number ≡ first_of l.spot.cells l.spot.class + l.spot.index
   lease_number = ap (λ (w : LeaseView). w.number) (sym f)
 
   pub lease_state : m.state ≡ state_in k.content
   lease_state = ap (λ (w : LeaseView). w.state) (sym f) ∙ ap state_of k.cell
 
 -- another owner's cell is here, with its content
-pub settled_in : (a : Inside) (h : IsArena a) (v : ArenaView) (e : arena_view a ≡ v) (at : Spot) (one : Cells End) (o : OwnsOne a.words at one) (words : Cells End) (n : ℕ) (x : State) → at.cells ≡ a.cells → n ≡ class_no at.class * at.cells + at.index → IsLive (state_in o.content) → words.at ≡ a.words.at → words.slots ≡ together a.words.slots one.slots → state_in o.content ≡ x
+pub settled_in : (a : Inside) (h : IsArena a) (v : ArenaView) (e : arena_view a ≡ v) (at : Spot) (one : Cells End) (o : OwnsOne a.words at one) (words : Cells End) (n : ℕ) (x : State) → at.cells ≡ a.cells → n ≡ first_of at.cells at.class + at.index → IsLive (state_in o.content) → words.at ≡ a.words.at → words.slots ≡ together a.words.slots one.slots → state_in o.content ≡ x
     → IsArena (with_row a words a.lists) × (view_of words.at a.cells words.slots ≡ changed v n x)
 settled_in a h v e at one o words n x many num live same is named =
     let whole = subst (λ k. AreWhole k a.words.slots) (sym many) h.whole in
@@ -416,7 +408,7 @@ lease_rewrites l k words x r few = record {
   block = r.same ∙ k.block;
   index = k.index;
   whole = r.whole;
-  alone = changes_twice l.spot.cells (replicate (words_each * l.spot.cells) None) l.words.slots words.slots l.spot.class l.spot.index k.alone r.changes;
+  alone = changes_twice l.spot.cells (replicate (words_of l.spot.cells) None) l.words.slots words.slots l.spot.class l.spot.index k.alone r.changes;
   content = x;
   cell = r.cell;
   room = few;
@@ -424,7 +416,7 @@ lease_rewrites l k words x r few = record {
 
 pub lease_written : (l : LeaseInside) (m : LeaseView) (words : Cells End) (x : Content) (s : State) → lease_view l ≡ m → Rewrites l.words l.spot x words → state_in x ≡ s → lease_view (record { spot = l.spot; base = l.base; words = words }) ≡ written m s
 lease_written l m words x s f r is =
-    (λ z. record { class = l.spot.class; memory = r.same z; cells = l.spot.cells; number = class_no l.spot.class * l.spot.cells + l.spot.index; state = (ap state_of r.cell ∙ is) z }) ∙ ap (λ w. written w s) f
+    (λ z. record { class = l.spot.class; memory = r.same z; cells = l.spot.cells; number = first_of l.spot.cells l.spot.class + l.spot.index; state = (ap state_of r.cell ∙ is) z }) ∙ ap (λ w. written w s) f
 
 pub lease_long : (l : LeaseInside) (k : IsLease l) (x : Content) → cell_in l.spot.cells l.words.slots l.spot.class l.spot.index ≡ Some (Some x) → length x.ends ≡ width l.spot.class
 lease_long l k x is =
@@ -438,23 +430,23 @@ written_state symbol es x has some =
 
 -- ---- the first free cell of a class is leased
 
-pub lent_in : (a : Inside) (h : IsArena a) (v : ArenaView) (e : arena_view a ≡ v) (c : CellClass) (some : (list_in a.lists c).next ≢ a.cells) (i : ℕ) → i ≡ (list_in a.lists c).next → (lists : FreeLists) (k : ℕ) → k ≡ (first a.cells c a.words a.lists h.whole h.free some).cell.word
+pub lent_in : (a : Inside) (h : IsArena a) (v : ArenaView) (e : arena_view a ≡ v) (c : CellClass) (some : (list_in a.lists c).next ≢ amount a.cells c) (i : ℕ) → i ≡ (list_in a.lists c).next → (lists : FreeLists) (k : ℕ) → k ≡ (first a.cells c a.words a.lists h.whole h.free some).cell.word
     → list_in lists c ≡ list_with k (list_in a.lists c).fresh ((list_in a.lists c).free - 1) → ((d : CellClass) → d ≢ c → list_in lists d ≡ list_in a.lists d) → (one rest : Cells End)
     → (one.at ≡ a.words.at) × (one.slots ≡ those_of (is_spot c a.cells i) a.words.slots) → (rest.at ≡ a.words.at) × (rest.slots ≡ those_of (but (is_spot c a.cells i)) a.words.slots)
     → let m : LeaseInside = record { spot = (let s : Spot = record { class = c; index = i; cells = a.cells } in s); base = a.base; words = one } in IsLease m × IsArena (with_row a rest lists) × Leases v c (Some (lease_view m)) (view_of rest.at a.cells rest.slots)
 lent_in a h v e c some i at lists k next own others one rest parted left =
     let cells = a.cells in let ws = a.words.slots in let there = (first a.cells c a.words a.lists h.whole h.free some).cell in
     let m : LeaseInside = record { spot = (let s : Spot = record { class = c; index = i; cells = cells } in s); base = a.base; words = one } in
-    let inside : i < cells = subst (λ j. j < cells) (sym at) (first_below cells c a.words a.lists h.whole h.free some) in
+    let inside : i < amount cells c = subst (λ j. j < amount cells c) (sym at) (first_below cells c a.words a.lists h.whole h.free some) in
     let is : cell_in cells ws c i ≡ Some (Some there) = ap (cell_in cells ws c) at ∙ first_cell cells c a.words a.lists h.whole h.free some in
-    let number = class_no c * cells + i in let p : IsPlace cells number c i = (inside, refl) in
+    let number = first_of cells c + i in let p : IsPlace cells number c i = (inside, refl) in
     let out = rest_changes cells c i ws in let alone = one_alone cells c i ws h.whole.long in
     let gone = rest_gone cells c i ws in
     let change = subst (λ l. ChangesCell cells ws l c i) (sym left.1) out in
     let none = ap (λ l. cell_in cells l c i) left.1 ∙ rest_cell cells c i ws in
     let z = first_taken cells c a.words a.lists h.whole h.free some rest lists (subst (ChangesCell cells ws rest.slots c) at change) (ap (cell_in cells rest.slots c) (sym at) ∙ none) (own ∙ ap (λ n. list_with n (list_in a.lists c).fresh ((list_in a.lists c).free - 1)) next) others in
     let cell = ap (λ l. cell_in cells l c i) parted.1 ∙ one_cell cells c i ws ∙ is in
-    let whole_one : AreWhole cells one.slots = subst (AreWhole cells) (sym parted.1) (still_whole cells (replicate (words_each * cells) None) (those_of (is_spot c cells i) ws) c i inside alone (none_whole cells c i) (kept_whole cells ws (those_of (is_spot c cells i) ws) c i (in_one cells c i ws) (h.whole.each c i inside))) in
+    let whole_one : AreWhole cells one.slots = subst (AreWhole cells) (sym parted.1) (still_whole cells (replicate (words_of cells) None) (those_of (is_spot c cells i) ws) c i inside alone (none_whole cells c i) (kept_whole cells ws (those_of (is_spot c cells i) ws) c i (in_one cells c i ws) (h.whole.each c i inside))) in
     let whole_rest = subst (AreWhole cells) (sym left.1) (still_whole cells ws (those_of (but (is_spot c cells i)) ws) c i inside out h.whole gone) in
     let new = viewed a h v e rest number c i Leased Leased left.0 p (subst (λ j. RowsBecome cells ws rest.slots c j Leased) (sym at) z.1) refl in
     let free = first_vacant cells c a.words a.lists h.whole h.free some in
@@ -464,7 +456,7 @@ lent_in a h v e c some i at lists k next own others one rest parted left =
         block = parted.0 ∙ h.block.0;
         index = inside;
         whole = whole_one;
-        alone = subst (λ l. ChangesCell cells (replicate (words_each * cells) None) l c i) (sym parted.1) alone;
+        alone = subst (λ l. ChangesCell cells (replicate (words_of cells) None) l c i) (sym parted.1) alone;
         content = there;
         cell = cell;
         room = (let z : there.count ≡ 0 = (first a.cells c a.words a.lists h.whole h.free some).free in omega (arith, z));

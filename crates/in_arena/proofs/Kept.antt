@@ -8,18 +8,19 @@ use Rattle.in_arena.specs.Arenas.{ArenaView, LeaseView, Leases, changed, memory_
 use Rattle.in_arena.specs.BagInside.{IsBag, IsKeptCell, bag_view}
 use Rattle.in_arena.specs.Bags.{IsBagOf, IsInBag, LeasesTo, empty_bag}
 use Rattle.in_arena.specs.ByClass.{IsPlace, view_of}
-use Rattle.in_arena.specs.Classes.{IsNumberOf, classes, class_no, width}
+use Rattle.in_arena.specs.Classes.{IsNumberOf, all_of, amount, class_no, first_of, width}
 use Rattle.in_arena.specs.FreeLists.{state_in, state_of, states}
 use Rattle.in_arena.specs.Inside.{IsArena, arena_view}
 use Rattle.in_arena.specs.Leases.{IsLease, lease_view}
 use Rattle.in_arena.specs.Rows.{OwnsOne, Rewrites}
 use Rattle.in_arena.specs.States.{State, Vacant, Leased, IsLeased}
-use Rattle.in_arena.specs.Words.{Word, Content, CellWords, is_spot, words_each, cell_in, row_in, AreWhole, ChangesCell}
+use Rattle.in_arena.specs.Words.{Word, Content, CellWords, is_spot, words_of, cell_in, row_in, AreWhole, ChangesCell}
 use Rattle.in_arena.specs.declared.arena.Arena.TheInside.{Inside as ArenaInside}
 use Rattle.in_arena.specs.declared.bag.Bag.TheInside.{Inside}
 use Rattle.in_arena.specs.declared.lease.Lease.TheInside.{Inside as LeaseInside}
 use Rattle.in_arena.specs.declared.content.CellClass.{CellClass}
 use Rattle.in_arena.specs.declared.content.CellClass.TheVariants.{Small}
+use Rattle.in_arena.specs.declared.content.CellCounts.{CellCounts}
 use Rattle.in_arena.specs.declared.content.End.{End}
 use Rattle.in_arena.specs.declared.spot.Spot.{Spot}
 use Rattle.in_arena.proofs.Arenas.{changed_same, state_inside}
@@ -41,7 +42,7 @@ kept_here most (Some None) kept out = absurd kept
 kept_here most (Some (Some x)) kept out = (x, refl, kept)
 
 module _ (b : Inside) (k : IsBag b) (w : ArenaView) (f : bag_view b ≡ w) where
-  pub in_bag_all : (n : ℕ) → (state_at w n ≡ Leased → ⊥) → n < length classes * b.cells
+  pub in_bag_all : (n : ℕ) → (state_at w n ≡ Leased → ⊥) → n < all_of b.cells
   in_bag_all n here = let lt = state_inside w n here in let long = ap (λ (v : ArenaView). length v.states) f in omega (arith, lt, long, view_long b.words.at b.cells b.words.slots)
 
   pub bag_state : (n : ℕ) (c : CellClass) (i : ℕ) → IsPlace b.cells n c i → state_at w n ≡ state_of (cell_in b.cells b.words.slots c i)
@@ -50,7 +51,7 @@ module _ (b : Inside) (k : IsBag b) (w : ArenaView) (f : bag_view b ≡ w) where
   pub bag_cell : (n : ℕ) (c : CellClass) (i : ℕ) → IsPlace b.cells n c i → IsInBag w n → (x : Content) × (cell_in b.cells b.words.slots c i ≡ Some (Some x)) × (x.count ≤ width c)
   bag_cell n c i p in_it = kept_here (width c) (cell_in b.cells b.words.slots c i) (k.kept c i p.0) (λ leased. in_it (subst IsLeased (sym (bag_state n c i p)) leased))
 
-  pub bag_long : (c : CellClass) (i : ℕ) → i < b.cells → (x : Content) → cell_in b.cells b.words.slots c i ≡ Some (Some x) → length x.ends ≡ width c
+  pub bag_long : (c : CellClass) (i : ℕ) → i < amount b.cells c → (x : Content) → cell_in b.cells b.words.slots c i ≡ Some (Some x) → length x.ends ≡ width c
   bag_long c i inside x is =
       let g = all_filled b.cells b.words.slots c i x (k.whole.each c i inside) is in let hd = g.0 3 (head_inside c) in
       ap length (sym (head_is b.cells b.words.slots c i x hd.0 is hd.1).2) ∙ ends_long b.cells b.words.slots c i
@@ -105,12 +106,12 @@ module _ (b : Inside) (k : IsBag b) (w : ArenaView) (f : bag_view b ≡ w) where
         let ws = b.words.slots in let cells = b.cells in let x = the_cell in
         let is = parted.1 ∙ ap (λ m. those_of (is_spot at.class m at.index) ws) many in
         let alone = one_alone cells at.class at.index ws k.whole.long in
-        let whole : AreWhole cells one.slots = subst (AreWhole cells) (sym is) (still_whole cells (replicate (words_each * cells) None) (those_of (is_spot at.class cells at.index) ws) at.class at.index p.0 alone (none_whole cells at.class at.index) (kept_whole cells ws (those_of (is_spot at.class cells at.index) ws) at.class at.index (in_one cells at.class at.index ws) (k.whole.each at.class at.index p.0))) in
+        let whole : AreWhole cells one.slots = subst (AreWhole cells) (sym is) (still_whole cells (replicate (words_of cells) None) (those_of (is_spot at.class cells at.index) ws) at.class at.index p.0 alone (none_whole cells at.class at.index) (kept_whole cells ws (those_of (is_spot at.class cells at.index) ws) at.class at.index (in_one cells at.class at.index ws) (k.whole.each at.class at.index p.0))) in
         record {
           same = parted.0 ∙ same;
-          index = subst (λ m. at.index < m) (sym many) p.0;
+          index = subst (λ m. at.index < amount m at.class) (sym many) p.0;
           whole = subst (λ m. AreWhole m one.slots) (sym many) whole;
-          alone = subst (λ m. ChangesCell m (replicate (words_each * m) None) one.slots at.class at.index) (sym many) (subst (λ l. ChangesCell cells (replicate (words_each * cells) None) l at.class at.index) (sym is) alone);
+          alone = subst (λ m. ChangesCell m (replicate (words_of m) None) one.slots at.class at.index) (sym many) (subst (λ l. ChangesCell cells (replicate (words_of cells) None) l at.class at.index) (sym is) alone);
           content = x.0;
           cell = subst (λ m. cell_in m one.slots at.class at.index ≡ Some (Some x.0)) (sym many) (ap (λ l. cell_in cells l at.class at.index) is ∙ one_cell cells at.class at.index ws ∙ x.1);
           room = x.2;
@@ -128,18 +129,18 @@ module _ (b : Inside) (k : IsBag b) (w : ArenaView) (f : bag_view b ≡ w) where
       bag_becomes words n at.class at.index (Some (Some o.content)) (state_in o.content) p same (subst (λ m. AreWhole m words.slots) many z.whole) (subst (λ m. ChangesCell m b.words.slots words.slots at.class at.index) many z.changes) (subst (λ m. cell_in m words.slots at.class at.index ≡ Some (Some o.content)) many z.cell) o.room refl
 
 -- a cell that a row's owner doesn't have
-pub none_where_leased : (at : Ptr) (cells : ℕ) (ws : List Word) (v : ArenaView) (n : ℕ) (c : CellClass) (i : ℕ) → view_of at cells ws ≡ v → IsPlace cells n c i → state_at v n ≡ Leased → cell_in cells ws c i ≡ None
+pub none_where_leased : (at : Ptr) (cells : CellCounts) (ws : List Word) (v : ArenaView) (n : ℕ) (c : CellClass) (i : ℕ) → view_of at cells ws ≡ v → IsPlace cells n c i → state_at v n ≡ Leased → cell_in cells ws c i ≡ None
 none_where_leased at cells ws v n c i e p leased =
     leased_none (cell_in cells ws c i) (subst IsLeased (sym (sym (state_is at cells ws n c i p) ∙ ap (λ w. state_at w n) e ∙ leased)) tt)
 
 -- ---- a bag without a cell
 
-none_row : (cells : ℕ) (c : CellClass) → row_in cells (replicate (words_each * cells) None) c ≡ replicate cells None
+none_row : (cells : CellCounts) (c : CellClass) → row_in cells (replicate (words_of cells) None) c ≡ replicate (amount cells c) None
 none_row cells c =
-    ext_get_or None (row_in cells (replicate (words_each * cells) None) c) (replicate cells None) (row_long cells (replicate (words_each * cells) None) c ∙ sym (length-replicate cells None))
+    ext_get_or None (row_in cells (replicate (words_of cells) None) c) (replicate (amount cells c) None) (row_long cells (replicate (words_of cells) None) c ∙ sym (length-replicate (amount cells c) None))
     (λ i lt.
-    let inside : i < cells = omega (arith, lt, row_long cells (replicate (words_each * cells) None) c) in
-    row_at cells (replicate (words_each * cells) None) c i inside ∙ none_cell cells c i c i ∙ sym (get_or-replicate cells i None None inside))
+    let inside : i < amount cells c = omega (arith, lt, row_long cells (replicate (words_of cells) None) c) in
+    row_at cells (replicate (words_of cells) None) c i inside ∙ none_cell cells c i c i ∙ sym (get_or-replicate (amount cells c) i None None inside))
 
 none_states : (n : ℕ) → map state_of (replicate n None) ≡ replicate n Leased
 none_states zero = refl
@@ -149,8 +150,8 @@ pub new_bag : (a : ArenaInside) (h : IsArena a) (v : ArenaView) (words : Cells E
     → IsBag (record { base = a.base; words = words; cells = a.cells }) × (view_of words.at a.cells words.slots ≡ empty_bag v)
 new_bag a h v words e made =
     let cells = a.cells in
-    let is : words.slots ≡ replicate (words_each * cells) None = made.1 ∙ ap (λ n. replicate n None) h.whole.long in
-    let st : (view_of words.at cells words.slots).states ≡ replicate (length classes * cells) Leased = alike (λ c. words.at) cells (λ c. states (row_in cells words.slots c)) Leased (λ c. ap (λ l. states (row_in cells l c)) is ∙ ap states (none_row cells c) ∙ none_states cells) in (
+    let is : words.slots ≡ replicate (words_of cells) None = made.1 ∙ ap (λ n. replicate n None) h.whole.long in
+    let st : (view_of words.at cells words.slots).states ≡ replicate (all_of cells) Leased = alike (λ c. words.at) cells (λ c. states (row_in cells words.slots c)) Leased (λ c. ap (λ l. states (row_in cells l c)) is ∙ ap states (none_row cells c) ∙ none_states (amount cells c)) in (
       record {
         few = h.few;
         block = made.0 ∙ h.block.0;
@@ -161,7 +162,7 @@ new_bag a h v words e made =
     )
 
 -- two owners of one row, as contracts see them
-pub memory_one : (at at' : Ptr) (cells cells' : ℕ) (ws ws' : List Word) (b d : ArenaView) → view_of at cells ws ≡ b → view_of at' cells' ws' ≡ d → (d.memory ≡ b.memory) × (d.cells ≡ b.cells) → (at ≡ at') × (cells ≡ cells')
+pub memory_one : (at at' : Ptr) (cells cells' : CellCounts) (ws ws' : List Word) (b d : ArenaView) → view_of at cells ws ≡ b → view_of at' cells' ws' ≡ d → (d.memory ≡ b.memory) × (d.cells ≡ b.cells) → (at ≡ at') × (cells ≡ cells')
 memory_one at at' cells cells' ws ws' b d f g one = (
   ap (λ (v : ArenaView). get_or v.memory 0 null_ptr) f ∙ ap (λ m. get_or m 0 null_ptr) (sym one.0) ∙ sym (ap (λ (v : ArenaView). get_or v.memory 0 null_ptr) g),
   ap (λ (v : ArenaView). v.cells) f ∙ sym one.1 ∙ sym (ap (λ (v : ArenaView). v.cells) g),
@@ -171,7 +172,7 @@ pub bag_of_is : {b b' a a' : ArenaView} → b ≡ b' → a ≡ a' → IsBagOf b 
 bag_of_is {b'} {a} e f of = subst (λ x. IsBagOf b' x) f (subst (λ x. IsBagOf x a) e of)
 
 -- a free cell that was leased goes into a bag
-pub leased_to : (b : Inside) (k : IsBag b) (w v u : ArenaView) (f : bag_view b ≡ w) (of : IsBagOf w v) (c : CellClass) (l : LeaseInside) (h : IsLease l) (m : LeaseView) (g : lease_view l ≡ m) (made : Leases v c (Some m) u) (words : Cells End) (n : ℕ) → n ≡ class_no l.spot.class * l.spot.cells + l.spot.index
+pub leased_to : (b : Inside) (k : IsBag b) (w v u : ArenaView) (f : bag_view b ≡ w) (of : IsBagOf w v) (c : CellClass) (l : LeaseInside) (h : IsLease l) (m : LeaseView) (g : lease_view l ≡ m) (made : Leases v c (Some m) u) (words : Cells End) (n : ℕ) → n ≡ first_of l.spot.cells l.spot.class + l.spot.index
     → words.at ≡ b.words.at → words.slots ≡ together b.words.slots l.words.slots → IsBag (record { base = b.base; words = words; cells = b.cells }) × LeasesTo v c w (Some (record { 0 = n })) u (view_of words.at b.cells words.slots)
 leased_to b k w v u f of c l h m g made words n num same is =
     let d = l.spot.class in let i = l.spot.index in

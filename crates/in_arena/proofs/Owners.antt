@@ -6,8 +6,9 @@ use Rattle.std.proofs.lemmas.List.{length-replicate}
 use Rattle.in_memory.specs.Places.{together, either_of}
 use Rattle.in_memory.specs.Splitting.{held, those_of, but}
 use Rattle.in_memory.proofs.Public.{either_none, get_or-those_of, get_or-together, length-those_of, length-together}
-use Rattle.in_arena.specs.Words.{Word, Content, spot, slots, head, cell_of, is_one_below, is_spot, word_at, ends_in, cell_in, IsInOneState, Gone, New, Filled, AreWhole, ChangesCell, words_each}
+use Rattle.in_arena.specs.Words.{Word, Content, spot, slots, head, cell_of, is_one_below, is_spot, word_at, ends_in, cell_in, IsInOneState, Gone, New, Filled, AreWhole, ChangesCell, words_of}
 use Rattle.in_arena.specs.declared.content.CellClass.{CellClass}
+use Rattle.in_arena.specs.declared.content.CellCounts.{CellCounts}
 use Rattle.in_arena.specs.declared.content.End.{End}
 use Rattle.in_arena.proofs.Words.{head_inside, kept_cell, IsKept}
 
@@ -48,7 +49,7 @@ bool_cases : (b : Bool) → (b ≡ true) ⊎ (b ≡ false)
 bool_cases true = inl refl
 bool_cases false = inr refl
 
-module _ (cells : ℕ) (c : CellClass) (i : ℕ) where
+module _ (cells : CellCounts) (c : CellClass) (i : ℕ) where
   abbrev pub chosen : ℕ → Bool
   chosen = is_spot c cells i
 
@@ -78,10 +79,10 @@ module _ (cells : ℕ) (c : CellClass) (i : ℕ) where
     none_at (suc n) zero = refl
     none_at (suc n) (suc x) = none_at n x
 
-    pub one_alone : length ws ≡ words_each * cells → ChangesCell cells (replicate (words_each * cells) None) one c i
+    pub one_alone : length ws ≡ words_of cells → ChangesCell cells (replicate (words_of cells) None) one c i
     one_alone long = record {
-      long = length-those_of chosen ws ∙ long ∙ sym (length-replicate (words_each * cells) None);
-      others = λ x none. get_or-those_of chosen ws x ∙ ap (λ b. held b (get_or ws x None)) (no_others x none) ∙ sym (none_at (words_each * cells) x);
+      long = length-those_of chosen ws ∙ long ∙ sym (length-replicate (words_of cells) None);
+      others = λ x none. get_or-those_of chosen ws x ∙ ap (λ b. held b (get_or ws x None)) (no_others x none) ∙ sym (none_at (words_of cells) x);
     }
 
     pub rest_changes : ChangesCell cells ws rest c i
@@ -100,14 +101,14 @@ module _ (cells : ℕ) (c : CellClass) (i : ℕ) where
     rest_cell = ap (λ w. cell_of w (ends_in cells rest c i)) (in_rest head (head_inside c))
 
   -- a row without a cell
-  pub nothing_whole : (d : CellClass) (j : ℕ) → IsInOneState cells (replicate (words_each * cells) None) d j
-  nothing_whole d j = Gone (λ q lt. none_at [] (words_each * cells) (spot d cells j q))
+  pub nothing_whole : (d : CellClass) (j : ℕ) → IsInOneState cells (replicate (words_of cells) None) d j
+  nothing_whole d j = Gone (λ q lt. none_at [] (words_of cells) (spot d cells j q))
 
-  pub none_whole : AreWhole cells (replicate (words_each * cells) None)
-  none_whole = record { long = length-replicate (words_each * cells) None; each = λ d j lj. nothing_whole d j }
+  pub none_whole : AreWhole cells (replicate (words_of cells) None)
+  none_whole = record { long = length-replicate (words_of cells) None; each = λ d j lj. nothing_whole d j }
 
-  pub none_cell : (d : CellClass) (j : ℕ) → cell_in cells (replicate (words_each * cells) None) d j ≡ None
-  none_cell d j = ap (λ w. cell_of w (ends_in cells (replicate (words_each * cells) None) d j)) (none_at [] (words_each * cells) (spot d cells j head))
+  pub none_cell : (d : CellClass) (j : ℕ) → cell_in cells (replicate (words_of cells) None) d j ≡ None
+  none_cell d j = ap (λ w. cell_of w (ends_in cells (replicate (words_of cells) None) d j)) (none_at [] (words_of cells) (spot d cells j head))
 
   -- ---- put back
 
@@ -115,10 +116,10 @@ module _ (cells : ℕ) (c : CellClass) (i : ℕ) where
     abbrev both : List Word
     both = together ws ones
 
-    pub put_changes : ChangesCell cells (replicate (words_each * cells) None) ones c i → ChangesCell cells ws both c i
+    pub put_changes : ChangesCell cells (replicate (words_of cells) None) ones c i → ChangesCell cells ws both c i
     put_changes alone = record {
       long = length-together ws ones;
-      others = λ x none. get_or-together ws ones x long ∙ ap (either_of (get_or ws x None)) (alone.others x none ∙ none_at [] (words_each * cells) x) ∙ either_none (get_or ws x None);
+      others = λ x none. get_or-together ws ones x long ∙ ap (either_of (get_or ws x None)) (alone.others x none ∙ none_at [] (words_of cells) x) ∙ either_none (get_or ws x None);
     }
 
     -- if the row has none of its words
@@ -126,7 +127,7 @@ module _ (cells : ℕ) (c : CellClass) (i : ℕ) where
     put_kept gone q lt = get_or-together ws ones (spot c cells i q) long ∙ ap (λ w. either_of w (word_at cells ones c i q)) (gone q lt)
 
 -- a cell that is another owner's
-pub gone_of : (cells : ℕ) (ws : List Word) (c : CellClass) (i : ℕ) → IsInOneState cells ws c i → cell_in cells ws c i ≡ None → (q : ℕ) → q < slots c → word_at cells ws c i q ≡ None
+pub gone_of : (cells : CellCounts) (ws : List Word) (c : CellClass) (i : ℕ) → IsInOneState cells ws c i → cell_in cells ws c i ≡ None → (q : ℕ) → q < slots c → word_at cells ws c i q ≡ None
 gone_of cells ws c i (Gone none) at = none
 gone_of cells ws c i (New fresh) at = absurd (some_new (word_at cells ws c i head) (ends_in cells ws c i) (fresh head (head_inside c)) at)
   where

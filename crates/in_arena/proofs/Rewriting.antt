@@ -3,12 +3,13 @@ use Rattle.std.proofs.Common.{◌≡◌, ◌≢◌, ℕ, ◌+◌, ◌-◌, ◌<�
 use Rattle.std.specs.Prelude.{true, false}
 use Rattle.in_memory.specs.Places.{together}
 use Rattle.in_memory.specs.declared.cells.Cells.{Cells}
-use Rattle.in_arena.specs.Classes.{width}
+use Rattle.in_arena.specs.Classes.{amount, width}
 use Rattle.in_arena.specs.FreeLists.{IsCell, ListsFree, list_in, state_of, states, vacancy}
 use Rattle.in_arena.specs.Rows.{EachListsFree, MakesReady, OwnsOne, Rewrites, RowsBecome, RowsStay}
 use Rattle.in_arena.specs.States.{Vacant, Leased}
 use Rattle.in_arena.specs.Words.{Word, Content, CellWords, slots, head, slot_of, word_in, count_in, IsHead, word_at, cell_in, row_in, IsInOneState, AreWhole, ChangesCell}
 use Rattle.in_arena.specs.declared.content.CellClass.{CellClass}
+use Rattle.in_arena.specs.declared.content.CellCounts.{CellCounts}
 use Rattle.in_arena.specs.declared.content.End.{End}
 use Rattle.in_arena.specs.declared.free_list.FreeList.{FreeList}
 use Rattle.in_arena.specs.declared.free_list.FreeLists.{FreeLists}
@@ -22,7 +23,7 @@ use Rattle.in_arena.proofs.Owners.{gone_of, put_changes, put_kept}
 use Rattle.in_arena.proofs.Rows.{AllFilled, all_filled, class_cases, head_is, head_now, end_now, one_changes, row_set, row_stays, rows_become, still_whole, whole_now, with_word}
 use Rattle.in_arena.proofs.Words.{head_inside, kept_cell, kept_whole, row_at, row_long, slot_inside, slot_no_head}
 
-module _ (words words' : Cells End) (at : Spot) (x : Content) (inside : at.index < at.cells) (all : AreWhole at.cells words.slots) (was : cell_in at.cells words.slots at.class at.index ≡ Some (Some x)) (same : words'.at ≡ words.at) where
+module _ (words words' : Cells End) (at : Spot) (x : Content) (inside : at.index < amount at.cells at.class) (all : AreWhole at.cells words.slots) (was : cell_in at.cells words.slots at.class at.index ≡ Some (Some x)) (same : words'.at ≡ words.at) where
   abbrev filled : AllFilled at.cells words.slots at.class at.index
   filled = all_filled at.cells words.slots at.class at.index x (all.each at.class at.index inside) was
 
@@ -60,7 +61,7 @@ module _ (words words' : Cells End) (at : Spot) (x : Content) (inside : at.index
 -- ---- the lists of free cells
 
 -- those of the class of the cell are these; the others are as they were
-pub lists_become : (cells : ℕ) (old new : List Word) (c : CellClass) (i : ℕ) (s : CellWords) (lists lists' : FreeLists) (inside : i < cells) → ChangesCell cells old new c i → cell_in cells new c i ≡ s → EachListsFree cells old lists
+pub lists_become : (cells : CellCounts) (old new : List Word) (c : CellClass) (i : ℕ) (s : CellWords) (lists lists' : FreeLists) (inside : i < amount cells c) → ChangesCell cells old new c i → cell_in cells new c i ≡ s → EachListsFree cells old lists
     → ListsFree (width c) (set (row_in cells old c) i s) (list_in lists' c) → ((d : CellClass) → d ≢ c → list_in lists' d ≡ list_in lists d) → EachListsFree cells new lists'
 lists_become cells old new c i s lists lists' inside change now free own others d =
     ⊎_elim
@@ -70,7 +71,7 @@ lists_become cells old new c i s lists lists' inside change now free own others 
 
 -- ---- rows that stay
 
-pub rows_stay : (cells : ℕ) (old new : List Word) (c : CellClass) (i : ℕ) (s : CellWords) (inside : i < cells) → ChangesCell cells old new c i → cell_in cells new c i ≡ s → states (set (row_in cells old c) i s) ≡ states (row_in cells old c) → RowsStay cells old new
+pub rows_stay : (cells : CellCounts) (old new : List Word) (c : CellClass) (i : ℕ) (s : CellWords) (inside : i < amount cells c) → ChangesCell cells old new c i → cell_in cells new c i ≡ s → states (set (row_in cells old c) i s) ≡ states (row_in cells old c) → RowsStay cells old new
 rows_stay cells old new c i s inside change now same d =
     ⊎_elim
     (λ (e : d ≡ c). subst (λ k. states (row_in cells new k) ≡ states (row_in cells old k)) (sym e) (ap states (row_set cells old new c i inside change s now) ∙ same))
@@ -79,32 +80,32 @@ rows_stay cells old new c i s inside change now same d =
 
 -- ---- the first cell that was never used
 
-pub fresh_below : (cells : ℕ) (ws : List Word) (c : CellClass) (l : FreeList) → ListsFree (width c) (row_in cells ws c) l → (l.fresh ≡ cells → ⊥) → l.fresh < cells
+pub fresh_below : (cells : CellCounts) (ws : List Word) (c : CellClass) (l : FreeList) → ListsFree (width c) (row_in cells ws c) l → (l.fresh ≡ amount cells c → ⊥) → l.fresh < amount cells c
 fresh_below cells ws c l h some = let lt = fresh_inside (width c) (row_in cells ws c) l h (λ e. some (e ∙ row_long cells ws c)) in omega (arith, lt, row_long cells ws c)
 
-pub fresh_new : (cells : ℕ) (ws : List Word) (c : CellClass) (l : FreeList) → AreWhole cells ws → ListsFree (width c) (row_in cells ws c) l → (l.fresh ≡ cells → ⊥) → (q : ℕ) → q < slots c → word_at cells ws c l.fresh q ≡ Some None
+pub fresh_new : (cells : CellCounts) (ws : List Word) (c : CellClass) (l : FreeList) → AreWhole cells ws → ListsFree (width c) (row_in cells ws c) l → (l.fresh ≡ amount cells c → ⊥) → (q : ℕ) → q < slots c → word_at cells ws c l.fresh q ≡ Some None
 fresh_new cells ws c l all h some =
     let inside = fresh_below cells ws c l h some in
     new_of cells ws c l.fresh (all.each c l.fresh inside) (sym (row_at cells ws c l.fresh inside) ∙ h.unused.1 l.fresh (omega arith) (omega (arith, inside, row_long cells ws c)))
 
-module _ (cells : ℕ) (c : CellClass) (words : Cells End) (lists : FreeLists) (all : AreWhole cells words.slots) (free : EachListsFree cells words.slots lists) where
+module _ (cells : CellCounts) (c : CellClass) (words : Cells End) (lists : FreeLists) (all : AreWhole cells words.slots) (free : EachListsFree cells words.slots lists) where
   abbrev l : FreeList
   l = list_in lists c
 
   abbrev xs : List CellWords
   xs = row_in cells words.slots c
 
-  long : length xs ≡ cells
+  long : length xs ≡ amount cells c
   long = row_long cells words.slots c
 
-  pub none_ready : l.next ≡ cells → l.fresh ≡ cells → MakesReady cells c words lists false words lists
+  pub none_ready : l.next ≡ amount cells c → l.fresh ≡ amount cells c → MakesReady cells c words lists false words lists
   none_ready empty used = (refl, refl, none_free (width c) xs l (free c) (empty ∙ sym long) (used ∙ sym long))
 
-  pub still_ready : (l.next ≡ cells → ⊥) → MakesReady cells c words lists true words lists
+  pub still_ready : (l.next ≡ amount cells c → ⊥) → MakesReady cells c words lists true words lists
   still_ready some = (refl, all, free, λ d. refl, some)
 
-  pub listed_ready : (words' : Cells End) (lists' : FreeLists) (x : Content) → l.next ≡ cells → (l.fresh ≡ cells → ⊥) → words'.at ≡ words.at → IsInOneState cells words'.slots c l.fresh → ChangesCell cells words.slots words'.slots c l.fresh
-      → cell_in cells words'.slots c l.fresh ≡ Some (Some x) → x.count ≡ 0 → x.word ≡ cells → list_in lists' c ≡ list_with l.fresh (l.fresh + 1) l.free → ((d : CellClass) → d ≢ c → list_in lists' d ≡ list_in lists d) → MakesReady cells c words lists true words' lists'
+  pub listed_ready : (words' : Cells End) (lists' : FreeLists) (x : Content) → l.next ≡ amount cells c → (l.fresh ≡ amount cells c → ⊥) → words'.at ≡ words.at → IsInOneState cells words'.slots c l.fresh → ChangesCell cells words.slots words'.slots c l.fresh
+      → cell_in cells words'.slots c l.fresh ≡ Some (Some x) → x.count ≡ 0 → x.word ≡ amount cells c → list_in lists' c ≡ list_with l.fresh (l.fresh + 1) l.free → ((d : CellClass) → d ≢ c → list_in lists' d ≡ list_in lists d) → MakesReady cells c words lists true words' lists'
   listed_ready words' lists' x empty some same whole change now ends_zero last own others =
       let inside = fresh_below cells words.slots c l (free c) some in
       let z = listed_new (width c) xs l x (free c) (empty ∙ sym long) (λ e. some (e ∙ long)) ends_zero (last ∙ sym long) in (
@@ -117,11 +118,11 @@ module _ (cells : ℕ) (c : CellClass) (words : Cells End) (lists : FreeLists) (
 
   -- ---- the first free cell
 
-  module _ (some : l.next ≢ cells) where
+  module _ (some : l.next ≢ amount cells c) where
     pub first : First xs l.next (free c).free
     first = first_free (width c) xs l (free c) (λ e. some (e ∙ long))
 
-    pub first_below : l.next < cells
+    pub first_below : l.next < amount cells c
     first_below = let lt = first.inside in omega (arith, lt, long)
 
     pub first_cell : cell_in cells words.slots c l.next ≡ Some (Some first.cell)
@@ -153,7 +154,7 @@ module _ (cells : ℕ) (c : CellClass) (words : Cells End) (lists : FreeLists) (
 
   -- ---- a cell that isn't free
 
-  module _ (i : ℕ) (inside : i < cells) (before : vacancy (cell_in cells words.slots c i) ≡ 0) where
+  module _ (i : ℕ) (inside : i < amount cells c) (before : vacancy (cell_in cells words.slots c i) ≡ 0) where
     was : vacancy (get_or xs i None) ≡ 0
     was = ap vacancy (row_at cells words.slots c i inside) ∙ before
 
@@ -175,10 +176,10 @@ module _ (cells : ℕ) (c : CellClass) (words : Cells End) (lists : FreeLists) (
       subst (RowsBecome cells words.slots words'.slots c i) (vacant_state x ends_zero) (rows_become cells words.slots words'.slots c i inside change (Some (Some x)) now),
     )
 
-  pub free_few : l.free ≤ cells
+  pub free_few : l.free ≤ amount cells c
   free_few = let few = free_small (width c) xs l (free c) in omega (arith, few, long)
 
-  pub next_few : l.next ≤ cells
+  pub next_few : l.next ≤ amount cells c
   next_few = let few = next_inside (width c) xs l (free c) in omega (arith, few, long)
 
 -- the number that a head names

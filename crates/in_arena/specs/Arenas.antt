@@ -1,22 +1,23 @@
 -- The views of an arena and of a lease, and the changes by the calls.
-use Rattle.std.specs.Prelude.{◌≡◌, ◌<◌, ◌≤◌, ◌+◌, ◌*◌, ℕ, List, length, get_or, take, drop, slice_index_or, slice_set, count_by, Option, Some, None}
+use Rattle.std.specs.Prelude.{◌≡◌, ◌<◌, ◌≤◌, ◌+◌, ℕ, List, length, get_or, take, drop, slice_index_or, slice_set, count_by, Option, Some, None}
 use denote.RawPtr.{Ptr, null_ptr}
-use Rattle.in_arena.specs.Classes.{class_no, IsNumberOf}
+use Rattle.in_arena.specs.Classes.{IsNumberOf, amount, class_no, first_of}
 use Rattle.in_arena.specs.States.{State, Vacant, Leased, IsLeased, IsBegun, is_vacant}
 use Rattle.in_arena.specs.declared.content.CellClass.{CellClass}
+use Rattle.in_arena.specs.declared.content.CellCounts.{CellCounts}
 
 -- the address of its cells of each class, by the number of the class, by which contracts know an arena; the number of cells of each class; the state
 -- of each cell, by its number
 pub record ArenaView : Type 0 where
   pub memory : List Ptr
-  pub cells : ℕ
+  pub cells : CellCounts
   pub states : List State
 
--- the class of its cell, the address of the cells of that class and their number, the cell's number, and its content: Vacant if nothing is written
+-- the class of its cell, the address of the cells of that class, the number of cells of each class, the cell's number, and its content: Vacant if nothing is written
 pub record LeaseView : Type 0 where
   pub class : CellClass
   pub memory : Ptr
-  pub cells : ℕ
+  pub cells : CellCounts
   pub number : ℕ
   pub state : State
 
@@ -33,7 +34,7 @@ changed a n x = record { memory = a.memory; cells = a.cells; states = slice_set 
 
 -- the cells of a class
 abbrev pub part_of : ArenaView → CellClass → List State
-part_of a c = take a.cells (drop (class_no c * a.cells) a.states)
+part_of a c = take (amount a.cells c) (drop (first_of a.cells c) a.states)
 
 -- the number of free cells of a class
 abbrev pub free_of : ArenaView → CellClass → ℕ
@@ -48,9 +49,9 @@ pub record IsOf (l : LeaseView) (a : ArenaView) : Type 0 where
 
 -- from this number on, which isn't below the class's first cell and at most one past its last, all cells of the class are free
 pub record IsUsedOf (a : ArenaView) (c : CellClass) (to : ℕ) : Type 0 where
-  pub some : class_no c * a.cells ≤ to
-  pub within : to ≤ (class_no c + 1) * a.cells
-  pub rest : (n : ℕ) → to ≤ n → n < (class_no c + 1) * a.cells → state_at a n ≡ Vacant
+  pub some : first_of a.cells c ≤ to
+  pub within : to ≤ first_of a.cells c + amount a.cells c
+  pub rest : (n : ℕ) → to ≤ n → n < first_of a.cells c + amount a.cells c → state_at a n ≡ Vacant
 
 abbrev pub NoneLeased : ArenaView → Type 0
 NoneLeased a = (n : ℕ) → n < length a.states → IsLeased (state_at a n) → ⊥

@@ -2,8 +2,8 @@
 use Rattle.std.specs.Prelude.{◌≡◌, ◌≤◌, ◌<◌, ℕ, Some, None}
 use Rattle.in_arena.specs.Arenas.{ArenaView}
 use Rattle.in_arena.specs.ByClass.{view_of}
-use Rattle.in_arena.specs.Classes.{width}
-use Rattle.in_arena.specs.Limiting.{most_cells}
+use Rattle.in_arena.specs.Classes.{amount, width}
+use Rattle.in_arena.specs.Limiting.{AreAllowed}
 use Rattle.in_arena.specs.Words.{AreWhole, CellWords, cell_in}
 use Rattle.in_arena.specs.declared.bag.Bag.TheInside.{Inside}
 use Rattle.in_arena.specs.declared.content.CellClass.{CellClass}
@@ -18,7 +18,7 @@ IsKeptCell most (Some None) = ⊥
 IsKeptCell most (Some (Some c)) = c.count ≤ most
 
 pub record IsBag (b : Inside) : Type 0 where
-  pub few : b.cells ≤ most_cells
+  pub few : AreAllowed b.cells
   pub block : b.words.at ≡ b.base.ptr
   pub whole : AreWhole b.cells b.words.slots
-  pub kept : (c : CellClass) (i : ℕ) → i < b.cells → IsKeptCell (width c) (cell_in b.cells b.words.slots c i)
+  pub kept : (c : CellClass) (i : ℕ) → i < amount b.cells c → IsKeptCell (width c) (cell_in b.cells b.words.slots c i)

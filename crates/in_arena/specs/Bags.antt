@@ -1,15 +1,16 @@
 -- The view of a bag of leased cells, which has the form of an arena's view: a cell that isn't in the bag has another owner, so it is leased; a cell
 -- of the bag without content is vacant.
-use Rattle.std.specs.Prelude.{◌≡◌, ◌*◌, ℕ, length, replicate, Option, Some, None}
+use Rattle.std.specs.Prelude.{◌≡◌, ℕ, replicate, Option, Some, None}
 use Rattle.in_arena.specs.Arenas.{ArenaView, changed, free_of, state_at}
-use Rattle.in_arena.specs.Classes.{classes, IsNumberOf, Holds}
+use Rattle.in_arena.specs.Classes.{Holds, IsNumberOf, all_of}
 use Rattle.in_arena.specs.States.{Vacant, Leased, IsLeased}
 use Rattle.in_arena.specs.declared.content.CellClass.{CellClass}
+use Rattle.in_arena.specs.declared.content.CellCounts.{CellCounts}
 use Rattle.in_arena.specs.declared.content.CellNo.{CellNo}
 
 -- a bag of this arena that has no cell
 abbrev pub empty_bag : ArenaView → ArenaView
-empty_bag a = record { memory = a.memory; cells = a.cells; states = replicate (length classes * a.cells) Leased }
+empty_bag a = record { memory = a.memory; cells = a.cells; states = replicate (all_of a.cells) Leased }
 
 -- the cell of this number is in the bag
 abbrev pub IsInBag : ArenaView → ℕ → Type 0
@@ -29,8 +30,8 @@ BagsAreApart b d = (n : ℕ) → IsInBag b n → state_at d n ≡ Leased
 abbrev pub AreOfOne : ArenaView → ArenaView → Type 0
 AreOfOne b d = (d.memory ≡ b.memory) × (d.cells ≡ b.cells)
 
--- in an arena with `cells` cells of each class, the cell of number n is for `ends` ends
-abbrev pub IsFor : ℕ → ℕ → ℕ → Type 0
+-- in an arena with that many cells of each class, the cell of number n is for `ends` ends
+abbrev pub IsFor : CellCounts → ℕ → ℕ → Type 0
 IsFor cells n ends = (c : CellClass) × IsNumberOf cells c n × Holds c ends
 
 -- a cell of this class that was free is leased and in the bag, without content; or none was free

@@ -1,15 +1,15 @@
 -- An arena's counts and its leases after a change of a cell.
-use Rattle.std.specs.Prelude.{◌≡◌, ◌≢◌, ◌+◌, ◌*◌, ℕ, cond, List, length, Some, slice_get}
+use Rattle.std.specs.Prelude.{◌≡◌, ◌≢◌, ◌+◌, ℕ, cond, List, length, Some, slice_get}
 use Rattle.in_arena.specs.Arenas.{ArenaView, LeaseView, IsOf, Leases, changed, free_of, state_at}
 use Rattle.in_arena.specs.Bags.{BagsAreApart, IsBagOf, LeasesTo, empty_bag}
-use Rattle.in_arena.specs.Classes.{classes, IsNumberOf}
+use Rattle.in_arena.specs.Classes.{IsNumberOf, all_of}
 use Rattle.in_arena.specs.States.{State, Vacant, Leased, IsLeased, is_vacant}
 use Rattle.in_arena.specs.declared.content.CellClass.{CellClass}
 use Rattle.in_arena.specs.declared.content.CellNo.{CellNo}
 
--- it has `a.cells` cells of each class
+-- it has all its cells
 abbrev pub HasAllCells : ArenaView → Type 0
-HasAllCells a = length a.states ≡ length classes * a.cells
+HasAllCells a = length a.states ≡ all_of a.cells
 
 abbrev pub one_if_free : State → ℕ
 one_if_free x = cond (is_vacant x) 1 0

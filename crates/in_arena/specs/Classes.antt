@@ -1,7 +1,8 @@
 -- The classes of cells. A class is a number and a width; all definitions on classes use these two alone. This project's own choice.
-use Rattle.std.specs.Prelude.{◌≡◌, ◌≤◌, ◌<◌, ◌+◌, ◌*◌, ℕ, Bool, ◌&&◌, nat_le, List, [], ◌∷◌, length}
+use Rattle.std.specs.Prelude.{◌≡◌, ◌≤◌, ◌<◌, ◌+◌, ℕ, Bool, ◌&&◌, nat_le, List, [], ◌∷◌}
 use Rattle.in_arena.specs.declared.content.CellClass.{CellClass}
 use Rattle.in_arena.specs.declared.content.CellClass.TheVariants.{Small, Large, Wide}
+use Rattle.in_arena.specs.declared.content.CellCounts.{CellCounts}
 
 -- all classes in the order of their numbers, in which they are tested
 abbrev pub classes : List CellClass
@@ -31,9 +32,29 @@ Holds c n = (least c ≤ n) × (n ≤ width c)
 abbrev pub holds : CellClass → ℕ → Bool
 holds c n = nat_le (least c) n && nat_le n (width c)
 
--- in an arena with `cells` cells of each class, n is the number of one of class c: the cells of a class come after those of the class before
-abbrev pub IsNumberOf : ℕ → CellClass → ℕ → Type 0
-IsNumberOf cells c n = (class_no c * cells ≤ n) × (n < (class_no c + 1) * cells)
+-- the number of cells of a class
+abbrev pub amount : CellCounts → CellClass → ℕ
+amount cells Small = cells.small
+amount cells Large = cells.large
+amount cells Wide = cells.wide
+
+-- this number of cells of each class
+abbrev pub each : ℕ → CellCounts
+each n = record { small = n; large = n; wide = n }
+
+-- the number of cells of all classes
+abbrev pub all_of : CellCounts → ℕ
+all_of cells = cells.small + cells.large + cells.wide
+
+-- the number of the first cell of a class: the cells of a class come after those of the class before
+abbrev pub first_of : CellCounts → CellClass → ℕ
+first_of cells Small = 0
+first_of cells Large = cells.small
+first_of cells Wide = cells.small + cells.large
+
+-- in an arena with that many cells of each class, n is the number of one of class c
+abbrev pub IsNumberOf : CellCounts → CellClass → ℕ → Type 0
+IsNumberOf cells c n = (first_of cells c ≤ n) × (n < first_of cells c + amount cells c)
 
 -- a number of ends that some class holds is held by only one class
 abbrev pub ClassesAreApart : Type 0
@@ -45,8 +66,8 @@ ClassesAreAll = (n : ℕ) → 1 ≤ n → n ≤ width Wide → (c : CellClass) �
 
 -- no number is that of cells of two classes
 abbrev pub NumbersAreApart : Type 0
-NumbersAreApart = (cells n : ℕ) (c d : CellClass) → IsNumberOf cells c n → IsNumberOf cells d n → c ≡ d
+NumbersAreApart = (cells : CellCounts) (n : ℕ) (c d : CellClass) → IsNumberOf cells c n → IsNumberOf cells d n → c ≡ d
 
 -- .. and each number below that of all cells is
 abbrev pub NumbersAreAll : Type 0
-NumbersAreAll = (cells n : ℕ) → n < length classes * cells → (c : CellClass) × IsNumberOf cells c n
+NumbersAreAll = (cells : CellCounts) (n : ℕ) → n < all_of cells → (c : CellClass) × IsNumberOf cells c n

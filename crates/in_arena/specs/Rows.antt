@@ -1,31 +1,32 @@
 -- Changes of the words of one cell, and of the lists of free cells with them.
-use Rattle.std.specs.Prelude.{◌≡◌, ◌≢◌, ◌≤◌, ◌<◌, ◌*◌, ℕ, Bool, true, false, List, length, take, count_by, replicate, slice_set, Some, None}
+use Rattle.std.specs.Prelude.{◌≡◌, ◌≢◌, ◌≤◌, ◌<◌, ℕ, Bool, true, false, List, length, take, count_by, replicate, slice_set, Some, None}
 use Rattle.in_memory.specs.declared.cells.Cells.{Cells}
-use Rattle.in_arena.specs.Classes.{width}
+use Rattle.in_arena.specs.Classes.{amount, width}
 use Rattle.in_arena.specs.FreeLists.{ListsFree, list_in, states}
 use Rattle.in_arena.specs.States.{State, Vacant, is_vacant}
-use Rattle.in_arena.specs.Words.{AreWhole, ChangesCell, Content, Word, cell_in, row_in, words_each}
+use Rattle.in_arena.specs.Words.{AreWhole, ChangesCell, Content, Word, cell_in, row_in, words_of}
 use Rattle.in_arena.specs.declared.content.CellClass.{CellClass}
+use Rattle.in_arena.specs.declared.content.CellCounts.{CellCounts}
 use Rattle.in_arena.specs.declared.content.End.{End}
 use Rattle.in_arena.specs.declared.free_list.FreeLists.{FreeLists}
 use Rattle.in_arena.specs.declared.spot.Spot.{Spot}
 
 -- the lists have the free cells of each class
-abbrev pub EachListsFree : ℕ → List Word → FreeLists → Type 0
+abbrev pub EachListsFree : CellCounts → List Word → FreeLists → Type 0
 EachListsFree cells ws lists = (c : CellClass) → ListsFree (width c) (row_in cells ws c) (list_in lists c)
 
 -- this cell has this state, and all others are as they were
-pub record RowsBecome (cells : ℕ) (old new : List Word) (c : CellClass) (i : ℕ) (x : State) : Type 0 where
+pub record RowsBecome (cells : CellCounts) (old new : List Word) (c : CellClass) (i : ℕ) (x : State) : Type 0 where
   pub row : states (row_in cells new c) ≡ slice_set (states (row_in cells old c)) i x
   pub others : (d : CellClass) → d ≢ c → states (row_in cells new d) ≡ states (row_in cells old d)
 
 -- each cell is as it was
-abbrev pub RowsStay : ℕ → List Word → List Word → Type 0
+abbrev pub RowsStay : CellCounts → List Word → List Word → Type 0
 RowsStay cells old new = (c : CellClass) → states (row_in cells new c) ≡ states (row_in cells old c)
 
 -- the list of the class has a cell, or no cell of the class is free
-abbrev pub MakesReady : ℕ → CellClass → Cells End → FreeLists → Bool → Cells End → FreeLists → Type 0
-MakesReady cells c words lists true words' lists' = (words'.at ≡ words.at) × AreWhole cells words'.slots × EachListsFree cells words'.slots lists' × RowsStay cells words.slots words'.slots × ((list_in lists' c).next ≢ cells)
+abbrev pub MakesReady : CellCounts → CellClass → Cells End → FreeLists → Bool → Cells End → FreeLists → Type 0
+MakesReady cells c words lists true words' lists' = (words'.at ≡ words.at) × AreWhole cells words'.slots × EachListsFree cells words'.slots lists' × RowsStay cells words.slots words'.slots × ((list_in lists' c).next ≢ amount cells c)
 MakesReady cells c words lists false words' lists' = (words' ≡ words) × (lists' ≡ lists) × (count_by is_vacant (states (row_in cells words.slots c)) ≡ 0)
 
 -- the cell is written with this content
@@ -38,9 +39,9 @@ pub record Rewrites (words : Cells End) (at : Spot) (x : Content) (words' : Cell
 -- `one` has the words of this cell, which is written, and no others; in the row they are another owner's
 pub record OwnsOne (words : Cells End) (at : Spot) (one : Cells End) : Type 0 where
   pub same : one.at ≡ words.at
-  pub index : at.index < at.cells
+  pub index : at.index < amount at.cells at.class
   pub whole : AreWhole at.cells one.slots
-  pub alone : ChangesCell at.cells (replicate (words_each * at.cells) None) one.slots at.class at.index
+  pub alone : ChangesCell at.cells (replicate (words_of at.cells) None) one.slots at.class at.index
   pub content : Content
   pub cell : cell_in at.cells one.slots at.class at.index ≡ Some (Some content)
   pub room : content.count ≤ width at.class

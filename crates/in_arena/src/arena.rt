@@ -3,39 +3,35 @@ ghost use Rattle.std.specs.Prelude.{ℕ, ◌≡◌, ◌*◌, ◌<◌, ◌≤◌,
 ghost use Rattle.in_arena.specs.States.{State, Vacant, Leased, IsLive, IsLeased, IsBegun, HasEnds, word_of, end_at, places, with_end};
 ghost use Rattle.in_arena.specs.Arenas.{Leases, BeginsCell, IsOf, IsUsedOf, NoneLeased, state_at, changed, free_of};
 ghost use Rattle.in_arena.specs.Bags.{IsBagOf, IsFor, IsInBag, LeasesTo, empty_bag};
-ghost use Rattle.in_arena.specs.Classes.{Holds, IsNumberOf, classes};
+ghost use Rattle.in_arena.specs.Classes.{Holds, IsNumberOf, all_of, each};
 ghost use Rattle.in_arena.specs.EndWords.{HasWord};
 ghost use Rattle.in_arena.specs.declared.content.CellClass.{CellClass as Class};
 ghost use Rattle.in_arena.specs.declared.content.CellNo.{CellNo as Number};
 ghost use Rattle.in_arena.specs.declared.content.End.TheVariants.{Cell};
 ghost use Rattle.in_arena.specs.Changes.{HasAllCells};
-ghost use Rattle.in_arena.specs.Limiting.{most_cells};
+ghost use Rattle.in_arena.specs.Limiting.{AreAllowed, most_cells};
 
 use crate::bag::Bag;
-use crate::content::{CellClass, CellIndex, CellNo, End, SymbolWord};
+use crate::content::{CellClass, CellCounts, CellIndex, CellNo, End, SymbolWord};
 use crate::free_list::{FreeList, FreeLists};
 use crate::head::HeadWord;
 use crate::lease::Lease;
 use crate::row::{head_of, is_ready, take_back};
-use crate::spot::{HEAD, Spot, near_word, place_word, spot_of};
+use crate::spot::{HEAD, Spot, near_word, place_word, spot_of, words_of};
 use crate::word::EndWord;
 use in_memory::{Base, Cells, Deed, allocate, deallocate};
 use std::alloc::{AllocError, Global};
 use std::marker::Model;
 use std_alloc::room::may_hold;
 
-// The number of words that the row has for each number of cells of a class: four for each cell, six more for a large and a wide one, and eight more for a
-// wide one.
-const WORDS: usize = 32;
-
-/// Cells in raw memory, the same number of each class, numbered class by class from 0. Contracts see the state of each cell, by its number: free,
+/// Cells in raw memory, numbered class by class from 0. Contracts see the state of each cell, by its number: free,
 /// leased, or live with a symbol word and its ends. It is dropped only while no cell is on lease.
 pub struct Arena {
     base: Base<EndWord>,
     words: Cells<EndWord>,
     deed: Deed<EndWord, Global>,
     alloc: Global,
-    cells: u32,
+    cells: CellCounts,
     lists: FreeLists,
 }
 
@@ -64,39 +60,43 @@ impl Drop for Arena {
             cells,
             lists: _,
         } = self;
-        deallocate(&alloc, base, WORDS * cells as usize, words, deed);
+        deallocate(&alloc, base, words_of(cells), words, deed);
     }
 }
 
 impl Arena {
-    /// An arena with `cells` cells of each class, all free. It is refused only when out of memory; no other call takes memory.
+    /// An arena with `cells` cells of each class, all free. It is refused only when out of memory; no other call but `with_counts` takes memory.
     pub fn new(alloc: Global, cells: u32) -> Result<Arena, AllocError>
         requires { cells ≤ most_cells }
-        ensures { IfOk result (λ a. (a.cells ≡ cells) × (a.states ≡ replicate (length classes * cells) Vacant)) }
+        ensures { IfOk result (λ a. (a.cells ≡ each cells) × (a.states ≡ replicate (all_of (each cells)) Vacant)) }
     {
-        let len = WORDS * cells as usize;
+        Arena::with_counts(alloc, CellCounts::each(cells))
+    }
+
+    /// An arena with this number of cells of each class, all free. It is refused only when out of memory. A page of memory is used once a cell in it
+    /// is.
+    pub fn with_counts(alloc: Global, cells: CellCounts) -> Result<Arena, AllocError>
+        requires { AreAllowed cells }
+        ensures { IfOk result (λ a. (a.cells ≡ cells) × (a.states ≡ replicate (all_of cells) Vacant)) }
+    {
+        let len = words_of(cells);
         if !may_hold::<EndWord>(len) {
             return Err(AllocError);
         }
         let (base, words, deed) = allocate(&alloc, len)?;
-        let all = FreeList {
-            next: cells,
-            fresh: 0,
-            free: cells,
-        };
         Ok(Arena {
             base,
             words,
             deed,
             alloc,
             cells,
-            lists: FreeLists::all(all),
+            lists: FreeLists::unused(cells),
         })
     }
 
     /// The number of cells of each class.
-    pub fn cells(&self) -> u32
-        ensures { (result ≡ self.now.cells) × HasAllCells self.now }
+    pub fn cells(&self) -> CellCounts
+        ensures { (result ≡ self.now.cells) × HasAllCells self.now × AreAllowed result }
     {
         self.cells
     }
@@ -105,7 +105,7 @@ impl Arena {
     pub fn all_cells(&self) -> u32
         ensures { result ≡ length self.now.states }
     {
-        self.cells * CellClass::ALL.len() as u32
+        self.cells.all()
     }
 
     /// The number of free cells of a class.
@@ -119,7 +119,7 @@ impl Arena {
     pub fn used(&self, class: CellClass) -> u32
         ensures { IsUsedOf self.now class result }
     {
-        class.number() * self.cells + self.lists.of(class).fresh
+        self.cells.first(class) + self.lists.of(class).fresh
     }
 
     /// A number from which on all cells of all classes are free.
@@ -130,7 +130,7 @@ impl Arena {
         let mut bound = 0;
         for class in CellClass::ALL {
             let end = self.used(class);
-            if class.number() * self.cells < end {
+            if self.cells.first(class) < end {
                 bound = end;
             }
         }

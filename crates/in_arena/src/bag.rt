@@ -5,7 +5,7 @@ ghost use Rattle.in_arena.specs.Arenas.{state_at, changed};
 ghost use Rattle.in_arena.specs.Bags.{IsInBag, AreOfOne, IsFor};
 ghost use Rattle.in_arena.specs.EndWords.{HaveWords, numbers};
 
-use crate::content::{CellNo, End, SymbolWord};
+use crate::content::{CellCounts, CellNo, End, SymbolWord};
 use crate::head::HeadWord;
 use crate::row::{begin_cell, set_end, write_cell};
 use crate::spot::spot_of;
@@ -20,7 +20,7 @@ use std::marker::Model;
 pub struct Bag {
     pub(crate) base: Base<EndWord>,
     pub(crate) words: Cells<EndWord>,
-    pub(crate) cells: u32,
+    pub(crate) cells: CellCounts,
 }
 
 impl Model for Bag {

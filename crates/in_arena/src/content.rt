@@ -1,7 +1,8 @@
 // The contents of a cell.
-ghost use Rattle.std.specs.Prelude.{◌≡◌, ◌≤◌, ◌<◌};
+ghost use Rattle.std.specs.Prelude.{◌≡◌, ◌≤◌, ◌<◌, ◌↔◌, IsTrue};
 ghost use Rattle.in_arena.specs.EndWords.{numbers};
-ghost use Rattle.in_arena.specs.Classes.{Holds, class_no, width, least, holds};
+ghost use Rattle.in_arena.specs.Classes.{Holds, all_of, amount, class_no, each, first_of, holds, least, width};
+ghost use Rattle.in_arena.specs.Limiting.{AreAllowed, most_larger_cells, most_small_cells};
 ghost use Rattle.in_arena.specs.declared.content.CellClass.TheVariants.{Wide};
 
 use std::marker::Model;
@@ -131,5 +132,76 @@ impl CellClass {
         ensures { result ≡ holds self ends }
     {
         self.least() as usize <= ends && ends <= self.width() as usize
+    }
+}
+
+/// A number of cells of each class.
+#[derive(Clone, Copy, Debug, PartialEq, Eq)]
+pub struct CellCounts {
+    pub small: u32,
+    pub large: u32,
+    pub wide: u32,
+}
+
+impl CellCounts {
+    /// The most cells of each class that an arena may have. Together they are as many as there are numbers in words.
+    pub const MOST: CellCounts = CellCounts {
+        small: 16_777_216,
+        large: 8_388_608,
+        wide: 8_388_608,
+    };
+
+    /// This number of cells of each class.
+    pub fn each(cells: u32) -> CellCounts
+        ensures { result ≡ each cells }
+    {
+        CellCounts {
+            small: cells,
+            large: cells,
+            wide: cells,
+        }
+    }
+
+    /// The number of cells of a class.
+    #[inline(always)]
+    pub fn of(self, class: CellClass) -> u32
+        ensures { result ≡ amount self class }
+    {
+        match class {
+            CellClass::Small => self.small,
+            CellClass::Large => self.large,
+            CellClass::Wide => self.wide,
+        }
+    }
+
+    /// The number of the first cell of a class: the cells of a class come after those of the class before.
+    #[inline(always)]
+    pub fn first(self, class: CellClass) -> u32
+        requires { AreAllowed self }
+        ensures { result ≡ first_of self class }
+    {
+        match class {
+            CellClass::Small => 0,
+            CellClass::Large => self.small,
+            CellClass::Wide => self.small + self.large,
+        }
+    }
+
+    /// The number of cells of all classes.
+    pub fn all(self) -> u32
+        requires { AreAllowed self }
+        ensures { result ≡ all_of self }
+    {
+        self.small + self.large + self.wide
+    }
+
+    /// Whether an arena may have that many cells: at most 16,777,216 small ones, 8,388,608 large ones and 8,388,608 wide ones, which is this
+    /// project's own choice.
+    pub fn are_allowed(self) -> bool
+        ensures { IsTrue result ↔ AreAllowed self }
+    {
+        self.small <= CellCounts::MOST.small
+            && self.large <= CellCounts::MOST.large
+            && self.wide <= CellCounts::MOST.wide
     }
 }

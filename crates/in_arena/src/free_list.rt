@@ -1,9 +1,10 @@
 // Which cells of each class are free.
 ghost use Rattle.std.specs.Prelude.{◌≡◌, ◌≢◌};
+ghost use Rattle.in_arena.specs.Classes.{amount};
 ghost use Rattle.in_arena.specs.FreeLists.{list_in};
 ghost use Rattle.in_arena.specs.declared.content.CellClass.{CellClass as Class};
 
-use crate::content::CellClass;
+use crate::content::{CellClass, CellCounts};
 
 /// The free cells of a class: those of a list through the used ones, the last that was given back first, and all from `fresh` on. In the cells from
 /// `fresh` on nothing was written yet. The cells are numbered within their class. The list ends at the number that no cell has.
@@ -14,6 +15,19 @@ pub struct FreeList {
     pub free: u32,
 }
 
+impl FreeList {
+    /// All cells of the class, in which nothing was written yet.
+    fn unused(cells: u32) -> FreeList
+        ensures { result ≡ record { next = cells; fresh = 0; free = cells } }
+    {
+        FreeList {
+            next: cells,
+            fresh: 0,
+            free: cells,
+        }
+    }
+}
+
 /// The free cells of all classes, by the numbers of the classes.
 #[derive(Clone, Copy)]
 pub struct FreeLists {
@@ -21,11 +35,17 @@ pub struct FreeLists {
 }
 
 impl FreeLists {
-    /// The same free cells for each class.
-    pub fn all(list: FreeList) -> FreeLists
-        ensures { (c : Class) → list_in result c ≡ list }
+    /// The free cells where nothing was written yet: all cells of each class.
+    pub fn unused(cells: CellCounts) -> FreeLists
+        ensures { (c : Class) → list_in result c ≡ record { next = amount cells c; fresh = 0; free = amount cells c } }
     {
-        FreeLists { lists: [list; 3] }
+        FreeLists {
+            lists: [
+                FreeList::unused(cells.small),
+                FreeList::unused(cells.large),
+                FreeList::unused(cells.wide),
+            ],
+        }
     }
 
     /// The free cells of a class.

@@ -25,7 +25,7 @@ mod word;
 
 pub use arena::Arena;
 pub use bag::Bag;
-pub use content::{CellClass, CellIndex, CellNo, End, SymbolWord};
+pub use content::{CellClass, CellCounts, CellIndex, CellNo, End, SymbolWord};
 pub use head::HeadWord;
 pub use lease::Lease;
 pub use word::{EndWord, PlaceStep};

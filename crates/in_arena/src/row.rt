@@ -1,14 +1,14 @@
 // The words of a row, cell by cell.
 ghost use Rattle.std.specs.Prelude.{◌≡◌, ◌≤◌, ◌<◌, ◌+◌, ◌*◌, length, Some, get_or, None, slice_set};
 ghost use Rattle.in_memory.specs.Places.{IsFilled};
-ghost use Rattle.in_arena.specs.Classes.{width};
+ghost use Rattle.in_arena.specs.Classes.{amount, width};
 ghost use Rattle.in_arena.specs.EndWords.{HaveWords, numbers};
 ghost use Rattle.in_arena.specs.FreeLists.{ListsFree, list_in};
-ghost use Rattle.in_arena.specs.Limiting.{most_cells};
+ghost use Rattle.in_arena.specs.Limiting.{AreAllowed};
 ghost use Rattle.in_arena.specs.Rows.{EachListsFree, HasContent, MakesReady, IsTakenBack, IsWrittenAt, OwnsOne, Rewrites};
 ghost use Rattle.in_arena.specs.Words.{AreWhole, Content, cell_in};
 
-use crate::content::{CellClass, CellNo, End, SymbolWord};
+use crate::content::{CellClass, CellCounts, CellNo, End, SymbolWord};
 use crate::free_list::{FreeList, FreeLists};
 use crate::head::HeadWord;
 use crate::spot::{HEAD, Spot, near_word};
@@ -29,15 +29,15 @@ pub fn head_of(words: &Cells<EndWord>, base: Base<EndWord>, cell: CellNo) -> End
 pub fn is_ready(
     words: &mut Cells<EndWord>,
     base: Base<EndWord>,
-    cells: u32,
+    cells: CellCounts,
     class: CellClass,
     lists: &mut FreeLists,
 ) -> bool
-    requires words { (base.ptr ≡ words.old.at) × (cells ≤ most_cells) × AreWhole cells words.old.slots }
+    requires words { (base.ptr ≡ words.old.at) × AreAllowed cells × AreWhole cells words.old.slots }
     requires lists { EachListsFree cells words.old.slots lists.old }
     ensures { MakesReady cells class words.old lists.old result words.new lists.new }
 {
-    if lists.of(class).next != cells {
+    if lists.of(class).next != cells.of(class) {
         return true;
     }
     list_new(words, base, cells, class, lists)
@@ -48,17 +48,18 @@ pub fn is_ready(
 fn list_new(
     words: &mut Cells<EndWord>,
     base: Base<EndWord>,
-    cells: u32,
+    cells: CellCounts,
     class: CellClass,
     lists: &mut FreeLists,
 ) -> bool
-    requires words { (base.ptr ≡ words.old.at) × (cells ≤ most_cells) × AreWhole cells words.old.slots }
+    requires words { (base.ptr ≡ words.old.at) × AreAllowed cells × AreWhole cells words.old.slots }
     requires lists { EachListsFree cells words.old.slots lists.old }
-    requires empty { (list_in lists.old class).next ≡ cells }
+    requires empty { (list_in lists.old class).next ≡ amount cells class }
     ensures { MakesReady cells class words.old lists.old result words.new lists.new }
 {
     let list = lists.of(class);
-    if list.fresh == cells {
+    let end = cells.of(class);
+    if list.fresh == end {
         return false;
     }
     let spot = Spot {
@@ -69,7 +70,7 @@ fn list_new(
     for place in 0..class.width() {
         words.write(base, spot.word(place), EndWord::free(0));
     }
-    words.write(base, spot.head(), EndWord::port(CellNo(cells), 0));
+    words.write(base, spot.head(), EndWord::port(CellNo(end), 0));
     lists.set(
         class,
         FreeList {
@@ -90,7 +91,7 @@ pub fn take_back(
     one: Cells<EndWord>,
     lists: &mut FreeLists,
 )
-    requires words { (base.ptr ≡ words.old.at) × (spot.cells ≤ most_cells) × AreWhole spot.cells words.old.slots }
+    requires words { (base.ptr ≡ words.old.at) × AreAllowed spot.cells × AreWhole spot.cells words.old.slots }
     requires lists { EachListsFree spot.cells words.old.slots lists.old }
     requires one { OwnsOne words.old spot one }
     ensures { IsTakenBack words.old lists.old spot words.new lists.new }
@@ -111,7 +112,7 @@ pub fn take_back(
 /// Writes the head of a cell that is written. The ends at its places stay.
 #[inline(always)]
 pub fn begin_cell(words: &mut Cells<EndWord>, base: Base<EndWord>, spot: Spot, head: HeadWord)
-    requires words { (base.ptr ≡ words.old.at) × (spot.cells ≤ most_cells) × (spot.index < spot.cells) × AreWhole spot.cells words.old.slots }
+    requires words { (base.ptr ≡ words.old.at) × AreAllowed spot.cells × (spot.index < amount spot.cells spot.class) × AreWhole spot.cells words.old.slots }
     requires written { IsWrittenAt words.old.slots spot }
     ensures { (x : Content) → cell_in spot.cells words.old.slots spot.class spot.index ≡ Some (Some x) → Rewrites words.old spot (record { word = head.word; count = head.count; ends = x.ends }) words.new }
 {
@@ -121,7 +122,7 @@ pub fn begin_cell(words: &mut Cells<EndWord>, base: Base<EndWord>, spot: Spot, h
 /// Writes the end at a place of a cell that is written.
 #[inline(always)]
 pub fn set_end(words: &mut Cells<EndWord>, base: Base<EndWord>, spot: Spot, place: u8, end: EndWord)
-    requires words { (base.ptr ≡ words.old.at) × (spot.cells ≤ most_cells) × (spot.index < spot.cells) × AreWhole spot.cells words.old.slots }
+    requires words { (base.ptr ≡ words.old.at) × AreAllowed spot.cells × (spot.index < amount spot.cells spot.class) × AreWhole spot.cells words.old.slots }
     requires written { IsWrittenAt words.old.slots spot }
     requires place { place < width spot.class }
     ensures { (x : Content) → cell_in spot.cells words.old.slots spot.class spot.index ≡ Some (Some x) → Rewrites words.old spot (record { word = x.word; count = x.count; ends = slice_set x.ends place end }) words.new }
@@ -137,7 +138,7 @@ pub fn write_cell(
     symbol: SymbolWord,
     ends: &[End],
 )
-    requires words { (base.ptr ≡ words.old.at) × (spot.cells ≤ most_cells) × (spot.index < spot.cells) × AreWhole spot.cells words.old.slots }
+    requires words { (base.ptr ≡ words.old.at) × AreAllowed spot.cells × (spot.index < amount spot.cells spot.class) × AreWhole spot.cells words.old.slots }
     requires written { IsWrittenAt words.old.slots spot }
     requires few { length ends.now ≤ width spot.class }
     requires symbol { symbol < numbers }

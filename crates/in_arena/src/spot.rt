@@ -1,43 +1,43 @@
 // Where the words of a cell are in the row.
-ghost use Rattle.std.specs.Prelude.{◌≡◌, ◌≤◌, ◌<◌, ◌+◌, ◌*◌, ℕ, length};
-ghost use Rattle.in_arena.specs.ByClass.{IsPlace};
-ghost use Rattle.in_arena.specs.Classes.{class_no, classes};
-ghost use Rattle.in_arena.specs.Limiting.{most_cells};
-ghost use Rattle.in_arena.specs.Words.{slot_of, spot};
+ghost use Rattle.std.specs.Prelude.{◌≡◌, ◌≤◌, ◌<◌, ◌+◌, ◌*◌, ℕ};
+ghost use Rattle.in_arena.specs.ByClass.{HasPlace, IsPlace};
+ghost use Rattle.in_arena.specs.Classes.{all_of, amount, first_of, width};
+ghost use Rattle.in_arena.specs.Limiting.{AreAllowed};
+ghost use Rattle.in_arena.specs.Words.{far_start, middle_start, slot_of, spot, words_of};
 ghost use Rattle.in_arena.specs.declared.content.CellClass.{CellClass as Class};
 
-use crate::content::{CellClass, CellNo};
+use crate::content::{CellClass, CellCounts, CellNo};
 
-/// A cell by its class and its number within the class, where there are `cells` cells of each class.
+/// A cell by its class and its number within the class, where there are `cells` of each class.
 #[derive(Clone, Copy)]
 pub struct Spot {
     pub class: CellClass,
     pub index: u32,
-    pub cells: u32,
+    pub cells: CellCounts,
 }
 
-/// The cell of this number, where there are `cells` cells of each class.
+/// The cell of this number, where there are `cells` of each class.
 #[inline(always)]
-pub fn spot_of(cells: u32, cell: CellNo) -> Spot
-    requires { (cells ≤ most_cells) × (cell.0 < length classes * cells) }
+pub fn spot_of(cells: CellCounts, cell: CellNo) -> Spot
+    requires { AreAllowed cells × (cell.0 < all_of cells) }
     ensures { (result.cells ≡ cells) × IsPlace cells cell.0 result.class result.index }
 {
-    if cell.0 < cells {
+    if cell.0 < cells.small {
         Spot {
             class: CellClass::Small,
             index: cell.0,
             cells,
         }
-    } else if cell.0 < cells + cells {
+    } else if cell.0 - cells.small < cells.large {
         Spot {
             class: CellClass::Large,
-            index: cell.0 - cells,
+            index: cell.0 - cells.small,
             cells,
         }
     } else {
         Spot {
             class: CellClass::Wide,
-            index: cell.0 - (cells + cells),
+            index: cell.0 - cells.small - cells.large,
             cells,
         }
     }
@@ -54,19 +54,47 @@ pub fn near_word(cell: CellNo, slot: u8) -> usize
     4 * cell.0 as usize + slot as usize
 }
 
-/// The word of a place of a cell, where there are `cells` cells of each class. It depends on the cell's number alone, so that the class isn't needed.
+/// The number of words of the row, where there are `cells` of each class: four for each cell, six more for a large and a wide one, and eight more for a
+/// wide one.
+pub fn words_of(cells: CellCounts) -> usize
+    requires { AreAllowed cells }
+    ensures { result ≡ words_of cells }
+{
+    far_start(cells) + 8 * cells.wide as usize
+}
+
+/// Where the second part of the row begins.
 #[inline(always)]
-pub fn place_word(cells: u32, cell: CellNo, place: u8) -> usize
+fn middle_start(cells: CellCounts) -> usize
+    requires { AreAllowed cells }
+    ensures { result ≡ middle_start cells }
+{
+    4 * cells.all() as usize
+}
+
+/// Where its third part begins.
+#[inline(always)]
+fn far_start(cells: CellCounts) -> usize
+    requires { AreAllowed cells }
+    ensures { result ≡ far_start cells }
+{
+    middle_start(cells) + 6 * (cells.large as usize + cells.wide as usize)
+}
+
+/// The word of a place that the cell has, where there are `cells` of each class.
+#[inline(always)]
+pub fn place_word(cells: CellCounts, cell: CellNo, place: u8) -> usize
+    requires { AreAllowed cells × HasPlace cells cell.0 place }
     ensures { (c : Class) (i : ℕ) → IsPlace cells cell.0 c i → result ≡ spot c cells i (slot_of place) }
 {
     if place < HEAD {
         return near_word(cell, place);
     }
-    let number = cell.0 as usize + cells as usize;
+    let number = cell.0 as usize - cells.small as usize;
     if place < 9 {
-        6 * number + (place as usize - 3)
+        middle_start(cells) + 6 * number + (place as usize - 3)
     } else {
-        8 * number + (place as usize - 9)
+        far_start(cells) + 8 * (number - cells.large as usize) + (place as usize - 9)
     }
 }
 
@@ -74,16 +102,16 @@ impl Spot {
     /// The number of the cell among all cells.
     #[inline(always)]
     pub fn cell(self) -> CellNo
-        requires { (self.cells ≤ most_cells) × (self.index < self.cells) }
-        ensures { result.0 ≡ class_no self.class * self.cells + self.index }
+        requires { AreAllowed self.cells × (self.index < amount self.cells self.class) }
+        ensures { result.0 ≡ first_of self.cells self.class + self.index }
     {
-        CellNo(self.class.number() * self.cells + self.index)
+        CellNo(self.cells.first(self.class) + self.index)
     }
 
     /// The word of its head.
     #[inline(always)]
     pub fn head(self) -> usize
-        requires { (self.cells ≤ most_cells) × (self.index < self.cells) }
+        requires { AreAllowed self.cells × (self.index < amount self.cells self.class) }
         ensures { result ≡ spot self.class self.cells self.index 3 }
     {
         near_word(self.cell(), HEAD)
@@ -92,7 +120,7 @@ impl Spot {
     /// The word of a place.
     #[inline(always)]
     pub fn word(self, place: u8) -> usize
-        requires { (self.cells ≤ most_cells) × (self.index < self.cells) }
+        requires { AreAllowed self.cells × (self.index < amount self.cells self.class) × (place < width self.class) }
         ensures { result ≡ spot self.class self.cells self.index (slot_of place) }
     {
         place_word(self.cells, self.cell(), place)

@@ -1,6 +1,7 @@
 -- The limits of a run. This project's own choice.
-use Rattle.std.specs.Prelude.{ℕ}
-pub use Rattle.in_arena.specs.Limiting.{most_cells}
+use Rattle.std.specs.Prelude.{◌≤◌, ℕ}
+use Rattle.in_arena.specs.declared.content.CellCounts.{CellCounts}
+pub use Rattle.in_arena.specs.Limiting.{AreAllowed, most_cells}
 
 abbrev pub most_workers : ℕ
 most_workers = 64
@@ -10,3 +11,7 @@ most_interactions = 1000000000000
 
 abbrev pub least_cells : ℕ
 least_cells = 16
+
+-- of each class
+abbrev pub HasLeast : CellCounts → Type 0
+HasLeast cells = (least_cells ≤ cells.small) × (least_cells ≤ cells.large) × (least_cells ≤ cells.wide)

@@ -5,6 +5,7 @@ use Rattle.in_arena.specs.declared.content.End.{End}
 use Rattle.in_arena.specs.declared.content.End.TheVariants.{Cell}
 use Rattle.in_arena.specs.declared.free_list.FreeList.{FreeList}
 use Rattle.in_arena.proofs.Filling.{changes_twice}
+use Rattle.in_arena.proofs.Classes.{class_few}
 use Rattle.in_arena.proofs.FreeLists.{list_with}
 use Rattle.in_arena.proofs.Rewriting.{free_few, next_few, head_filled, head_rewrites, one_freed, put_in}
 use Rattle.in_arena.proofs.Rows.{with_word}
@@ -18,14 +19,14 @@ write-requires c =
 
 pub port-requires : goal.port-requires
 port-requires c =
-    let w = c.requires.words in let s = c.args.spot in let most = w.1 in
-    (omega (arith, next_few s.cells s.class c.args.words.now c.args.lists.now w.2 c.requires.lists, most, ap (λ (l : FreeList). l.next) c.of-list.ensures), omega arith)
+    let w = c.requires.words in let s = c.args.spot in let most = class_few s.cells w.1 s.class in
+    (omega (arith, next_few s.cells s.class c.args.words.now c.args.lists.now w.2 c.requires.lists, most.0, ap (λ (l : FreeList). l.next) c.of-list.ensures), omega arith)
 
 pub overflow_add-list : goal.overflow_add-list
 overflow_add-list c =
-    let w = c.requires.words in let s = c.args.spot in let most = w.1 in let is = ap (λ (l : FreeList). l.free) c.of-list.ensures in
+    let w = c.requires.words in let s = c.args.spot in let most = class_few s.cells w.1 s.class in let is = ap (λ (l : FreeList). l.free) c.of-list.ensures in
     let few = free_few s.cells s.class c.args.words.now c.args.lists.now w.2 c.requires.lists in
-    record { fits = omega (arith, few, most, is) }
+    record { fits = omega (arith, few, most.0, is) }
 
 pub returns : goal.returns
 returns c =

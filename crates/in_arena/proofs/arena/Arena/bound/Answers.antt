@@ -1,7 +1,8 @@
-use Rattle.std.proofs.Common.{◌≡◌, ◌≤◌, ◌<◌, ◌*◌, ℕ, ap, subst, length, arith}
+use Rattle.std.proofs.Common.{◌≡◌, ◌≤◌, ◌<◌, ℕ, ap, subst, length, arith}
 use Rattle.in_arena.specs.Arenas.{state_at}
-use Rattle.in_arena.specs.Classes.{classes}
+use Rattle.in_arena.specs.Classes.{all_of, classes}
 use Rattle.in_arena.specs.States.{Vacant}
+use Rattle.in_arena.proofs.Classes.{of_first}
 use Rattle.in_arena.proofs.Inside.{arena_all}
 use Rattle.in_arena.proofs.arena.Arena.bound.Goals as goal
 
@@ -12,10 +13,10 @@ returns-clause-few c =
     let at = c.loop-class.auto.class-index-end in
     let done = c.loop-class-test.false in
     let all : c.loop-class.class-index ≡ length classes = omega (arith, items, at, done) in
-    let few = subst (λ k. c.loop-class.bound ≤ k * c.args.self.now.cells) all i.few in
+    let few = subst (λ k. c.loop-class.bound ≤ of_first c.args.self.now.cells k) all i.few in
     let long = arena_all c.self.inside c.self.invariant in
     let view = ap (λ v. length v.states) c.self.view_is in
-    let cells = ap (λ v. v.cells) c.self.view_is in
+    let cells = ap (λ v. all_of v.cells) c.self.view_is in
     omega (arith, few, long, view, cells)
 
 pub returns-clause-rest : goal.returns-clause-rest
@@ -25,9 +26,9 @@ returns-clause-rest c = λ n low high. (
     let at = c.loop-class.auto.class-index-end in
     let done = c.loop-class-test.false in
     let all : c.loop-class.class-index ≡ length classes = omega (arith, items, at, done) in
-    let rest = subst (λ k. (n : ℕ) → c.loop-class.bound ≤ n → n < k * c.args.self.now.cells → state_at c.args.self.now n ≡ Vacant) all i.rest in
+    let rest = subst (λ k. (n : ℕ) → c.loop-class.bound ≤ n → n < of_first c.args.self.now.cells k → state_at c.args.self.now n ≡ Vacant) all i.rest in
     let long = arena_all c.self.inside c.self.invariant in
     let view = ap (λ v. length v.states) c.self.view_is in
-    let cells = ap (λ v. v.cells) c.self.view_is in
+    let cells = ap (λ v. all_of v.cells) c.self.view_is in
     rest n low (omega (arith, high, long, view, cells))
     )

@@ -1,7 +1,7 @@
 use Rattle.std.proofs.Common.{◌≡◌, ◌<◌, ◌*◌, ◌+◌, sym, subst, ap, ◌∙◌, None}
 use Rattle.in_arena.specs.Arenas.{state_at}
 use Rattle.in_arena.specs.ByClass.{IsPlace}
-use Rattle.in_arena.specs.Classes.{class_no}
+use Rattle.in_arena.specs.Classes.{amount, first_of}
 use Rattle.in_arena.specs.States.{Vacant}
 use Rattle.in_arena.specs.Words.{cell_in}
 use Rattle.in_arena.proofs.Bags.{bag_less, in_here}
@@ -30,6 +30,6 @@ returns c =
     let b = c.bag.inside in let a = c.self.inside in let v = c.args.self.now in let w = c.args.bag.now in let s = c.spot_of-spot.result in let n = c.args.cell.0 in let p = c.spot_of-spot.ensures.1 in let of = c.requires.of_this_arena in let t = c.take_back.ensures in
     let m = memory_one b.words.at a.words.at b.cells a.cells b.words.slots a.words.slots w v c.bag.view_is c.self.view_is (sym of.memory, sym of.cells) in
     let many = c.spot_of-spot.ensures.0 ∙ m.1 in
-    let here = (back_in a c.self.invariant v c.self.view_is n s c.take_back.new.words c.take_back.new.lists Vacant many (p.1 ∙ ap (λ k. class_no s.class * k + s.index) (sym c.spot_of-spot.ensures.0)) (subst (λ k. s.index < k) (sym c.spot_of-spot.ensures.0) p.0) t.same t.whole t.free t.rows).1 in
+    let here = (back_in a c.self.invariant v c.self.view_is n s c.take_back.new.words c.take_back.new.lists Vacant many (p.1 ∙ ap (λ k. first_of k s.class + s.index) (sym c.spot_of-spot.ensures.0)) (subst (λ k. s.index < amount k s.class) (sym c.spot_of-spot.ensures.0) p.0) t.same t.whole t.free t.rows).1 in
     let rest = (taken_from b c.bag.invariant w c.bag.view_is n s c.spot_of-spot.ensures.0 p c.requires.is_in c.part_by.new.self c.part_by.ensures.rest).1 in
     (here, rest, bag_of_is (sym rest) (sym here) (bag_less w v n Vacant of))

@@ -3,6 +3,7 @@ use Rattle.in_memory.specs.Splitting.{but, those_of}
 use Rattle.in_memory.specs.declared.cells.Cells.{Cells}
 use Rattle.in_arena.specs.Arenas.{ArenaView, Leases}
 use Rattle.in_arena.specs.ByClass.{view_of}
+use Rattle.in_arena.specs.Classes.{amount}
 use Rattle.in_arena.specs.FreeLists.{list_in}
 use Rattle.in_arena.specs.Inside.{IsArena, arena_view}
 use Rattle.in_arena.specs.Leases.{IsLease, lease_view}
@@ -31,7 +32,7 @@ pub head-requires : goal.head-requires
 head-requires c =
     let a = c.self.inside in let h = c.self.invariant in let k = c.args.class in let w = c.is_ready.new.words in let z = c.is_ready.new.lists in
     let r = ready_in a h c.args.self.now c.self.view_is k w z (subst (λ b. MakesReady a.cells k a.words a.lists b w z) c.if-not-is_ready.false c.is_ready.ensures) in
-    (h.few, subst (λ i. i < a.cells) (sym (ap (λ (l : FreeList). l.next) c.of-list.ensures)) (first_inside (with_row a w z) r.0 c.args.self.now r.1 k r.2))
+    (h.few, subst (λ i. i < amount a.cells k) (sym (ap (λ (l : FreeList). l.next) c.of-list.ensures)) (first_inside (with_row a w z) r.0 c.args.self.now r.1 k r.2))
 
 pub get-requires : goal.get-requires
 get-requires c =

@@ -3,6 +3,7 @@ use Rattle.in_arena.specs.declared.content.CellNo.{CellNo}
 use Rattle.in_arena.specs.declared.content.End.TheVariants.{Cell}
 use Rattle.in_arena.specs.declared.free_list.FreeList.{FreeList}
 use Rattle.in_arena.proofs.Arenas.{live_inside}
+use Rattle.in_arena.proofs.Classes.{class_few}
 use Rattle.in_arena.proofs.FreeLists.{list_with}
 use Rattle.in_arena.proofs.Inside.{freed_in, head_found, inside_all, live_in_place, live_of, near_spot}
 use Rattle.in_arena.proofs.Rewriting.{free_few, next_few}
@@ -13,8 +14,8 @@ spot_of-spot-requires c = (c.self.invariant.few, inside_all c.self.inside c.self
 
 pub port-requires : goal.port-requires
 port-requires c =
-    let a = c.self.inside in let h = c.self.invariant in let few = h.few in
-    (omega (arith, next_few a.cells c.spot_of-spot.result.class a.words a.lists h.whole h.free, few, ap (λ (l : FreeList). l.next) c.of-list.ensures), omega arith)
+    let a = c.self.inside in let h = c.self.invariant in let few = class_few a.cells h.few c.spot_of-spot.result.class in
+    (omega (arith, next_few a.cells c.spot_of-spot.result.class a.words a.lists h.whole h.free, few.0, ap (λ (l : FreeList). l.next) c.of-list.ensures), omega arith)
 
 pub write-requires : goal.write-requires
 write-requires c =
@@ -23,8 +24,8 @@ write-requires c =
 
 pub overflow_add-list : goal.overflow_add-list
 overflow_add-list c =
-    let a = c.self.inside in let h = c.self.invariant in let most = h.few in
-    record { fits = omega (arith, free_few a.cells c.spot_of-spot.result.class a.words a.lists h.whole h.free, most, ap (λ (l : FreeList). l.free) c.of-list.ensures) }
+    let a = c.self.inside in let h = c.self.invariant in let most = class_few a.cells h.few c.spot_of-spot.result.class in
+    record { fits = omega (arith, free_few a.cells c.spot_of-spot.result.class a.words a.lists h.whole h.free, most.0, ap (λ (l : FreeList). l.free) c.of-list.ensures) }
 
 pub invariant_of-self : goal.invariant_of-self
 invariant_of-self c =

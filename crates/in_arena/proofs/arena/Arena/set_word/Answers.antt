@@ -22,3 +22,9 @@ returns c =
     let a = c.self.inside in let h = c.self.invariant in let n = c.args.cell.0 in let p = c.args.place in let v = c.args.self.now in
     let l = live_of a h v c.self.view_is n (places_live (state_at v n) p c.requires) in
     (end_set a h v c.self.view_is n l c.write.new.self c.write.ensures.0 p c.args.end c.place_word.result (width_of a h v c.self.view_is n l p c.requires) (c.place_word.ensures l.class l.index l.place) c.write.ensures.1).1
+
+pub place_word-requires : goal.place_word-requires
+place_word-requires c =
+    let a = c.self.inside in let h = c.self.invariant in let n = c.args.cell.0 in let p = c.args.place in let v = c.args.self.now in
+    let l = live_of a h v c.self.view_is n (places_live (state_at v n) p c.requires) in
+    (h.few, (l.class, l.index, l.place, width_of a h v c.self.view_is n l p c.requires))

@@ -2,7 +2,7 @@ use Rattle.std.proofs.Common.{◌≡◌, ◌*◌, length, sym, subst, ap, ◌∙
 use Rattle.in_memory.proofs.Public.{length-those_of}
 use Rattle.in_arena.specs.Arenas.{changed, state_at}
 use Rattle.in_arena.specs.ByClass.{IsPlace}
-use Rattle.in_arena.specs.Words.{cell_in, is_spot}
+use Rattle.in_arena.specs.Words.{cell_in, is_spot, words_of}
 use Rattle.in_arena.proofs.Bags.{in_here}
 use Rattle.in_arena.proofs.Kept.{cell_state, in_bag_all, memory_one, none_where_leased, owned, put_into, taken_from}
 use Rattle.in_arena.proofs.bag.Bag.move_to.Goals as goal
@@ -14,7 +14,7 @@ pub join-requires : goal.join-requires
 join-requires c =
     let b = c.self.inside in let d = c.other.inside in let one = c.part_by.ensures.one in let s = c.spot_of-spot.result in
     let m = memory_one b.words.at d.words.at b.cells d.cells b.words.slots d.words.slots c.args.self.now c.args.other.now c.self.view_is c.other.view_is c.requires.of_one in
-    (one.0 ∙ m.0, ap length one.1 ∙ length-those_of (is_spot s.class s.cells s.index) b.words.slots ∙ c.self.invariant.whole.long ∙ ap (λ n. 32 * n) m.1 ∙ sym c.other.invariant.whole.long)
+    (one.0 ∙ m.0, ap length one.1 ∙ length-those_of (is_spot s.class s.cells s.index) b.words.slots ∙ c.self.invariant.whole.long ∙ ap words_of m.1 ∙ sym c.other.invariant.whole.long)
 
 pub invariant_of-self : goal.invariant_of-self
 invariant_of-self c =
