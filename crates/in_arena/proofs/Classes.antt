@@ -2,7 +2,7 @@
 use Rattle.std.proofs.Common.{◌≡◌, ◌≤◌, ◌<◌, ◌+◌, ℕ, zero, suc, length, map, get_or, slice_get, Some, None, refl, sym, ap, ⊎_elim, arith}
 use Rattle.std.proofs.lemmas.Option.{same_Some}
 use Rattle.std.proofs.lemmas.Bool.{cases_lt}
-use Rattle.in_arena.specs.Classes.{IsNumberOf, all_of, amount, class_no, classes, first_of}
+use Rattle.in_arena.specs.Classes.{IsNumberOf, all_of, amount, class_no, classes, each, first_of}
 use Rattle.in_arena.specs.Limiting.{AreAllowed}
 use Rattle.in_arena.specs.declared.content.CellClass.{CellClass}
 use Rattle.in_arena.specs.declared.content.CellClass.TheVariants.{Small, Large, Wide}
@@ -80,3 +80,13 @@ pub first_is : (cells : CellCounts) (c : CellClass) → (of_first cells (class_n
 first_is cells Small = (refl, omega arith)
 first_is cells Large = (refl, refl)
 first_is cells Wide = (refl, refl)
+
+-- as many cells of each class are as many cells
+pub counts_alike : (x y : CellCounts) → ((c : CellClass) → amount x c ≡ amount y c) → all_of x ≡ all_of y
+counts_alike x y alike = omega (arith, alike Small, alike Large, alike Wide)
+
+-- where each class has as many, this one has
+pub each_amount : (n : ℕ) (c : CellClass) → amount (each n) c ≡ n
+each_amount n Small = refl
+each_amount n Large = refl
+each_amount n Wide = refl

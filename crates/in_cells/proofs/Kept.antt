@@ -6,9 +6,10 @@ use Rattle.std.specs.Prelude.{count_by}
 use Rattle.std.proofs.lemmas.List.{take-map, drop-map, length-map}
 use Rattle.std.proofs.lemmas.List.Sums.{sum_by-cons}
 use Rattle.in_arena.specs.Arenas.{ArenaView, state_at, changed, free_of}
-use Rattle.in_arena.specs.Classes.{class_no}
+use Rattle.in_arena.specs.Classes.{amount, first_of}
 use Rattle.in_arena.specs.States.{State, Vacant, Leased, Live, is_vacant, word_of, places, with_end}
 use Rattle.in_arena.specs.declared.content.CellClass.{CellClass}
+use Rattle.in_arena.specs.declared.content.CellCounts.{CellCounts}
 use Rattle.in_arena.specs.declared.content.End.{End}
 use Rattle.in_arena.specs.declared.content.End.TheVariants as end
 use Rattle.in_cells.specs.Cells.{outline, KeepsCells}
@@ -51,10 +52,10 @@ part_outlined k j xs = ap (λ (ys : List State). count_by is_vacant (take k ys))
 
 free_same : (old new : ArenaView) (c : CellClass) → new.cells ≡ old.cells → map outline new.states ≡ map outline old.states → free_of new c ≡ free_of old c
 free_same old new c cells h =
-    sym (part_outlined new.cells (class_no c * new.cells) new.states)
-    ∙ ap (λ (xs : List State). count_by is_vacant (take new.cells (drop (class_no c * new.cells) xs))) h
-    ∙ part_outlined new.cells (class_no c * new.cells) old.states
-    ∙ ap (λ (k : ℕ). count_by is_vacant (take k (drop (class_no c * k) old.states))) cells
+    sym (part_outlined (amount new.cells c) (first_of new.cells c) new.states)
+    ∙ ap (λ (xs : List State). count_by is_vacant (take (amount new.cells c) (drop (first_of new.cells c) xs))) h
+    ∙ part_outlined (amount new.cells c) (first_of new.cells c) old.states
+    ∙ ap (λ (k : CellCounts). count_by is_vacant (take (amount k c) (drop (first_of k c) old.states))) cells
 
 -- ---- cells that are kept
 

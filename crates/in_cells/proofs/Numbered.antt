@@ -5,7 +5,7 @@ use Rattle.std.proofs.lemmas.List.{length-map, length-set}
 use Rattle.std.proofs.lemmas.Option.{same_Some, slice_get_within}
 use Rattle.in_arena.specs.Arenas.{ArenaView, NoneLeased, changed, free_of, state_at}
 use Rattle.in_arena.specs.Changes.{HasAllCells, LeasedStay}
-use Rattle.in_arena.specs.Classes.{Holds, classes, IsNumberOf}
+use Rattle.in_arena.specs.Classes.{Holds, IsNumberOf, all_of}
 use Rattle.in_arena.specs.States.{State, Vacant, Leased, Live, IsLive, IsLeased, end_at, places, with_end, word_of}
 use Rattle.in_arena.specs.declared.content.CellNo.{CellNo}
 use Rattle.in_arena.specs.declared.content.End.{End}
@@ -157,7 +157,7 @@ module _ (number : ℕ → ℕ) (old : ArenaView) (ends : List End) (led : AreLe
 
       module _ (all : HasAllCells old) (now' : ArenaView) (e : now' ≡ changed now c.0 (with_end (state_at now c.0) p (FreeEnd (number x)))) where
         all_now : HasAllCells now
-        all_now = h.many ∙ all ∙ ap (λ (z : ℕ). length classes * z) (sym h.cells)
+        all_now = h.many ∙ all ∙ ap all_of (sym h.cells)
 
         abbrev new : State
         new = with_end (state_at now c.0) p (FreeEnd (number x))

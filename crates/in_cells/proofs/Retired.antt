@@ -6,7 +6,7 @@ use Rattle.std.proofs.lemmas.List.Sums.{sum_by_more}
 use Rattle.std.proofs.lemmas.Option.{same_Some, slice_get_within, get_or_from_slice_get}
 use Rattle.in_arena.specs.Arenas.{ArenaView, changed, free_of, state_at}
 use Rattle.in_arena.specs.Changes.{HasAllCells, one_if_free}
-use Rattle.in_arena.specs.Classes.{Holds, classes, holds, IsNumberOf}
+use Rattle.in_arena.specs.Classes.{Holds, IsNumberOf, all_of, holds}
 use Rattle.in_arena.specs.States.{Vacant, Leased, IsLive, places}
 use Rattle.in_arena.specs.declared.content.CellClass.{CellClass}
 use Rattle.in_arena.specs.declared.content.CellNo.{CellNo}
@@ -39,7 +39,7 @@ module _ (agents : List CellNo) (old : ArenaView) (part : ArePart old agents) (x
 
   module _ (all : HasAllCells old) (classed : AreClassed old agents) (now' : ArenaView) (e : now' ≡ changed now c.0 Vacant) where
     all_now : HasAllCells now
-    all_now = h.many ∙ all ∙ ap (λ (z : ℕ). length classes * z) (sym h.cells)
+    all_now = h.many ∙ all ∙ ap all_of (sym h.cells)
 
     class : (d : CellClass) × IsNumberOf now.cells d c.0
     class = class_of_number now.cells c.0 (let i = inside in let a = all_now in omega (arith, i, a))

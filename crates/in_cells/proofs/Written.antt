@@ -5,9 +5,10 @@ use Rattle.std.proofs.lemmas.List.{length-set, map-append, take_more, take_more_
 use Rattle.std.proofs.lemmas.Option.{same_Some, slice_get_within, get_or_from_slice_get}
 use Rattle.in_arena.specs.Arenas.{ArenaView, changed, free_of, state_at}
 use Rattle.in_arena.specs.Changes.{HasAllCells, one_if_free}
-use Rattle.in_arena.specs.Classes.{classes, class_no, IsNumberOf}
+use Rattle.in_arena.specs.Classes.{IsNumberOf, all_of, amount, first_of}
 use Rattle.in_arena.specs.States.{State, Vacant, Leased, Live, IsLive, end_at, places, with_end}
 use Rattle.in_arena.specs.declared.content.CellClass.{CellClass}
+use Rattle.in_arena.specs.declared.content.CellCounts.{CellCounts}
 use Rattle.in_arena.specs.declared.content.CellNo.{CellNo}
 use Rattle.in_arena.specs.declared.content.End.{End}
 use Rattle.in_arena.specs.declared.content.End.TheVariants.{Cell, Free}
@@ -116,10 +117,10 @@ not_free Vacant live = absurd live
 not_free Leased live = absurd live
 not_free (Live w es) live = refl
 
-number_or : (cells : ℕ) (d : CellClass) (n : ℕ) → IsNumberOf cells d n ⊎ (IsNumberOf cells d n → ⊥)
-number_or cells d n = go (cases_lt n (class_no d * cells)) (cases_lt n ((class_no d + 1) * cells))
+number_or : (cells : CellCounts) (d : CellClass) (n : ℕ) → IsNumberOf cells d n ⊎ (IsNumberOf cells d n → ⊥)
+number_or cells d n = go (cases_lt n (first_of cells d)) (cases_lt n (first_of cells d + amount cells d))
   where
-    go : (n < class_no d * cells) ⊎ (class_no d * cells ≤ n) → (n < (class_no d + 1) * cells) ⊎ ((class_no d + 1) * cells ≤ n) → IsNumberOf cells d n ⊎ (IsNumberOf cells d n → ⊥)
+    go : (n < first_of cells d) ⊎ (first_of cells d ≤ n) → (n < first_of cells d + amount cells d) ⊎ (first_of cells d + amount cells d ≤ n) → IsNumberOf cells d n ⊎ (IsNumberOf cells d n → ⊥)
     go (inl l) k = inr (λ h. (let a = h.0 in omega (arith, l, a)))
     go (inr l) (inl k) = inl (l, k)
     go (inr l) (inr k) = inr (λ h. (let a = h.1 in omega (arith, k, a)))
@@ -167,7 +168,7 @@ module _ (from : ArenaView) (agents names : List CellNo) (ends : List ℕ) (firs
     at_other m ne = ap (λ v. state_at v m) e ∙ get_or-set_other now.states n m new Leased ne
 
     all_now : HasAllCells now
-    all_now = h.many ∙ all ∙ ap (λ (z : ℕ). length classes * z) (sym h.cells)
+    all_now = h.many ∙ all ∙ ap all_of (sym h.cells)
 
     free : (d : CellClass) → free_of now' d ≡ free_of now d
     free d = ap (λ v. free_of v d) e ∙ live_keeps_free now n new all_now live_now (moved_live (name_in names) (number_in ends) (state_at from c.0) (part.live x c at)) d

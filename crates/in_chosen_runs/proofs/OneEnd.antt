@@ -52,7 +52,7 @@ not_fewer m n o u (i ∷ choices) (suc j) (suc k) h g same (a, s, one) left (b, 
     not_fewer a b o u choices j k (machine_on m a i h s) (machine_on n b i g t)
     (same_step same.0 m n a b i (as_reducer m h) (as_reducer n g) same.1 s t) one left two (omega (arith, few)) (omega (arith, l))
 
-module _ (text : List ℕ) (p : Program) (accepted : IsAccepted text p) (choices : List ℕ) (limit cells : ℕ) (few : cells ≤ most_cells) (o u : Chosen) (h : IsAsChosen p choices limit cells o) (g : IsAsChosen p choices limit cells u) where
+module _ (text : List ℕ) (p : Program) (accepted : IsAccepted text p) (choices : List ℕ) (limit : ℕ) (cells : CellCounts) (few : cells ≤ most_cells) (o u : Chosen) (h : IsAsChosen p choices limit cells o) (g : IsAsChosen p choices limit cells u) where
   one : IsMachine h.start
   one = start_machine text p accepted cells h.start h.is_start few
 

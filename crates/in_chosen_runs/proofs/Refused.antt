@@ -10,7 +10,7 @@ use Rattle.in_machine.specs.Starts.{DoesNotFit}
 use Rattle.in_machine.proofs.Public.{count_at}
 use Rattle.in_chosen_runs.specs.Laws.{ChosenRunsAreRefusedOnce, StartsAreRefusedOnce}
 
-module _ (p : Program) (cells : ℕ) (c : CellClass) (need free : ℕ) (refused : DoesNotFit p cells c need free) where
+module _ (p : Program) (cells : CellCounts) (c : CellClass) (need free : ℕ) (refused : DoesNotFit p cells c need free) where
   no_start : (m : MachineParts) → IsStart p cells m → ⊥
   no_start m s =
       let all : count_of m.vacant c + agents_of p.tables c p.net.cells ≡ cells = count_at p cells m s c in

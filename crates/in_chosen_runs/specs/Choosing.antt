@@ -21,7 +21,7 @@ CannotStep m i = (length m.queue ≤ i) ⊎ (HasRoomAt m i → ⊥)
 
 -- from a start the first choices are done, and then interactions first in, first out. Some choices are left only if the next one is impossible, and
 -- then nothing comes after them; fewer than allowed come after them only if none is possible
-pub record IsAsChosen (p : Program) (choices : List ℕ) (limit cells : ℕ) (o : Chosen) : Type 0 where
+pub record IsAsChosen (p : Program) (choices : List ℕ) (limit : ℕ) (cells : CellCounts) (o : Chosen) : Type 0 where
   pub start : MachineParts
   pub is_start : IsStart p cells start
   pub middle : MachineParts

@@ -15,21 +15,21 @@ use Rattle.in_chosen_runs.specs.declared.running.Chosen.{Chosen}
 
 -- an accepted program, choices and limits lead to one end, up to the numbers of agents
 abbrev pub ChosenRunsAreOne : Type 0
-ChosenRunsAreOne = (text : List ℕ) (p : Program) (choices : List ℕ) (limit cells : ℕ) (o u : Chosen) → IsAccepted text p → cells ≤ most_cells →
+ChosenRunsAreOne = (text : List ℕ) (p : Program) (choices : List ℕ) (limit : ℕ) (cells : CellCounts) (o u : Chosen) → IsAccepted text p → cells ≤ most_cells →
     RunsAsChosen p choices limit cells (Ok o) → RunsAsChosen p choices limit cells (Ok u) →
     (o.chosen ≡ u.chosen) × (o.further ≡ u.further) × AreSame o.machine u.machine
 
 -- a program that is refused as too large for its cells has no first machine, and the class and both numbers are determined
 abbrev pub StartsAreRefusedOnce : Type 0
-StartsAreRefusedOnce = (p : Program) (cells : ℕ) (c : CellClass) (need free : ℕ) → IsNoStart p cells (start.Full c need free) → ((m : MachineParts) → IsStart p cells m → ⊥)
+StartsAreRefusedOnce = (p : Program) (cells : CellCounts) (c : CellClass) (need free : ℕ) → IsNoStart p cells (start.Full c need free) → ((m : MachineParts) → IsStart p cells m → ⊥)
     × ((d : CellClass) (more less : ℕ) → IsNoStart p cells (start.Full d more less) → (c ≡ d) × (need ≡ more) × (free ≡ less))
 
 -- .. nor such a run
 abbrev pub ChosenRunsAreRefusedOnce : Type 0
-ChosenRunsAreRefusedOnce = (p : Program) (choices : List ℕ) (limit cells : ℕ) (c : CellClass) (need free : ℕ) → RunsAsChosen p choices limit cells (Err (start.Full c need free)) →
+ChosenRunsAreRefusedOnce = (p : Program) (choices : List ℕ) (limit : ℕ) (cells : CellCounts) (c : CellClass) (need free : ℕ) → RunsAsChosen p choices limit cells (Err (start.Full c need free)) →
     ((o : Chosen) → RunsAsChosen p choices limit cells (Ok o) → ⊥)
     × ((d : CellClass) (more less : ℕ) → RunsAsChosen p choices limit cells (Err (start.Full d more less)) → (c ≡ d) × (need ≡ more) × (free ≡ less))
 
 -- the end of such a run is a machine
 abbrev pub ChosenRunsAreMachines : Type 0
-ChosenRunsAreMachines = (text : List ℕ) (p : Program) (choices : List ℕ) (limit cells : ℕ) (o : Chosen) → IsAccepted text p → cells ≤ most_cells → RunsAsChosen p choices limit cells (Ok o) → IsMachine o.machine
+ChosenRunsAreMachines = (text : List ℕ) (p : Program) (choices : List ℕ) (limit : ℕ) (cells : CellCounts) (o : Chosen) → IsAccepted text p → cells ≤ most_cells → RunsAsChosen p choices limit cells (Ok o) → IsMachine o.machine

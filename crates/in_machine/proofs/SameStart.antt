@@ -21,10 +21,10 @@ use Rattle.in_compile.proofs.Public.{same_need}
 use Rattle.in_reducer.proofs.Public.{as_many_of, between, from_to, lives, map_same, map_twice, queue_moved, renamed_between}
 
 -- of the `cells` cells of each class, as many are free as the agents of the program's net leave
-pub count_at : (p : Program) (cells : ℕ) (m : MachineParts) → IsStart p cells m → (c : CellClass) → count_of m.vacant c + agents_of p.tables c p.net.cells ≡ cells
+pub count_at : (p : Program) (cells : CellCounts) (m : MachineParts) → IsStart p cells m → (c : CellClass) → count_of m.vacant c + agents_of p.tables c p.net.cells ≡ cells
 count_at p cells m h c = ap (λ (k : ℕ). count_of m.vacant c + k) (as_many_of p.tables c h.name p.net (parts_of m) h.net) ∙ ap (λ (q : Program). count_of m.vacant c + agents_of q.tables c m.agents) (sym h.program) ∙ h.counted c
 
-module _ (text : List ℕ) (p : Program) (accepted : IsAccepted text p) (cells : ℕ) where
+module _ (text : List ℕ) (p : Program) (accepted : IsAccepted text p) (cells : CellCounts) where
   net_at : IsNet (signature_of p.tables) (net_of p.net)
   net_at = (is_sound text p accepted).start.net
 

@@ -10,4 +10,4 @@ pub record IsMachine (m : MachineParts) : Type 0 where
   pub accepted : (text : List ℕ) × IsAccepted text m.program
   pub plain : IsPlain (plain_of m)
   pub queue : HasItsPairs m
-  pub cells : (cells : ℕ) × (cells ≤ most_cells) × HasCells cells m
+  pub cells : (cells : CellCounts) × (cells ≤ most_cells) × HasCells cells m

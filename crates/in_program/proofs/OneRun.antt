@@ -83,7 +83,7 @@ module _ (ns : Cells) where
 -- ---- two programs of one text
 
 module _ (p q : Program) (same : AreOneProgram p q) where
-  start_kept : (cells : ℕ) (m : MachineParts) → IsStart p cells m → IsStart q cells (renumbered q.numbers m)
+  start_kept : (cells : CellCounts) (m : MachineParts) → IsStart p cells m → IsStart q cells (renumbered q.numbers m)
   start_kept cells m h = record {
     program = ap (numbered q.numbers) h.program
         ∙ (λ i. record { tables = same.tables i; rules = same.rules i; net = same.net i; numbers = q.numbers; rule_certificates = same.rule_certificates i; net_certificate = same.net_certificate i });
@@ -100,10 +100,10 @@ module _ (p q : Program) (same : AreOneProgram p q) where
   pub same_agents : (c : CellClass) → agents_of p.tables c p.net.cells ≡ agents_of q.tables c q.net.cells
   same_agents c = (λ i. agents_of (same.tables i) c (same.net i).cells)
 
-fits : (p : Program) (cells : ℕ) (m : MachineParts) (c : CellClass) → IsStart p cells m → agents_of p.tables c p.net.cells ≤ cells
+fits : (p : Program) (cells : CellCounts) (m : MachineParts) (c : CellClass) → IsStart p cells m → agents_of p.tables c p.net.cells ≤ cells
 fits p cells m c h = let count = count_at p cells m h c in omega (arith, count)
 
-pub starts_or_not : (p q : Program) → AreOneProgram p q → (cells : ℕ) (m : MachineParts) (c : CellClass) (need free : ℕ) → IsStart p cells m → DoesNotFit q cells c need free → ⊥
+pub starts_or_not : (p q : Program) → AreOneProgram p q → (cells : CellCounts) (m : MachineParts) (c : CellClass) (need free : ℕ) → IsStart p cells m → DoesNotFit q cells c need free → ⊥
 starts_or_not p q same cells m c need free h (short, is, all) = let f = fits p cells m c h in let a = same_agents p q same c in let s = short.0 in omega (arith, s, f, a)
 
 pub one_run : (text : List ℕ) (p q : Program) (l : Limits) (m n o r : MachineParts) (j k : ℕ) (s t : Stop) → AreOneProgram p q → IsAccepted text q → IsStart p l.cells m → IsOutcome m l.limit n j s → IsStart q l.cells o → IsOutcome o l.limit r k t

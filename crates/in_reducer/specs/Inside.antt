@@ -1,7 +1,7 @@
 -- The view of a reducer, and the invariant of its fields.
 use Rattle.std.specs.Prelude.{◌≡◌, ◌+◌, ◌*◌, ◌≤◌, ◌<◌, ℕ, false, List, [], length, map, Some, slice_get, slice_index_or, vec_capacity}
 use Rattle.in_arena.specs.Arenas.{ArenaView, NoneLeased}
-use Rattle.in_arena.specs.Classes.{classes}
+use Rattle.in_arena.specs.Classes.{all_of}
 use Rattle.in_symbols.specs.declared.symbols.PortType.{PortType}
 use Rattle.in_net.specs.declared.nets.FreeEnd.{FreeEnd}
 use Rattle.in_net.specs.declared.nets.Point.TheVariants.{Free}
@@ -12,7 +12,7 @@ use Rattle.in_reducer.specs.declared.body.Body.{Body}
 use Rattle.in_reducer.specs.declared.body.OwnEnd.{OwnEnd}
 use Rattle.in_reducer.specs.declared.body.OwnEnd.TheVariants.{Named, Cut}
 use Rattle.in_reducer.specs.declared.tools.Tools.{Tools}
-use Rattle.in_reducer.specs.Limiting.{most_cells}
+use Rattle.in_reducer.specs.Limiting.{AreAllowed}
 use Rattle.in_reducer.specs.Machines.{MachineParts}
 use Rattle.in_compile.specs.Putting.{IsPut}
 use Rattle.in_reducer.specs.Placed.{IsNoneOf}
@@ -77,11 +77,11 @@ pub record AreTools (x : Tools) (a : ArenaView) : Type 0 where
 pub record KeepsNet (r : Body) : Type 0 where
   pub reducer : IsReducer (reducer_view r)
   pub net : IsNetIn r.checked.now.tables (at_rest r.arena)
-  pub few : r.arena.cells ≤ most_cells
+  pub few : AreAllowed r.arena.cells
   pub few_free : length r.free.items ≤ most_free
   pub free : (k : ℕ) (e : OwnEnd) → slice_get r.free.items k ≡ Some e → IsOwnEnd r.checked.now e
   pub ends : length r.free.items + most_ends + most_ends ≤ length r.ends.items
-  pub queue : length classes * r.arena.cells + 2 * most_ends ≤ 2 * r.queue.room + 1
+  pub queue : all_of r.arena.cells + 2 * most_ends ≤ 2 * r.queue.room + 1
 
 -- .. which holds also while cells are on lease
 pub record KeepsAll (r : Body) : Type 0 where

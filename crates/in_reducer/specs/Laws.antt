@@ -1,12 +1,13 @@
 -- Laws over reducers.
 use Rattle.std.specs.Prelude.{◌≤◌, ℕ, suc, List}
+use Rattle.in_arena.specs.declared.content.CellCounts.{CellCounts}
 use Rattle.in_net.specs.Nets.{Net, net_of}
 use Rattle.in_check.specs.Checking.{IsAccepted}
 use Rattle.in_check.specs.Programs.{Program}
 use Rattle.in_check.specs.Promises.{IsAsPromised}
 use Rattle.in_check.specs.Systems.{system_of}
 use Rattle.in_order.specs.PartRuns.{Run}
-use Rattle.in_reducer.specs.Limiting.{most_cells}
+use Rattle.in_reducer.specs.Limiting.{AreAllowed}
 use Rattle.in_reducer.specs.Machines.{MachineParts, parts_of}
 use Rattle.in_reducer.specs.Reducers.{IsReducer}
 use Rattle.in_reducer.specs.Starts.{IsStart}
@@ -23,4 +24,4 @@ StepsKeepReducers = (m o : MachineParts) (i : ℕ) → IsReducer m → StepsAt m
 
 -- a start of an accepted program is a reducer
 abbrev pub StartsAreReducers : Type 0
-StartsAreReducers = (text : List ℕ) (p : Program) (cells : ℕ) (m : MachineParts) → IsAccepted text p → cells ≤ most_cells → IsStart p cells m → IsReducer m
+StartsAreReducers = (text : List ℕ) (p : Program) (cells : CellCounts) (m : MachineParts) → IsAccepted text p → AreAllowed cells → IsStart p cells m → IsReducer m

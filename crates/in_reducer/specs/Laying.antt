@@ -1,8 +1,9 @@
 -- Cells for a new net, and a program's net that is laid in them. No contract of a public call speaks of it. This project's own choice.
 use Rattle.std.specs.Prelude.{◌≡◌, ◌+◌, ◌*◌, ◌<◌, ◌≤◌, ℕ, List, [], length, map, replicate, take, Some, slice_get}
 use Rattle.in_arena.specs.Arenas.{free_of}
-use Rattle.in_arena.specs.Classes.{classes}
+use Rattle.in_arena.specs.Classes.{all_of}
 use Rattle.in_arena.specs.States.{Vacant}
+use Rattle.in_arena.specs.declared.content.CellCounts.{CellCounts}
 use Rattle.in_arena.specs.declared.content.CellNo.{CellNo}
 use Rattle.in_arena.specs.declared.content.End.{End}
 use Rattle.in_compile.specs.Cells.{count_of, IsEnough}
@@ -16,13 +17,13 @@ use Rattle.in_compile.specs.Putting.{IsPut}
 use Rattle.in_reducer.specs.Sides.{inner_of, HasJoint}
 use Rattle.in_syntax.specs.Grammar.{max_free}
 
--- `size` free cells of each class and no other, tools of this arena, and an empty queue with room for all pairs and for those that an interaction makes
-pub record IsFresh (size : ℕ) (f : Fresh) : Type 0 where
+-- that many free cells of each class and no other, tools of this arena, and an empty queue with room for all pairs and for those that an interaction makes
+pub record IsFresh (size : CellCounts) (f : Fresh) : Type 0 where
   pub cells : f.arena.cells ≡ size
-  pub empty : f.arena.states ≡ replicate (length classes * size) Vacant
+  pub empty : f.arena.states ≡ replicate (all_of size) Vacant
   pub tools : AreTools f.tools f.arena
   pub queue : f.queue.items ≡ []
-  pub queue_room : length classes * size + 2 * most_ends ≤ 2 * f.queue.room + 1
+  pub queue_room : all_of size + 2 * most_ends ≤ 2 * f.queue.room + 1
 
 -- there is room for the member, which has no more boundary ends than a net has free ends; its joints and pairs are of its own agents
 pub record CanLay (m : MemberParts) (f : Fresh) : Type 0 where

@@ -1,2 +1,2 @@
--- The most cells of each class of a reducer. This project's own choice.
-pub use Rattle.in_limits.specs.Limiting.{least_cells, most_cells}
+-- The cells that a reducer may have. This project's own choice.
+pub use Rattle.in_limits.specs.Limiting.{AreAllowed, HasLeast, least_cells, most_cells}

@@ -1,6 +1,7 @@
 -- The view of a reducer, and of the machine around it. Lafont 1990 reduces a net by interactions of its active pairs, in any
 -- order; the queue of pairs and the cells are this project's own choice.
 use Rattle.std.specs.Prelude.{◌≡◌, ◌<◌, ◌+◌, ℕ, List, Option, IsSome}
+use Rattle.in_arena.specs.Classes.{amount}
 use Rattle.in_arena.specs.declared.content.CellClass.{CellClass}
 use Rattle.in_arena.specs.declared.content.End.{End}
 use Rattle.in_arena.specs.declared.content.End.TheVariants as end
@@ -41,9 +42,9 @@ point_at (end.Free k) = point.Free k
 abbrev pub HasItsPairs : MachineParts → Type 0
 HasItsPairs m = IsQueueOf m.program.tables (parts_of m) m.queue
 
--- each class has `cells` cells, free ones and those of its agents
+-- each class has that many cells, free ones and those of its agents
 abbrev pub HasCells : ℕ → MachineParts → Type 0
-HasCells cells m = (c : CellClass) → count_of m.vacant c + agents_of m.program.tables c m.agents ≡ cells
+HasCells cells m = (c : CellClass) → count_of m.vacant c + agents_of m.program.tables c m.agents ≡ amount cells c
 
 -- .. and the other one has as many of each class
 abbrev pub KeepsCellCounts : MachineParts → MachineParts → Type 0

@@ -1,5 +1,6 @@
 -- Laws over reducers that differ in the numbers of their agents alone.
 use Rattle.std.specs.Prelude.{◌≡◌, ◌≢◌, ◌+◌, ℕ, suc, IsSome, None}
+use Rattle.in_arena.specs.declared.content.CellCounts.{CellCounts}
 use Rattle.in_net.specs.Nets.{net_of}
 use Rattle.in_check.specs.Programs.{Program}
 use Rattle.in_reducer.specs.Machines.{MachineParts, parts_of}
@@ -27,7 +28,7 @@ SameAreReducers = (m n : MachineParts) → IsReducer m → AreSame m n → IsRed
 
 -- a start under any other numbers is a start
 abbrev pub StartsCanBeRenamed : Type 0
-StartsCanBeRenamed = (p : Program) (cells : ℕ) (m n : MachineParts) → IsStart p cells m → AreSame m n → IsStart p cells n
+StartsCanBeRenamed = (p : Program) (cells : CellCounts) (m n : MachineParts) → IsStart p cells m → AreSame m n → IsStart p cells n
 
 -- there is a reducer under any numbers that keep its agents apart
 abbrev pub ReducersCanBeRenamed : Type 0

@@ -3,14 +3,14 @@ ghost use Rattle.std.specs.Prelude.{◌≡◌, ◌≤◌, IfOk};
 ghost use Rattle.in_arena.specs.Arenas.{NoneLeased};
 ghost use Rattle.in_reducer.specs.Inside.{AreTools};
 ghost use Rattle.in_reducer.specs.Laying.{IsFresh};
-ghost use Rattle.in_reducer.specs.Limiting.{most_cells};
+ghost use Rattle.in_reducer.specs.Limiting.{AreAllowed};
 
 use crate::body::{Body, OwnEnd};
 use crate::limits::MOST_ENDS;
 use crate::pair_queue::PairQueue;
 use crate::tools::Tools;
 use crate::wiring::POINTS;
-use in_arena::{Arena, CellClass, EndWord};
+use in_arena::{Arena, CellCounts, EndWord};
 use in_check::Checked;
 use in_compile::Placed;
 use in_net::MAX_MEMBER_AGENTS;
@@ -74,14 +74,14 @@ fn tools_of(alloc: Global, arena: &Arena) -> Result<Tools, AllocError>
     })
 }
 
-/// `cells` cells of each class, with tools. Refused only when out of memory.
-pub(crate) fn fresh_cells(alloc: Global, cells: u32) -> Result<Fresh, AllocError>
-    requires { cells ≤ most_cells }
+/// That many cells of each class, with tools. Refused only when out of memory.
+pub(crate) fn fresh_cells(alloc: Global, cells: CellCounts) -> Result<Fresh, AllocError>
+    requires { AreAllowed cells }
     ensures { IfOk result (IsFresh cells) }
 {
-    let room = CellClass::ALL.len() * cells as usize / 2 + MOST_ENDS;
+    let room = cells.all() as usize / 2 + MOST_ENDS;
     let queue = PairQueue::with_room(alloc, room)?;
-    let arena = Arena::new(alloc, cells)?;
+    let arena = Arena::with_counts(alloc, cells)?;
     let tools = tools_of(alloc, &arena)?;
     Ok(Fresh {
         arena,

@@ -3,12 +3,12 @@ ghost use Rattle.std.specs.Prelude.{◌≡◌, ◌*◌, ◌≤◌, ◌<◌, ◌+
 ghost use Rattle.in_arena.specs.Arenas.{NoneLeased};
 ghost use Rattle.in_arena.specs.declared.content.CellClass.{CellClass as Class};
 ghost use Rattle.in_arena.specs.Changes.{HasAllCells};
-ghost use Rattle.in_arena.specs.Classes.{class_no, classes};
+ghost use Rattle.in_arena.specs.Classes.{amount, classes, first_of};
 ghost use Rattle.in_compile.specs.Cells.{agents_of, count_of};
 ghost use Rattle.in_cells.specs.Copying.{IsListOfLive, moved_end, name_in, number_in};
 ghost use Rattle.in_cells.specs.CopyingSteps.{AreListedBelow};
 ghost use Rattle.in_reducer.specs.Gluing.{CanAppend, IsCellWithin, IsFreeWithin, glued, in_turn};
-ghost use Rattle.in_reducer.specs.Limiting.{most_cells};
+ghost use Rattle.in_reducer.specs.Limiting.{AreAllowed};
 ghost use Rattle.in_reducer.specs.Parting.{IsGluedOn, place_of_two};
 ghost use Rattle.in_reducer.specs.Reserved.{IsReserved};
 
@@ -62,15 +62,15 @@ fn list_part_numbers(cuts: Cuts, numbers: &mut Vec<u16>)
 /// read. It takes no memory.
 fn list_class(arena: &Arena, class: CellClass, cells: &mut Vec<CellNo>)
     requires leased { NoneLeased arena.now × HasAllCells arena.now }
-    requires small { arena.now.cells ≤ most_cells }
-    requires listed { AreListedBelow arena.now (class_no class * arena.now.cells) cells.old.items }
-    requires few { vec_len cells.old ≤ class_no class * arena.now.cells }
+    requires small { AreAllowed arena.now.cells }
+    requires listed { AreListedBelow arena.now (first_of arena.now.cells class) cells.old.items }
+    requires few { vec_len cells.old ≤ first_of arena.now.cells class }
     requires room { length arena.now.states ≤ vec_capacity cells.old }
-    ensures listed { AreListedBelow arena.now ((class_no class + 1) * arena.now.cells) cells.new.items }
-    ensures few { vec_len cells.new ≤ (class_no class + 1) * arena.now.cells }
+    ensures listed { AreListedBelow arena.now (first_of arena.now.cells class + amount arena.now.cells class) cells.new.items }
+    ensures few { vec_len cells.new ≤ first_of arena.now.cells class + amount arena.now.cells class }
     ensures room { vec_capacity cells.new ≡ vec_capacity cells.old }
 {
-    for number in class.number() * arena.cells()..arena.used(class) {
+    for number in arena.cells().first(class)..arena.used(class) {
         let cell = CellNo(number);
         if arena.is_live(cell) {
             cells.push_reserved(cell);
@@ -81,7 +81,7 @@ fn list_class(arena: &Arena, class: CellClass, cells: &mut Vec<CellNo>)
 /// The live cells of an arena that has no cell on lease, in the order of their numbers. No memory is taken.
 fn list_live(arena: &Arena, cells: &mut Vec<CellNo>)
     requires leased { NoneLeased arena.now }
-    requires small { arena.now.cells ≤ most_cells }
+    requires small { AreAllowed arena.now.cells }
     requires cells { IsReserved (length arena.now.states) cells.old }
     ensures { IsListOfLive arena.now cells.new.items }
 {

@@ -83,7 +83,7 @@ impl<'a> Reducer<'a> {
     {
         let mut agents = 0;
         for class in CellClass::ALL {
-            agents += self.body.arena.cells() - self.body.arena.free_count(class);
+            agents += self.body.arena.cells().of(class) - self.body.arena.free_count(class);
         }
         agents
     }

@@ -2,6 +2,7 @@
 ghost use Rattle.std.specs.Prelude.{◌≡◌, ◌≤◌, ◌<◌, ◌+◌, ℕ, [], length, map, Some, IfOk, OnErr, slice_get};
 ghost use Rattle.std.specs.List.{filter};
 ghost use Rattle.in_arena.specs.Arenas.{NoneLeased};
+ghost use Rattle.in_arena.specs.Classes.{each};
 ghost use Rattle.in_arena.specs.declared.content.End.{End as Target};
 ghost use Rattle.in_arena.specs.declared.content.End.TheVariants as end;
 ghost use Rattle.in_arena.specs.declared.content.CellClass.{CellClass as Class};
@@ -23,7 +24,7 @@ use crate::limits::MOST_ENDS;
 use crate::numbered::numbered_end;
 use crate::pair_queue::PairQueue;
 use crate::reducer::Reducer;
-use in_arena::{Arena, CellIndex, CellNo, EndWord};
+use in_arena::{Arena, CellCounts, CellIndex, CellNo, EndWord};
 use in_base::use_invariant;
 use in_cells::{copy, moved_end, number_anew, retire_all};
 use in_compile::Templates;
@@ -115,10 +116,10 @@ fn split_lists(alloc: Global, cuts: Cuts) -> Result<SplitLists, AllocError>
 fn take_room(alloc: Global, cuts: Cuts, cells: u32) -> Result<PartRoom, AllocError>
     requires { cells ≤ most_cells }
     ensures lists { IfOk result (λ r. AreListsFor cuts.own cuts.count r.lists) }
-    ensures fresh { IfOk result (λ r. IsFresh cells r.fresh) }
+    ensures fresh { IfOk result (λ r. IsFresh (each cells) r.fresh) }
 {
     let lists = split_lists(alloc, cuts)?;
-    let fresh = fresh_cells(alloc, cells)?;
+    let fresh = fresh_cells(alloc, CellCounts::each(cells))?;
     Ok(PartRoom { lists, fresh })
 }
 

@@ -1,5 +1,6 @@
 // A reducer of its program's initial net.
 ghost use Rattle.std.specs.Prelude.{◌≡◌, ◌≤◌, ℕ, map, Some, IfOk, OnErr, slice_get};
+ghost use Rattle.in_arena.specs.Classes.{amount};
 ghost use Rattle.in_arena.specs.declared.content.CellClass.{CellClass as Class};
 ghost use Rattle.in_arena.specs.Arenas.{free_of};
 ghost use Rattle.in_check.specs.Programs.{Program};
@@ -8,7 +9,7 @@ ghost use Rattle.in_compile.specs.Templates.{AreTemplatesOf};
 ghost use Rattle.in_reducer.specs.declared.body.OwnEnd.{OwnEnd as Own};
 ghost use Rattle.in_reducer.specs.Inside.{IsOwnEnd, declared_as};
 ghost use Rattle.in_reducer.specs.Laying.{CanLay, IsLaid};
-ghost use Rattle.in_reducer.specs.Limiting.{most_cells};
+ghost use Rattle.in_reducer.specs.Limiting.{AreAllowed};
 ghost use Rattle.in_compile.specs.Putting.{IsPut};
 ghost use Rattle.in_reducer.specs.Starts.{IsStart};
 
@@ -18,7 +19,7 @@ use crate::limits::MOST_ENDS;
 use crate::queueing::queue_own;
 use crate::reducer::Reducer;
 use crate::sides::inner;
-use in_arena::{Arena, EndWord};
+use in_arena::{Arena, CellCounts, EndWord};
 use in_base::use_promise;
 use in_check::Checked;
 use in_compile::{Member, Placed, Templates};
@@ -68,18 +69,18 @@ fn lay(alloc: Global, start: &Member, fresh: &mut Fresh) -> Result<Vec<EndWord>,
 }
 
 impl<'a> Reducer<'a> {
-    /// A reducer of the program's net with `cells` cells of each class. The net must fit: no class has more agents than cells.
+    /// A reducer of the program's net with that many cells of each class. The net must fit: no class has more agents than cells.
     /// Its pairs are queued in the order of the places of their wires, which is this project's own choice, as are the sizes of cells. The
     /// templates are those of the program. Refused only when out of memory; no other call takes memory.
     pub fn new(
         alloc: Global,
         checked: &'a Checked,
         templates: &Templates,
-        cells: u32,
+        cells: CellCounts,
     ) -> Result<Reducer<'a>, AllocError>
         requires templates { AreTemplatesOf checked.now templates.now }
-        requires cells { cells ≤ most_cells }
-        requires fits { (c : Class) → agents_of checked.now.tables c checked.now.net.cells ≤ cells }
+        requires cells { AreAllowed cells }
+        requires fits { (c : Class) → agents_of checked.now.tables c checked.now.net.cells ≤ amount cells c }
         ensures { IfOk result (IsStart checked.now cells) }
     {
         use_promise!(checked.is_accepted());

@@ -16,7 +16,7 @@ use Rattle.in_machine.proofs.Public.{normal_ends_are_one}
 no_pair : (limit : ℕ) (m : MachineParts) (k : ℕ) (s : Stop) → IsStop limit m k s → s ≡ Normal → m.queue ≡ []
 no_pair limit m k s h e = subst (IsStop limit m k) e h
 
-reached_once : (p : Program) (cells k : ℕ) (m : MachineParts) → ReachesWith p cells k m → m.queue ≡ [] → EndsOnce p k (text_of m)
+reached_once : (p : Program) (cells : CellCounts) (k : ℕ) (m : MachineParts) → ReachesWith p cells k m → m.queue ≡ [] → EndsOnce p k (text_of m)
 reached_once p cells k m h none = subst (λ (z : Program). EndsOnce z k (text_of m)) h.program (normal_ends_are_one m k h.machine h.reached none)
 
 pub normal_outcomes_are_one : NormalOutcomesAreOne

@@ -54,7 +54,7 @@ program_kept m o (suc k) (then_any _ n _ _ i before s) = s.step.program ∙ prog
 program_kept m o _ (then_phase _ n _ k j before p) = p.program ∙ program_kept m n k before
 program_kept m o k (then_renamed _ n _ _ before same) = same.1.program ∙ program_kept m n k before
 
-cells_kept : (m n : MachineParts) (k cells : ℕ) → RunsAnyhow m k n → HasCells cells m → HasCells cells n
+cells_kept : (m n : MachineParts) (k : ℕ) (cells : CellCounts) → RunsAnyhow m k n → HasCells cells m → HasCells cells n
 cells_kept m n zero cells (no_step _) h = h
 cells_kept m o (suc k) cells (then_any _ n _ _ i before s) h = λ c.
     subst (λ (z : Program). count_of o.vacant c + agents_of z.tables c o.agents ≡ cells) (sym s.step.program) (s.cells c ∙ cells_kept m n k cells before h c)
@@ -79,7 +79,7 @@ reached_on m o j _ (then_phase _ n _ k i before p) h reached =
 reached_on m o j k (then_renamed _ n _ _ before same) h reached = reached_same n o (k + j) same (reached_on m n j k before h reached)
 
 -- the interactions of a run are some more
-reaches_on : (p : Program) (cells j k : ℕ) (m n : MachineParts) → ReachesWith p cells j m → RunsAnyhow m k n → ReachesWith p cells (k + j) n
+reaches_on : (p : Program) (cells : CellCounts) (j k : ℕ) (m n : MachineParts) → ReachesWith p cells j m → RunsAnyhow m k n → ReachesWith p cells (k + j) n
 reaches_on p cells j k m n h run = record {
   start = h.start;
   machine = machine_kept m n k run h.machine;

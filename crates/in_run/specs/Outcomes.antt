@@ -18,7 +18,7 @@ use Rattle.in_run.specs.Stops.{IsOutcome, IsStop, NoneHasRoom}
 
 -- k interactions of the program, from a start with `cells` cells of each class: they come in any order, and the program reaches the
 -- net by exactly as many
-pub record ReachesWith (p : Program) (cells k : ℕ) (m : MachineParts) : Type 0 where
+pub record ReachesWith (p : Program) (cells : CellCounts) (k : ℕ) (m : MachineParts) : Type 0 where
   pub start : (s : MachineParts) × IsStart p cells s
   pub machine : IsMachine m
   pub program : m.program ≡ p

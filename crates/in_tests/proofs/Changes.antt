@@ -60,7 +60,7 @@ written_there b d n x free e = set_there b d n x (vacant_inside b n free) e
 
 pub same_room : (a b : ArenaView) (c : CellClass) (n : ℕ) → b ≡ empty_bag a → IsNumberOf a.cells c n → n < length b.states
 same_room a b c n e is =
-    let all : HasAllCells b = ap (λ (v : ArenaView). length v.states) e ∙ length-replicate (length classes * a.cells) Leased ∙ ap (λ (v : ArenaView). length classes * v.cells) (sym e) in
+    let all : HasAllCells b = ap (λ (v : ArenaView). length v.states) e ∙ length-replicate (all_of a.cells) Leased ∙ ap (λ (v : ArenaView). all_of v.cells) (sym e) in
     number_inside b n c all (subst (λ k. IsNumberOf k c n) (ap (λ (v : ArenaView). v.cells) (sym e)) is)
 
 pub same_room_after : (a b d : ArenaView) (c : CellClass) (n : ℕ) (x : State) → b ≡ empty_bag a → d ≡ changed b n x → IsNumberOf a.cells c n → n < length d.states

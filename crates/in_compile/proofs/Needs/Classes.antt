@@ -1,13 +1,12 @@
 -- Numbers of cells by class: two needs that are alike are one, and one class is the first that is short. What a loop over all classes keeps.
-use Rattle.std.proofs.Common.{◌≡◌, ◌⊎◌, inl, inr, ◌<◌, ◌≤◌, ◌+◌, ◌*◌, ℕ, zero, suc, cond, nat_lt, length, get_or, sum_by, refl, ap, subst, ◌∙◌, arith}
+use Rattle.std.proofs.Common.{◌≡◌, ◌⊎◌, inl, inr, ◌<◌, ◌≤◌, ◌+◌, ℕ, zero, suc, cond, nat_lt, length, get_or, sum_by, refl, ap, subst, ◌∙◌, arith}
 use Rattle.std.proofs.lemmas.Bool.{cases_eq, cases_lt}
 use Rattle.std.proofs.lemmas.Bool.Decides.{nat_tests}
-use Rattle.std.proofs.lemmas.List.Elements.{All-from_get_or}
-use Rattle.std.proofs.lemmas.List.Sums.{sum_by-le}
-use Rattle.in_arena.specs.Classes.{class_no, classes}
+use Rattle.in_arena.specs.Classes.{all_of, amount, class_no, classes}
 use Rattle.in_arena.proofs.Public.{same_class}
 use Rattle.in_arena.specs.declared.content.CellClass.{CellClass}
 use Rattle.in_arena.specs.declared.content.CellClass.TheVariants.{Small, Large, Wide}
+use Rattle.in_arena.specs.declared.content.CellCounts.{CellCounts}
 use Rattle.in_compile.specs.declared.cells.Need.{Need}
 use Rattle.in_compile.specs.Cells.{count_of, need_by, IsFirstShort}
 use Rattle.in_compile.specs.Listing.{of_class}
@@ -76,8 +75,8 @@ one_class_further P k before here c l = go (cases_lt (class_no c) k)
 pub all_classes_have_it : (P : CellClass → Type 0) (k : ℕ) → length classes ≤ k → HaveItSoFar P k → (c : CellClass) → P c
 all_classes_have_it P k past before c = before c (let l = (class_in_list c).0 in omega (arith, l, past))
 
-pub sum_at_most : (f : CellClass → ℕ) (most : ℕ) → ((c : CellClass) → f c ≤ most) → sum_by f classes ≤ length classes * most
-sum_at_most f most each = sum_by-le f most classes (All-from_get_or (λ c. f c ≤ most) classes Small (λ k l. each (get_or classes k Small)))
+pub sum_at_most : (f : CellClass → ℕ) (most : CellCounts) → ((c : CellClass) → f c ≤ amount most c) → sum_by f classes ≤ all_of most
+sum_at_most f most each = omega (arith, each Small, each Large, each Wide)
 
 -- the numbers of the classes before this place, and 0 for the others
 abbrev pub up_to : (CellClass → ℕ) → ℕ → CellClass → ℕ

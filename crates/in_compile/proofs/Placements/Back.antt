@@ -7,7 +7,7 @@ use Rattle.in_base.proofs.Each.{all_at}
 use Rattle.in_arena.specs.Arenas.{ArenaView, free_of, state_at}
 use Rattle.in_arena.specs.Bags.{IsBagOf, IsInBag, AreOfOne, empty_bag}
 use Rattle.in_arena.specs.Changes.{HasAllCells, one_if_free}
-use Rattle.in_arena.specs.Classes.{classes, class_no}
+use Rattle.in_arena.specs.Classes.{all_of, amount, first_of}
 use Rattle.in_arena.specs.States.{State, Vacant, Leased, Live, IsLeased, IsLive, is_vacant}
 use Rattle.in_arena.specs.declared.content.CellClass.{CellClass}
 use Rattle.in_arena.specs.declared.content.CellNo.{CellNo}
@@ -185,14 +185,14 @@ module _ (a b a' : ArenaView) (c : CellClass) (all : HasAllCells a) (all_b : Has
 
   pub counted_back : free_of a' c ≡ free_of a c + free_of b c
   counted_back =
-      let start = class_no c * a.cells in
+      let start = first_of a.cells c in
       let same : b.cells ≡ a.cells = of.cells in
-      let long : length a.states ≡ length b.states = (let k = ap (λ (z : ℕ). length classes * z) same in omega (arith, all, all_b, k)) in
-      let dropped = taken a.cells (drop start a.states) (drop start b.states) (drop start a'.states)
+      let long : length a.states ≡ length b.states = (let k = ap all_of same in omega (arith, all, all_b, k)) in
+      let dropped = taken (amount a.cells c) (drop start a.states) (drop start b.states) (drop start a'.states)
       (let p = length-drop start a.states in let q = length-drop start b.states in omega (arith, p, q, long))
       (let p = length-drop start a'.states in let q = length-drop start b.states in let r = back.count in omega (arith, p, q, r, long))
       (λ i.
       let n = start + i in
       ap one_if_free (get_or-drop start a'.states i Leased) ∙ one_by n (state_at b n) refl
       ∙ ap (λ (q : State × State). one_if_free q.0 + one_if_free q.1) (λ j. (sym (get_or-drop start a.states i Leased) j, sym (get_or-drop start b.states i Leased) j))) in
-      ap (λ m. count_by is_vacant (take m (drop (class_no c * m) a'.states))) back.cells ∙ dropped ∙ ap (λ m. free_of a c + count_by is_vacant (take m (drop (class_no c * m) b.states))) (sym same)
+      ap (λ m. count_by is_vacant (take (amount m c) (drop (first_of m c) a'.states))) back.cells ∙ dropped ∙ ap (λ m. free_of a c + count_by is_vacant (take (amount m c) (drop (first_of m c) b.states))) (sym same)

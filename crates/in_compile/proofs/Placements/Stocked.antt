@@ -9,7 +9,7 @@ use Rattle.in_base.proofs.Places.{kept_at, last_at, more_at}
 use Rattle.in_arena.specs.Arenas.{ArenaView, changed, free_of, state_at}
 use Rattle.in_arena.specs.Bags.{IsBagOf, IsInBag, LeasesTo, empty_bag}
 use Rattle.in_arena.specs.Changes.{AreListedOnce, HasAllCells, OneFewerIsFree, one_if_free}
-use Rattle.in_arena.specs.Classes.{class_no, classes, IsNumberOf}
+use Rattle.in_arena.specs.Classes.{IsNumberOf, all_of, class_no}
 use Rattle.in_arena.specs.States.{State, Vacant, Leased, Live, IsLeased}
 use Rattle.in_arena.specs.declared.content.CellClass.{CellClass}
 use Rattle.in_arena.specs.declared.content.CellNo.{CellNo}
@@ -68,7 +68,7 @@ with_all-append a (m ∷ ms) ns x = ap (λ v. changed v m.0 x) (with_all-append 
 pub all_stay : (a b : ArenaView) (ns : List CellNo) (x : State) → b ≡ with_all a ns x → HasAllCells a → HasAllCells b
 all_stay a b ns x e h =
     let n = ap (λ v. length v.states) e ∙ count_all a ns x in
-    let m = ap (λ (k : ℕ). length classes * k) (ap (λ (v : ArenaView). v.cells) e ∙ cells_all a ns x) in
+    let m = ap all_of (ap (λ (v : ArenaView). v.cells) e ∙ cells_all a ns x) in
     n ∙ h ∙ sym m
 
 -- one of these cells was free before
@@ -161,10 +161,10 @@ none_listed b l all none free empty = record {
     nothing c k n s = let e = slice_get_within (l c) k n s in let f = ap length (empty c) in omega (arith, e, f)
 
 pub none_in_empty : (a : ArenaView) (n : ℕ) → state_at (empty_bag a) n ≡ Leased
-none_in_empty a n = go (cases_lt n (length classes * a.cells))
+none_in_empty a n = go (cases_lt n (all_of a.cells))
   where
-    go : (n < length classes * a.cells) ⊎ (length classes * a.cells ≤ n) → state_at (empty_bag a) n ≡ Leased
-    go (inl l) = get_or-replicate (length classes * a.cells) n Leased Leased l
+    go : (n < all_of a.cells) ⊎ (all_of a.cells ≤ n) → state_at (empty_bag a) n ≡ Leased
+    go (inl l) = get_or-replicate (all_of a.cells) n Leased Leased l
     go (inr l) = get_or_past (empty_bag a).states n Leased (let e = (empty_is_of a).1 in omega (arith, l, e))
 
 pub empty_listed : (a : ArenaView) (l : CellClass → List CellNo) → ((c : CellClass) → l c ≡ []) → IsListing (empty_bag a) l
@@ -338,7 +338,7 @@ module _ (f : State → State) where
     inside : n < length a.states
     inside =
         let l = in_range b n in_it in
-        let same = ap (λ (k : ℕ). length classes * k) of.cells in
+        let same = ap all_of of.cells in
         omega (arith, l, all, all_b, same)
 
     states_by : (m : ℕ) → (m ≡ n) ⊎ (m ≢ n) → once_back f (state_at (changed b n Leased) m) (state_at (changed a n x) m) ≡ once_back f (state_at b m) (state_at a m)

@@ -1,18 +1,17 @@
 -- If no cell is on lease, and each live one is of the class of its agent's symbol, free cells and agents of a class make up its cells.
-use Rattle.std.proofs.Common.{◌≡◌, ◌⊎◌, inl, inr, ◌<◌, ◌≤◌, ◌+◌, ◌*◌, ℕ, zero, suc, Bool, true, false, cond, Option, Some, List, [], ◌∷◌, length, map, take, drop, get_or, count_by, refl, sym, ap, subst, ◌∙◌, length-drop, suc-mul, arith}
+use Rattle.std.proofs.Common.{◌≡◌, ◌⊎◌, inl, inr, ◌<◌, ◌≤◌, ◌+◌, ℕ, zero, suc, Bool, true, false, cond, Option, Some, List, [], ◌∷◌, length, map, take, drop, get_or, count_by, refl, sym, ap, subst, ◌∙◌, length-drop, arith}
 use Rattle.std.proofs.lemmas.Bool.{cases_lt}
 use Rattle.std.proofs.lemmas.List.{get_or-drop}
 use Rattle.std.proofs.lemmas.List.Sums.{sum_by-cons}
-use Rattle.std.proofs.lemmas.Nat.{mul-le}
 use Rattle.in_arena.specs.Arenas.{ArenaView, free_of, state_at}
-use Rattle.in_arena.specs.Classes.{class_no, IsNumberOf}
+use Rattle.in_arena.specs.Classes.{IsNumberOf, amount, first_of}
 use Rattle.in_arena.specs.States.{State, Vacant, Leased, Live, IsLeased, is_vacant, word_of}
 use Rattle.in_arena.specs.declared.content.CellClass.{CellClass}
 use Rattle.in_symbols.specs.Tables.{Tables}
 use Rattle.in_net.specs.declared.nets.Cell.{Cell}
-use Rattle.in_arena.proofs.Public.{class_of_number}
+use Rattle.in_arena.proofs.Public.{class_of_number, class_within}
 use Rattle.in_symbols.specs.Tables.{arity_of}
-use Rattle.in_compile.proofs.Public.{counted_by, number_below_all, one_class}
+use Rattle.in_compile.proofs.Public.{counted_by, one_class}
 use Rattle.in_compile.specs.Cells.{is_of, takes, agents_of, count_of}
 use Rattle.in_reducer.specs.Standing.{agent_in, agents_in, at_rest, vacant_in, IsNetIn}
 use Rattle.in_reducer.proofs.Cells.AtRest.{agents_same}
@@ -57,10 +56,10 @@ module _ (P : State → Bool) where
   sums false true h = refl
   sums false false h = elim h [ inl f ↦ absurd (let z : false ≡ true = f.0 in cc) | inr f ↦ absurd (let z : false ≡ true = f.1 in cc) ]
 
-  all_of : (xs : List State) → ((i : ℕ) → i < length xs → OneOf (get_or xs i Leased)) → count_by is_vacant xs + count_by P xs ≡ length xs
-  all_of [] h = refl
-  all_of (x ∷ xs) h =
-      let rest = all_of xs (λ i l. h (suc i) (omega (arith, l))) in
+  all_one : (xs : List State) → ((i : ℕ) → i < length xs → OneOf (get_or xs i Leased)) → count_by is_vacant xs + count_by P xs ≡ length xs
+  all_one [] h = refl
+  all_one (x ∷ xs) h =
+      let rest = all_one xs (λ i l. h (suc i) (omega (arith, l))) in
       let e = sum_by-cons (λ (y : State). cond (is_vacant y) 1 0) x xs in
       let f = sum_by-cons one x xs in
       let g = sums (is_vacant x) (P x) (h 0 (omega arith)) in
@@ -78,17 +77,6 @@ get_or-past (x ∷ xs) zero d l = absurd (omega (arith, l))
 get_or-past (x ∷ xs) (suc i) d l = get_or-past xs i d (omega (arith, l))
 
 -- ---- the part of a class
-
-module _ (cells : ℕ) where
-  rest_of : (c : CellClass) (s : ℕ) → class_no c * cells ≡ s → (class_no c + 1) * cells ≡ s + cells
-  rest_of c s e = let next = suc-mul (class_no c) cells in omega (arith, e, next)
-
-  within_all : (c : CellClass) (s all : ℕ) → class_no c * cells ≡ s → all ≡ 3 * cells → s + cells ≤ all
-  within_all c s all e f =
-      let low = number_below_all c in
-      let these : (class_no c + 1) * cells ≤ 3 * cells = mul-le (class_no c + 1) cells 3 cells (let z : class_no c + 1 ≤ 3 = omega (arith, low) in z) (let z : cells ≤ cells = omega arith in z) in
-      let next = rest_of c s e in
-      omega (arith, these, next, f)
 
 length_of_part : (n : ℕ) (xs : List State) → n ≤ length xs → length (take n xs) ≡ n
 length_of_part zero xs l = refl
@@ -137,32 +125,28 @@ module _ (t : Tables) (a : ArenaView) (h : IsNetIn t a) where
           let d = class_of_number a.cells i (let e = h.all in omega (arith, l, e)) in
           elsewhere c d.0 (state_at a i) (λ e. out (subst (λ (z : CellClass). IsNumberOf a.cells z i) (sym e) d.1)) (λ s w. h.classed d.0 i s d.1 w)
 
-  pub all_cells : (c : CellClass) → free_of a c + agents_of t c (agents_in a) ≡ a.cells
+  pub all_cells : (c : CellClass) → free_of a c + agents_of t c (agents_in a) ≡ amount a.cells c
   unfolding taken
-  all_cells c = go (class_no c * a.cells) refl
+  all_cells c =
+      let s = first_of a.cells c in let n = amount a.cells c in
+      let long : s + n ≤ length a.states = (let l = class_within a.cells c in let total = h.all in omega (arith, l, total)) in
+      let counted : agents_of t c (agents_in a) ≡ count_by (taken c) a.states = counted_map (takes t c) agent_in a.states in
+      let part : count_by (taken c) a.states ≡ count_by (taken c) (take n (drop s a.states)) =
+      in_part (taken c) s n a.states (λ i l. not_taken c i (λ k. (let b = k.0 in omega (arith, b, l)))) (λ i l. not_taken c i (λ k. (let b = k.1 in omega (arith, b, l)))) in
+      let length_is : length (take n (drop s a.states)) ≡ n = length_of_part n (drop s a.states) (let e = length-drop s a.states in omega (arith, e, long)) in
+      let each = all_one (taken c) (take n (drop s a.states)) (λ i l. inside long i (subst (λ (z : ℕ). i < z) length_is l)) in
+      omega (arith, counted, part, length_is, each)
     where
-      go : (s : ℕ) → class_no c * a.cells ≡ s → free_of a c + agents_of t c (agents_in a) ≡ a.cells
-      go s is =
-          let total : length a.states ≡ 3 * a.cells = h.all in
-          let next : (class_no c + 1) * a.cells ≡ s + a.cells = rest_of a.cells c s is in
-          let long : s + a.cells ≤ length a.states = within_all a.cells c s (length a.states) is total in
-          let counted : agents_of t c (agents_in a) ≡ count_by (taken c) a.states = counted_map (takes t c) agent_in a.states in
-          let part : count_by (taken c) a.states ≡ count_by (taken c) (take a.cells (drop s a.states)) =
-          in_part (taken c) s a.cells a.states (λ i l. not_taken c i (λ n. (let b = n.0 in omega (arith, b, l, is)))) (λ i l. not_taken c i (λ n. (let b = n.1 in omega (arith, b, l, next)))) in
-          let length_is : length (take a.cells (drop s a.states)) ≡ a.cells = length_of_part a.cells (drop s a.states) (let e = length-drop s a.states in omega (arith, e, long)) in
-          let each = all_of (taken c) (take a.cells (drop s a.states)) (λ i l. inside s is next long i (subst (λ (z : ℕ). i < z) length_is l)) in
-          let free : free_of a c ≡ count_by is_vacant (take a.cells (drop s a.states)) = ap (λ (z : ℕ). count_by is_vacant (take a.cells (drop z a.states))) is in
-          omega (arith, counted, part, length_is, each, free)
-        where
-          inside : (s : ℕ) → class_no c * a.cells ≡ s → (class_no c + 1) * a.cells ≡ s + a.cells → s + a.cells ≤ length a.states → (i : ℕ) → i < a.cells → OneOf (taken c) (get_or (take a.cells (drop s a.states)) i Leased)
-          inside s is next long i l =
-              let number : IsNumberOf a.cells c (s + i) = (omega (arith, is), omega (arith, next, l)) in
-              let at : state_at a (s + i) ≡ get_or (take a.cells (drop s a.states)) i Leased = sym (get_or-take a.cells (drop s a.states) i l ∙ get_or-drop s a.states i Leased) in
-              subst (OneOf (taken c)) at (here c (state_at a (s + i)) (h.none (s + i) (omega (arith, long, l))) (λ w e. h.classed c (s + i) w number e))
+      inside : first_of a.cells c + amount a.cells c ≤ length a.states → (i : ℕ) → i < amount a.cells c → OneOf (taken c) (get_or (take (amount a.cells c) (drop (first_of a.cells c) a.states)) i Leased)
+      inside long i l =
+          let s = first_of a.cells c in let n = amount a.cells c in
+          let number : IsNumberOf a.cells c (s + i) = (omega arith, omega (arith, l)) in
+          let at : state_at a (s + i) ≡ get_or (take n (drop s a.states)) i Leased = sym (get_or-take n (drop s a.states) i l ∙ get_or-drop s a.states i Leased) in
+          subst (OneOf (taken c)) at (here c (state_at a (s + i)) (h.none (s + i) (omega (arith, long, l))) (λ w e. h.classed c (s + i) w number e))
 
-  pub has_cells : (c : CellClass) → count_of (vacant_in a) c + agents_of t c (agents_in a) ≡ a.cells
+  pub has_cells : (c : CellClass) → count_of (vacant_in a) c + agents_of t c (agents_in a) ≡ amount a.cells c
   has_cells c = ap (λ (k : ℕ). k + agents_of t c (agents_in a)) (counted_by (free_of a) c) ∙ all_cells c
 
 -- .. if a leased cell counts as free
-pub cells_at_rest : (t : Tables) (a : ArenaView) → IsNetIn t (at_rest a) → (c : CellClass) → count_of (vacant_in (at_rest a)) c + agents_of t c (agents_in a) ≡ a.cells
-cells_at_rest t a net c = subst (λ (xs : List (Option Cell)). count_of (vacant_in (at_rest a)) c + agents_of t c xs ≡ a.cells) (agents_same a) (has_cells t (at_rest a) net c)
+pub cells_at_rest : (t : Tables) (a : ArenaView) → IsNetIn t (at_rest a) → (c : CellClass) → count_of (vacant_in (at_rest a)) c + agents_of t c (agents_in a) ≡ amount a.cells c
+cells_at_rest t a net c = subst (λ (xs : List (Option Cell)). count_of (vacant_in (at_rest a)) c + agents_of t c xs ≡ amount a.cells c) (agents_same a) (has_cells t (at_rest a) net c)

@@ -5,7 +5,7 @@ use Rattle.std.proofs.lemmas.List.{take_all}
 use Rattle.std.proofs.lemmas.List.Sums.{sum_by_more, sum_by_more_le}
 use Rattle.std.proofs.lemmas.Option.{slice_get-map, unwrap_or-slice_get}
 use Rattle.in_arena.specs.Arenas.{ArenaView, free_of, state_at}
-use Rattle.in_arena.specs.Classes.{classes}
+use Rattle.in_arena.specs.Classes.{all_of, amount, classes}
 use Rattle.in_arena.specs.States.{State, Vacant, Leased, Live, end_at}
 use Rattle.in_arena.specs.declared.content.CellClass.{CellClass}
 use Rattle.in_arena.specs.declared.content.CellClass.TheVariants.{Small}
@@ -80,7 +80,7 @@ module _ (t : Tables) (a : ArenaView) (h : IsNetIn t a) where
   of_class c = agents_of t c (agents_in a)
 
   -- the cells of one class more that aren't free have agents
-  module _ (k agents cells free : ℕ) (low : k < length classes) (before : agents ≡ sum_by of_class (take k classes)) (all : cells ≡ a.cells) (vacant : free ≡ free_of a (get_or classes k Small)) where
+  module _ (k agents cells free : ℕ) (low : k < length classes) (before : agents ≡ sum_by of_class (take k classes)) (all : cells ≡ amount a.cells (get_or classes k Small)) (vacant : free ≡ free_of a (get_or classes k Small)) where
     here : cells - free ≡ of_class (get_or classes k Small)
     here = let e = all_cells t a h (get_or classes k Small) in omega (arith, e, all, vacant)
 
@@ -88,7 +88,7 @@ module _ (t : Tables) (a : ArenaView) (h : IsNetIn t a) where
     one_more_class = let e = sum_by_more of_class classes k Small low in let f = here in omega (arith, e, f, before)
 
     -- .. and are no more than all cells
-    pub no_more : agents + (cells - free) ≤ length classes * a.cells
+    pub no_more : agents + (cells - free) ≤ all_of a.cells
     no_more =
         let e = sum_by_more_le of_class classes k Small low in
         let f = here in

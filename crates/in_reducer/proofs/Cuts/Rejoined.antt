@@ -3,9 +3,10 @@ use Rattle.std.proofs.Common.{◌≡◌, ◌⊎◌, ◌<◌, ◌≤◌, ◌+◌,
 use Rattle.std.specs.Prelude.{option_map}
 use Rattle.std.proofs.lemmas.List.{append-nil, length-map, map-append, take-map}
 use Rattle.std.proofs.lemmas.Option.{same_Some}
+use Rattle.in_arena.proofs.Public.{counts_alike}
 use Rattle.in_arena.specs.Arenas.{ArenaView, NoneLeased, state_at}
+use Rattle.in_arena.specs.Classes.{all_of}
 use Rattle.in_arena.specs.States.{word_of}
-use Rattle.in_arena.specs.declared.content.CellClass.TheVariants.{Small}
 use Rattle.in_arena.specs.declared.content.End.{End}
 use Rattle.in_symbols.specs.declared.symbols.PortType.{PortType}
 use Rattle.in_symbols.specs.declared.symbols.SymbolNo.{SymbolNo}
@@ -344,11 +345,10 @@ module _ (r : Body) (k : KeepsNet r) (two : 2 ≤ length r.free.items) (own : �
     few_pairs queue h =
         let reducer = is_reducer queue h in
         let short = short_queue (after queue) reducer in
-        let one = reducer.cells.2 Small in
-        let other = cells_at_rest t b still_net Small in
-        let e = kept.cells in
+        let many = counts_alike reducer.cells.0 b.cells (λ c. sym (reducer.cells.2 c) ∙ cells_at_rest t b still_net c) in
+        let e = ap all_of kept.cells in
         let room = k.queue in
-        omega (arith, short, one, other, e, room)
+        omega (arith, short, many, e, room)
 
     pub joins_last : NoneLeased r.arena → (added behind : List (ℕ × ℕ)) → behind ≡ r.queue.items ++ added → JoinsLast (reducer_view r) (after behind)
     unfolding once

@@ -2,6 +2,8 @@
 use Rattle.std.proofs.Common.{◌≡◌, ◌<◌, ◌+◌, ℕ, suc, Option, Some, None, IsSome, List, [], ◌∷◌, map, length, slice_get, option_map, option_and_then, refl, sym, ap, subst, ◌∙◌, arith}
 use native.Mathlib.Decide.{ℕ_discrete}
 use Rattle.std.proofs.lemmas.Option.{same_Some}
+use Rattle.in_arena.specs.Classes.{all_of}
+use Rattle.in_arena.specs.declared.content.CellCounts.{CellCounts}
 use Rattle.in_base.proofs.Among.{among_all, among_at}
 use Rattle.in_symbols.specs.Tables.{Tables, arity_of}
 use Rattle.in_net.specs.declared.nets.Cell.{Cell}
@@ -130,7 +132,7 @@ module _ (t : Tables) (f : ℕ → ℕ) (m n : Parts) (named : IsRenamed f (net_
 
 -- ---- reducers
 
-pub counted_same : (m n : MachineParts) (f : ℕ → ℕ) → IsSameMachine f m n → (cells : ℕ) → HasCells cells m → HasCells cells n
+pub counted_same : (m n : MachineParts) (f : ℕ → ℕ) → IsSameMachine f m n → (cells : CellCounts) → HasCells cells m → HasCells cells n
 counted_same m n f same cells counted c =
     let as_many = as_many_of m.program.tables c f (parts_of m) (parts_of n) same.net in
     let free : count_of n.vacant c ≡ count_of m.vacant c = ap (λ (z : Need). count_of z c) same.vacant in
@@ -155,7 +157,7 @@ module _ (m n : MachineParts) (h : IsReducer m) (f : ℕ → ℕ) (same : IsSame
 
 -- ---- starts
 
-pub start_same_as : (p : Program) (cells : ℕ) (m n : MachineParts) → IsStart p cells m → AreSame m n → IsStart p cells n
+pub start_same_as : (p : Program) (cells : CellCounts) (m n : MachineParts) → IsStart p cells m → AreSame m n → IsStart p cells n
 start_same_as p cells m n h (f, same) = record {
   program = same.program ∙ h.program;
   over = over_under p.tables f (parts_of m) (parts_of n) same.net h.over;

@@ -6,7 +6,7 @@ use Rattle.std.proofs.lemmas.Bool.Decides.{nat_tests}
 use Rattle.std.proofs.lemmas.List.Sums.{sum_by-cons}
 use Rattle.std.proofs.lemmas.Option.{same_Some}
 use Rattle.in_base.specs.Lists.{IsAmong}
-use Rattle.in_arena.specs.Classes.{classes, holds}
+use Rattle.in_arena.specs.Classes.{all_of, classes, holds}
 use Rattle.in_arena.specs.declared.content.CellClass.{CellClass}
 use Rattle.in_syntax.specs.Grammar.{max_ports}
 use Rattle.in_symbols.specs.Tables.{Tables, arity_of, is_constructor}
@@ -220,11 +220,11 @@ module _ (m : MachineParts) (h : IsReducer m) where
   pub reducer_queue : IsQueue (net_of (parts_of m)) m.queue
   reducer_queue = is_queue m.program (parts_of m) reducer_promised m.queue h.queue
 
-  pub few_agents : count_by is_some m.agents ≤ length classes * h.cells.0
+  pub few_agents : count_by is_some m.agents ≤ all_of h.cells.0
   few_agents =
       let a = all_classes m.program.tables (few_ports h.accepted.0 m.program h.accepted.1) m.agents in
       let each = sum_at_most (λ c. machines.agents_of m.program.tables c m.agents) h.cells.0 (λ c. (let all = h.cells.2 c in omega (arith, all))) in
       omega (arith, a, each)
 
-  pub short_queue : 2 * length m.queue ≤ length classes * h.cells.0
+  pub short_queue : 2 * length m.queue ≤ all_of h.cells.0
   short_queue = let a = few_agents in let b = half_of m.program (parts_of m) reducer_promised m.queue h.queue in omega arith

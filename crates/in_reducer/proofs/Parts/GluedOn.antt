@@ -1,8 +1,9 @@
 -- A reducer, and a part that is glued on to it, as contracts see both.
 use Rattle.std.proofs.Common.{◌≡◌, ◌≤◌, ◌+◌, ◌-◌, ◌*◌, ℕ, length, sym, ap, subst, ◌∙◌, arith}
 use Rattle.std.proofs.lemmas.List.{length-map}
-use Rattle.in_arena.specs.Classes.{classes}
-use Rattle.in_arena.specs.declared.content.CellClass.TheVariants.{Small}
+use Rattle.in_arena.specs.Classes.{all_of, amount, classes}
+use Rattle.in_arena.specs.declared.content.CellClass.TheVariants.{Large, Small, Wide}
+use Rattle.in_arena.specs.declared.content.CellClass.{CellClass}
 use Rattle.in_compile.specs.Cells.{agents_of, count_of}
 use Rattle.in_reducer.specs.declared.body.Body.{Body}
 use Rattle.in_reducer.specs.Gluing.{CanAppend}
@@ -27,17 +28,16 @@ known r o k l m p is_rest is_part all cuts many_rest many_part fewer can = recor
   can = subst (λ (z : MachineParts). CanAppend z (reducer_view o)) (sym is_rest) (subst (CanAppend m) (sym is_part) can);
 }
 
--- the number of small cells
-abbrev pub small_cells : MachineParts → ℕ
-small_cells m = count_of m.vacant Small + agents_of m.program.tables Small m.agents
+-- the number of cells of a class
+abbrev pub cells_for : CellClass → MachineParts → ℕ
+cells_for c m = count_of m.vacant c + agents_of m.program.tables c m.agents
 
 -- as many names as the part has cells
-pub names_fit : (o : Body) → KeepsNet o → (p : MachineParts) → reducer_view o ≡ p → (size names : ℕ) → small_cells p ≤ size → length classes * size ≤ names → length o.arena.states ≤ names
+pub names_fit : (o : Body) → KeepsNet o → (p : MachineParts) → reducer_view o ≡ p → (size names : ℕ) → ((c : CellClass) → cells_for c p ≤ size) → length classes * size ≤ names → length o.arena.states ≤ names
 names_fit o l p view size names few fits =
-    let many : length o.arena.states ≡ length classes * o.arena.cells = sym (length-map o.arena.states rested) ∙ l.net.all in
-    let all = cells_at_rest o.checked.now.tables o.arena l.net Small in
-    let v = ap small_cells view in
-    omega (arith, all, v, few, many, fits)
+    let many : length o.arena.states ≡ all_of o.arena.cells = sym (length-map o.arena.states rested) ∙ l.net.all in
+    let each : (c : CellClass) → amount o.arena.cells c ≤ size = λ c. (let all = cells_at_rest o.checked.now.tables o.arena l.net c in let v = ap (cells_for c) view in omega (arith, all, v, few c)) in
+    omega (arith, each Small, each Large, each Wide, many, fits)
 
 -- the same, as contracts see both
 pub glued_there : (r m o p : MachineParts) (own n cuts many : ℕ) (new : MachineParts) → r ≡ m → o ≡ p → own ≡ n → cuts ≡ many → IsGluedOn r o own cuts new → IsGluedOn m p n many new

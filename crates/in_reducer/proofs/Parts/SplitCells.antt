@@ -3,9 +3,10 @@ use Rattle.std.proofs.Common.{◌≡◌, ◌⊎◌, inl, inr, ◌+◌, ◌*◌, 
 use Rattle.std.specs.Cmp.Derive.{both_true}
 use Rattle.std.proofs.lemmas.Bool.{le-leb}
 use Rattle.in_arena.specs.Arenas.{ArenaView, NoneLeased, free_of, state_at}
-use Rattle.in_arena.specs.Classes.{classes, Holds, holds, IsNumberOf, least, width}
+use Rattle.in_arena.specs.Classes.{Holds, IsNumberOf, all_of, amount, each, holds, least, width}
 use Rattle.in_arena.specs.States.{State, Vacant, Leased, Live, IsLeased, IsLive, places, word_of}
 use Rattle.in_arena.specs.declared.content.CellClass.{CellClass}
+use Rattle.in_arena.specs.declared.content.CellCounts.{CellCounts}
 use Rattle.in_arena.specs.declared.content.CellNo.{CellNo}
 use Rattle.in_arena.proofs.Public.{numbers_apart, live_in}
 use Rattle.in_symbols.specs.Tables.{Tables, arity_of}
@@ -37,7 +38,7 @@ module _ (r : Body) (k : KeepsNet r) (agents : List CellNo) (own cuts : ℕ) (ca
 
   -- ---- the part
 
-  module _ (numbers : List ℕ) (names : List CellNo) (size : ℕ) (first new : ArenaView) (same : first.cells ≡ size) (empty : first.states ≡ replicate (length classes * size) Vacant) (copied : IsCopied r.arena agents numbers names first new) where
+  module _ (numbers : List ℕ) (names : List CellNo) (size : ℕ) (first new : ArenaView) (same : first.cells ≡ each size) (empty : first.states ≡ replicate (all_of (each size)) Vacant) (copied : IsCopied r.arena agents numbers names first new) where
     abbrev to : State → State
     to = moved (name_in names) (number_in numbers)
 
@@ -45,20 +46,20 @@ module _ (r : Body) (k : KeepsNet r) (agents : List CellNo) (own cuts : ℕ) (ca
     part_good y = go (named_or agents (name_in names) y)
       where
         go : NamedOr agents (name_in names) y → IsGood t first y (state_at new y)
-        go (inr out) = λ d s in_class w. absurd (let f : None ≡ Some s = sym (no_word first size same empty y) ∙ sym (ap word_of (copied.others y out)) ∙ w in cc)
+        go (inr out) = λ d s in_class w. absurd (let f : None ≡ Some s = sym (no_word first (each size) same empty y) ∙ sym (ap word_of (copied.others y out)) ∙ w in cc)
         go (inl at) = λ d s in_class w. (
             let c = at.1 in
             let state : state_at new y ≡ to (state_at r.arena c.0) = ap (state_at new) (sym at.3) ∙ (copied.each at.0 c at.2).1 in
             let word : word_of (state_at r.arena c.0) ≡ Some s = sym (word_moved (name_in names) (number_in numbers) (state_at r.arena c.0)) ∙ sym (ap word_of state) ∙ w in
             let own = copied.classes at.0 c at.2 in
-            let one : own.0 ≡ d = numbers_apart first.cells y own.0 d (subst (λ (z : ℕ). IsNumberOf z own.0 y) copied.cells (subst (IsNumberOf new.cells own.0) at.3 own.2)) in_class in
+            let one : own.0 ≡ d = numbers_apart first.cells y own.0 d (subst (λ (z : CellCounts). IsNumberOf z own.0 y) copied.cells (subst (IsNumberOf new.cells own.0) at.3 own.2)) in_class in
             let many = before.places_here r k c.0 s word in
             let fit : holds own.0 (arity_of t s + 1) ≡ true = ap (holds own.0) (let z : arity_of t s + 1 ≡ places (state_at r.arena c.0) = omega (arith, many) in z) ∙ to_holds own.0 (places (state_at r.arena c.0)) own.1 in
             subst (λ (z : CellClass). is_of t z s ≡ true) one fit
             )
 
     pub part_net : IsNetIn t (at_rest new)
-    part_net = net_stays t first new (all_at_rest first (empty_all first size same empty)) copied.cells copied.many part_good
+    part_net = net_stays t first new (all_at_rest first (empty_all first (each size) same empty)) copied.cells copied.many part_good
 
     part_leased : (y : ℕ) → IsLeased (state_at new y) → IsLeased (state_at first y)
     part_leased y leased = elim (named_or agents (name_in names) y) [
@@ -79,10 +80,10 @@ module _ (r : Body) (k : KeepsNet r) (agents : List CellNo) (own cuts : ℕ) (ca
     }
 
     pub part_none : NoneLeased new
-    part_none y low leased = empty_none first size same empty y (let e = copied.many in omega (arith, e, low)) (part_leased y leased)
+    part_none y low leased = empty_none first (each size) same empty y (let e = copied.many in omega (arith, e, low)) (part_leased y leased)
 
-    pub part_cells : (c : CellClass) → count_of (vacant_in (at_rest new)) c + agents_of t c (agents_in new) ≡ size
-    part_cells c = cells_at_rest t new part_net c ∙ copied.cells ∙ same
+    pub part_cells : (c : CellClass) → count_of (vacant_in (at_rest new)) c + agents_of t c (agents_in new) ≡ amount (each size) c
+    part_cells c = cells_at_rest t new part_net c ∙ ap (λ (z : CellCounts). amount z c) (copied.cells ∙ same)
 
     -- the part has as many agents of each class as were copied
     pub part_counted : (c : CellClass) → agents_of t c (agents_in new) ≡ count_by (is_for r.arena c) agents
@@ -90,7 +91,7 @@ module _ (r : Body) (k : KeepsNet r) (agents : List CellNo) (own cuts : ℕ) (ca
         let a = part_cells c in
         let b = vacant_is new part_none c in
         let d = copied.free c in
-        let e = all_free first size same empty t c in
+        let e = all_free first (each size) same empty t c in
         omega (arith, a, b, d, e)
 
   -- ---- the rest

@@ -4,7 +4,7 @@ use Rattle.std.specs.List.{filter}
 use Rattle.std.proofs.lemmas.List.{length-map}
 use Rattle.std.proofs.lemmas.Option.{slice_get_within}
 use Rattle.in_arena.specs.Arenas.{ArenaView, NoneLeased, state_at}
-use Rattle.in_arena.specs.Classes.{classes}
+use Rattle.in_arena.specs.Classes.{all_of, each}
 use Rattle.in_arena.specs.States.{State, Vacant, Leased, Live, IsLive, word_of}
 use Rattle.in_arena.specs.declared.content.CellNo.{CellNo}
 use Rattle.in_arena.proofs.Public.{word_live}
@@ -24,7 +24,7 @@ use Rattle.in_reducer.specs.declared.body.OwnEnd.{OwnEnd}
 use Rattle.in_reducer.specs.declared.tools.Tools.{Tools}
 use Rattle.in_reducer.specs.Cutting.{net_in}
 use Rattle.in_reducer.specs.Inside.{AreTools, IsOwnEnd, KeepsNet, declared_as, most_free, own_free, reducer_view}
-use Rattle.in_reducer.specs.Limiting.{most_cells}
+use Rattle.in_reducer.specs.Limiting.{AreAllowed, most_cells}
 use Rattle.in_reducer.specs.Machines.{parts_of}
 use Rattle.in_reducer.specs.Parting.{CanSplit, IsSplitButQueues, IsSplitOff, ends_of_two}
 use Rattle.in_reducer.specs.Reducers.{IsReducer}
@@ -129,7 +129,7 @@ module _ (r : Body) (k : KeepsNet r) (agents : List CellNo) (own cuts : ℕ) (ca
     where
       go : NamedOr agents name z → name (nets.origin r k agents own cuts can x h z) ≡ z
       go (inl at) = ap (λ (v : ℕ). name (nets.origin r k agents own cuts can x h v)) (sym at.3) ∙ ap name (nets.from_where r k agents own cuts can x h at.0 at.1 at.2) ∙ at.3
-      go (inr out) = absurd (let w = live_has_word (state_at x.new z) live in let f : false ≡ true = subst IsSome (ap word_of (h.copied.others z out) ∙ no_word x.first x.size h.same h.empty z) w in cc)
+      go (inr out) = absurd (let w = live_has_word (state_at x.new z) live in let f : false ≡ true = subst IsSome (ap word_of (h.copied.others z out) ∙ no_word x.first (each x.size) h.same h.empty z) w in cc)
 
   whole_alive : (q : ℕ × ℕ) → goes x.left q ≡ true → IsSome ((net_in (reducer_view r)).symbol q.0) → (y : ℕ) × IsSome ((net_of part_parts).symbol y) × (nets.origin r k agents own cuts can x h y ≡ q.0)
   whole_alive q gone s = let z = part_agent q.0 gone (agent_live q.0 s) in (z.0, subst IsSome (sym (symbol_seen x.new part_fs x.part_ends z.0)) (live_has_word (state_at x.new z.0) z.1), z.2)
@@ -174,15 +174,16 @@ module _ (r : Body) (k : KeepsNet r) (agents : List CellNo) (own cuts : ℕ) (ca
   pub part_reducer : x.size ≤ most_cells → (q : List (ℕ × ℕ)) → q ≡ part_pairs → IsReducer (nets.part r k agents own cuts can x h q)
   part_reducer few q is =
       let sound = (nets.sound r k agents own cuts can x h).1 in
+      let few_each : AreAllowed (each x.size) = record { small = omega (arith, few); large = omega (arith, few); wide = omega (arith, few) } in
       record {
         accepted = k.reducer.accepted;
         net = record { sound = sound; over = is_over t x.new part_fs x.part_ends sound.net sound.within };
         queue = subst (IsQueueOf t part_parts) (sym is) part_queue;
-        cells = (x.size, few, λ d. cells.part_cells r k agents own cuts can x.numbers x.names x.size x.first x.new h.same h.empty h.copied d);
+        cells = (each x.size, few_each, λ d. cells.part_cells r k agents own cuts can x.numbers x.names x.size x.first x.new h.same h.empty h.copied d);
       }
 
   -- the part's queue has room for all its pairs
-  pub few_pairs : x.size ≤ most_cells → (room : ℕ) → length classes * x.size ≤ 2 * room + 1 → length (filter (goes x.left) r.queue.items) ≤ room
+  pub few_pairs : x.size ≤ most_cells → (room : ℕ) → all_of (each x.size) ≤ 2 * room + 1 → length (filter (goes x.left) r.queue.items) ≤ room
   unfolding part_reducer
   few_pairs few room wide =
       let short = short_queue (nets.part r k agents own cuts can x h part_pairs) (part_reducer few part_pairs refl) in

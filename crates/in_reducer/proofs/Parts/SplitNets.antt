@@ -8,7 +8,7 @@ use Rattle.std.proofs.lemmas.Option.{same_Some, slice_get-map, slice_get_past}
 use native.Mathlib.Decide.{ℕ_discrete}
 use Rattle.in_base.proofs.Each.{at_index}
 use Rattle.in_arena.specs.Arenas.{ArenaView}
-use Rattle.in_arena.specs.Classes.{classes}
+use Rattle.in_arena.specs.Classes.{all_of, each}
 use Rattle.in_arena.specs.States.{Vacant}
 use Rattle.in_arena.specs.declared.content.CellNo.{CellNo}
 use Rattle.in_arena.specs.declared.content.End.{End}
@@ -159,8 +159,8 @@ pub record Pieces : Type 0 where
   pub rest_ends : List End
 
 pub record ArePieces (r : Body) (agents : List CellNo) (own cuts : ℕ) (x : Pieces) : Type 0 where
-  pub same : x.first.cells ≡ x.size
-  pub empty : x.first.states ≡ replicate (length classes * x.size) Vacant
+  pub same : x.first.cells ≡ each x.size
+  pub empty : x.first.states ≡ replicate (all_of (each x.size)) Vacant
   pub copied : IsCopied r.arena agents x.numbers x.names x.first x.new
   pub lost : LosesPart agents (number_in x.rest_numbers) r.arena x.left
   pub rest_numbered : AreNumbersOfTwo own cuts 0 (own + cuts) x.rest_numbers
@@ -317,11 +317,11 @@ module _ (r : Body) (k : KeepsNet r) (agents : List CellNo) (own cuts : ℕ) (ca
 
   pub stand : StandBeside rest_net part_net origin ends m
   stand = part_stands_beside r.arena x.left x.first x.new agents x.names x.numbers (number_in x.rest_numbers) origin (place_of_two own) (before.own_ends r k) h.rest_ends.picked h.part_ends.picked ends m rest_net part_net (before.shows r k) (before.back r k) rest_shows part_shows
-      h.copied (no_word x.first x.size h.same h.empty) h.lost.out from_where (before.leads r k agents own cuts can) split kinds
+      h.copied (no_word x.first (each x.size) h.same h.empty) h.lost.out from_where (before.leads r k agents own cuts can) split kinds
 
   pub nets : IsNet (signature_of prog.tables) rest_net × IsNet (signature_of prog.tables) part_net
   nets = split_are_nets (signature_of prog.tables) r.arena x.left x.first x.new agents x.names x.numbers (number_in x.rest_numbers) origin (place_of_two own) (before.own_ends r k) h.rest_ends.picked h.part_ends.picked ends m rest_net part_net k.reducer.net.sound.net (before.shows r k) rest_shows part_shows
-      h.copied (no_word x.first x.size h.same h.empty) h.lost.out from_where (before.leads r k agents own cuts can) split kinds
+      h.copied (no_word x.first (each x.size) h.same h.empty) h.lost.out from_where (before.leads r k agents own cuts can) split kinds
 
   pub sound : IsSound (system_of prog) rest_net × IsSound (system_of prog) part_net
   sound = beside_parts_are_sound (system_of prog) rest_net part_net m origin ends k.reducer.net.sound nets.0 nets.1 stand

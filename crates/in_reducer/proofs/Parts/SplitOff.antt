@@ -1,7 +1,7 @@
 -- A part that was split off, by the slices that were lent for it and the result of each call on them.
 use Rattle.std.proofs.Common.{◌≡◌, ◌+◌, ℕ, List, count_by, take, sym, subst, ◌∙◌, arith}
 use Rattle.in_arena.specs.Arenas.{ArenaView, state_at}
-use Rattle.in_arena.specs.Classes.{holds}
+use Rattle.in_arena.specs.Classes.{each, holds}
 use Rattle.in_arena.specs.States.{State, Vacant, Leased, Live, IsLive}
 use Rattle.in_arena.specs.declared.content.CellNo.{CellNo}
 use Rattle.in_arena.specs.declared.content.End.{End}
@@ -71,7 +71,7 @@ pieces f l size names new left part_free rest_free part_ends rest_ends = record 
   rest_ends = rest_ends;
 }
 
-pub known : (r : Body) (agents : List CellNo) (own cuts size : ℕ) (f : Fresh) (l : SplitLists) → IsFresh size f → AreListsFor own cuts l →
+pub known : (r : Body) (agents : List CellNo) (own cuts size : ℕ) (f : Fresh) (l : SplitLists) → IsFresh (each size) f → AreListsFor own cuts l →
     (of_part of_rest : List ℕ) (free : List OwnEnd) (ends : List End) (mid : ArenaView) (names : List CellNo) (new left : ArenaView) (part_free rest_free : List OwnEnd) (part_ends rest_ends : List End) →
     ArePiecesBy r agents own cuts f l of_part of_rest free ends mid (pieces f l size names new left part_free rest_free part_ends rest_ends) →
     ArePieces r agents own cuts (pieces f l size names new left part_free rest_free part_ends rest_ends)

@@ -2,8 +2,9 @@
 use Rattle.std.proofs.Common.{◌≡◌, ◌≤◌, ◌+◌, ◌*◌, ℕ, Some, List, length, map, take, replicate, slice_get, sym, ap, subst, ◌∙◌, arith}
 use Rattle.std.proofs.lemmas.List.{length-map}
 use Rattle.in_arena.specs.Arenas.{ArenaView}
-use Rattle.in_arena.specs.Classes.{classes}
+use Rattle.in_arena.specs.Classes.{all_of}
 use Rattle.in_arena.specs.States.{Vacant, IsLeased}
+use Rattle.in_arena.specs.declared.content.CellCounts.{CellCounts}
 use Rattle.in_arena.specs.declared.content.CellNo.{CellNo}
 use Rattle.in_interaction.specs.Queues.{both}
 use Rattle.in_check.specs.Checking.{IsAccepted}
@@ -15,7 +16,7 @@ use Rattle.in_reducer.specs.declared.body.Body.{Body}
 use Rattle.in_reducer.specs.declared.body.OwnEnd.{OwnEnd}
 use Rattle.in_reducer.specs.Inside.{AreTools, IsKept, IsOwnEnd, declared_as, most_ends, own_free, reducer_view}
 use Rattle.in_reducer.specs.Interacting.{named}
-use Rattle.in_reducer.specs.Limiting.{most_cells}
+use Rattle.in_reducer.specs.Limiting.{AreAllowed}
 use Rattle.in_compile.specs.Putting.{IsPut}
 use Rattle.in_reducer.specs.Placed.{IsNoneOf}
 use Rattle.in_reducer.specs.Sides.{inner_of}
@@ -29,7 +30,7 @@ pub member_is : (p : Program) (ts : TemplatesParts) (m : MemberParts) → AreTem
 member_is p ts m of e = subst (IsMemberOf p.tables p.net) (sym e) of.start
 
 -- the net of an accepted program is put into cells that were all free, and the reducer's lists are those of this net
-pub record HoldsStart (text : List ℕ) (x : Body) (ts : TemplatesParts) (m : MemberParts) (cells : ℕ) (a : ArenaView) (ns : List CellNo) : Type 0 where
+pub record HoldsStart (text : List ℕ) (x : Body) (ts : TemplatesParts) (m : MemberParts) (cells : CellCounts) (a : ArenaView) (ns : List CellNo) : Type 0 where
   -- the check accepts the program's text
   pub accepted : IsAccepted text x.checked.now
   -- these are the program's templates
@@ -37,11 +38,11 @@ pub record HoldsStart (text : List ℕ) (x : Body) (ts : TemplatesParts) (m : Me
   -- this is the member for its net
   pub start : m ≡ ts.start
   -- a reducer can have so many cells of each class
-  pub few : cells ≤ most_cells
+  pub few : AreAllowed cells
   -- the arena has so many
   pub same : a.cells ≡ cells
   -- all of them were free
-  pub empty : a.states ≡ replicate (length classes * cells) Vacant
+  pub empty : a.states ≡ replicate (all_of cells) Vacant
   -- each agent is put into its own cell
   pub put : IsPut m ns a x.arena
   -- the first ends lead where the free ends do
@@ -53,7 +54,7 @@ pub record HoldsStart (text : List ℕ) (x : Body) (ts : TemplatesParts) (m : Me
   -- the free ends are those of the program's net
   pub free : own_free x ≡ x.checked.now.net.free
 
-module _ (text : List ℕ) (x : Body) (ts : TemplatesParts) (m : MemberParts) (cells : ℕ) (a : ArenaView) (ns : List CellNo) (given : HoldsStart text x ts m cells a ns) where
+module _ (text : List ℕ) (x : Body) (ts : TemplatesParts) (m : MemberParts) (cells : CellCounts) (a : ArenaView) (ns : List CellNo) (given : HoldsStart text x ts m cells a ns) where
   open given use {accepted, templates, start, few, same, empty, put, first, long, queue, free}
 
   member : IsMemberOf x.checked.now.tables x.checked.now.net m
@@ -63,7 +64,7 @@ module _ (text : List ℕ) (x : Body) (ts : TemplatesParts) (m : MemberParts) (c
   starts = subst (λ (fs : List FreeEnd). IsStart x.checked.now cells (record { program = x.checked.now; agents = agents_in x.arena; free = leading_to fs x.ends.items; queue = x.queue.items; vacant = vacant_in (at_rest x.arena) })) (sym free)
       (is_start text x.checked.now accepted m member ns a x.arena cells same empty put x.ends.items first long x.queue.items queue)
 
-  module _ (room : length classes * cells + 2 * most_ends ≤ 2 * x.queue.room + 1) (tools : AreTools x.tools a) where
+  module _ (room : all_of cells + 2 * most_ends ≤ 2 * x.queue.room + 1) (tools : AreTools x.tools a) where
     still_none : (b : ArenaView) → IsNoneOf b a → IsNoneOf b x.arena
     still_none b h = (
       record {

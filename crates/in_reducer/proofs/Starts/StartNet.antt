@@ -6,9 +6,10 @@ use Rattle.std.proofs.lemmas.List.Sums.{sum_by-cons}
 use Rattle.std.proofs.lemmas.Option.{same_Some, slice_get-map, slice_get_within}
 use Rattle.in_arena.specs.Arenas.{ArenaView, NoneLeased, free_of, state_at}
 use Rattle.in_arena.specs.Changes.{HasAllCells}
-use Rattle.in_arena.specs.Classes.{classes}
+use Rattle.in_arena.specs.Classes.{all_of, amount}
 use Rattle.in_arena.specs.States.{State, Vacant, Leased, IsLeased, word_of, end_at, places}
 use Rattle.in_arena.specs.declared.content.CellClass.{CellClass}
+use Rattle.in_arena.specs.declared.content.CellCounts.{CellCounts}
 use Rattle.in_arena.specs.declared.content.CellNo.{CellNo}
 use Rattle.in_arena.specs.declared.content.End.{End}
 use Rattle.in_arena.specs.declared.content.End.TheVariants as end
@@ -57,18 +58,18 @@ empty_at zero n = inr (omega arith, refl)
 empty_at (suc m) zero = inl refl
 empty_at (suc m) (suc n) = elim (empty_at m n) [ inl e ↦ inl e | inr h ↦ inr ((let l = h.0 in omega (arith, l)), h.1) ]
 
-module _ (a : ArenaView) (cells : ℕ) (same : a.cells ≡ cells) (empty : a.states ≡ replicate (length classes * cells) Vacant) where
+module _ (a : ArenaView) (cells : CellCounts) (same : a.cells ≡ cells) (empty : a.states ≡ replicate (all_of cells) Vacant) where
   vacant_or_past : (n : ℕ) → (state_at a n ≡ Vacant) ⊎ ((length a.states ≤ n) × (state_at a n ≡ Leased))
-  vacant_or_past n = elim (empty_at (length classes * cells) n) [
+  vacant_or_past n = elim (empty_at (all_of cells) n) [
     | inl e ↦ inl (ap (λ (xs : List State). get_or xs n Leased) empty ∙ e)
     | inr h ↦ inr ((let m = many in let l = h.0 in omega (arith, m, l)), ap (λ (xs : List State). get_or xs n Leased) empty ∙ h.1)
   ]
     where
-      many : length a.states ≡ length classes * cells
-      many = ap length empty ∙ length-replicate (length classes * cells) Vacant
+      many : length a.states ≡ all_of cells
+      many = ap length empty ∙ length-replicate (all_of cells) Vacant
 
   pub empty_all : HasAllCells a
-  empty_all = ap length empty ∙ length-replicate (length classes * cells) Vacant ∙ ap (λ (z : ℕ). length classes * z) (sym same)
+  empty_all = ap length empty ∙ length-replicate (all_of cells) Vacant ∙ ap all_of (sym same)
 
   pub empty_none : NoneLeased a
   empty_none n l leased = elim (vacant_or_past n) [ inl e ↦ subst IsLeased e leased | inr h ↦ (let m = h.0 in omega (arith, l, m)) ]
@@ -92,11 +93,12 @@ module _ (a : ArenaView) (cells : ℕ) (same : a.cells ≡ cells) (empty : a.sta
     no_agents c (suc m) = let e = sum_by-cons (λ x. cond (takes t c x) 1 0) None (map agent_in (replicate m Vacant)) in let f = no_agents c m in omega (arith, e, f)
 
     -- all its cells are free
-    pub all_free : (c : CellClass) → free_of a c ≡ cells
+    pub all_free : (c : CellClass) → free_of a c ≡ amount cells c
     all_free c =
         let e = all_cells t a empty_net c in
-        let f : agents_of t c (agents_in a) ≡ 0 = ap (λ (xs : List State). agents_of t c (map agent_in xs)) empty ∙ no_agents c (length classes * cells) in
-        omega (arith, e, f, same)
+        let f : agents_of t c (agents_in a) ≡ 0 = ap (λ (xs : List State). agents_of t c (map agent_in xs)) empty ∙ no_agents c (all_of cells) in
+        let n = ap (λ (z : CellCounts). amount z c) same in
+        omega (arith, e, f, n)
 
 -- ---- points
 
@@ -124,7 +126,7 @@ module _ (text : List ℕ) (p : Program) (accepted : IsAccepted text p) (m : Mem
   few_joints = let l = (net_whole text p accepted).ends in let e = own_many in omega (arith, l, e)
 
   -- it has no more active pairs than half of the cells
-  pub few_pairs : (cells : ℕ) → ((c : CellClass) → agents_of p.tables c p.net.cells ≤ cells) → 2 * length m.pairs ≤ length classes * cells
+  pub few_pairs : (cells : CellCounts) → ((c : CellClass) → agents_of p.tables c p.net.cells ≤ amount cells c) → 2 * length m.pairs ≤ all_of cells
   few_pairs cells fits =
       let h = half_of p p.net (net_promised text p accepted) m.pairs of.pairs.pairs in
       let a = all_classes p.tables (few_ports text p accepted) p.net.cells in
@@ -132,7 +134,7 @@ module _ (text : List ℕ) (p : Program) (accepted : IsAccepted text p) (m : Mem
       omega (arith, h, a, each)
 
   -- the cells that it needs are free if `cells` cells of each class are
-  pub enough : (cells : ℕ) (free : CellClass → ℕ) → ((c : CellClass) → agents_of p.tables c p.net.cells ≤ cells) → ((c : CellClass) → free c ≡ cells) → IsEnough (count_of m.need) free
+  pub enough : (cells : CellCounts) (free : CellClass → ℕ) → ((c : CellClass) → agents_of p.tables c p.net.cells ≤ amount cells c) → ((c : CellClass) → free c ≡ amount cells c) → IsEnough (count_of m.need) free
   enough cells free fits all c = let e = of.need c in let f = fits c in let g = all c in omega (arith, e, f, g)
 
   module _ (ns : List CellNo) (count : length ns ≡ length m.agents) where
@@ -156,7 +158,7 @@ module _ (text : List ℕ) (p : Program) (accepted : IsAccepted text p) (m : Mem
 
   -- ---- placed
 
-  module _ (ns : List CellNo) (a b : ArenaView) (cells : ℕ) (same : a.cells ≡ cells) (empty : a.states ≡ replicate (length classes * cells) Vacant) (put : IsPut m ns a b) where
+  module _ (ns : List CellNo) (a b : ArenaView) (cells : CellCounts) (same : a.cells ≡ cells) (empty : a.states ≡ replicate (all_of cells) Vacant) (put : IsPut m ns a b) where
     begun : HasBegun m ns a b
     begun = laid.begun_of p.tables p.net over m of ns a b put
 

@@ -2,6 +2,7 @@
 use Rattle.std.proofs.Common.{◌≡◌, ◌≤◌, ℕ, Some, IsSome, List, map, refl, sym, ap, subst, ◌∙◌}
 use Rattle.std.proofs.lemmas.Option.{same_Some}
 use native.Mathlib.Decide.{ℕ_discrete}
+use Rattle.in_arena.specs.declared.content.CellCounts.{CellCounts}
 use Rattle.in_symbols.specs.Tables.{Tables}
 use Rattle.in_symbols.specs.declared.symbols.SymbolNo.{SymbolNo}
 use Rattle.in_net.specs.declared.nets.AgentNo.{AgentNo}
@@ -21,7 +22,7 @@ use Rattle.in_check.proofs.Public.{is_sound, sound_reached, agents_before, AreOp
 use Rattle.in_base.proofs.Places.{of_mapped, to_mapped, is_some as there}
 use Rattle.in_check.proofs.Public.{stands_anywhere}
 use Rattle.in_reducer.specs.Laws.{StartsAreReducers}
-use Rattle.in_reducer.specs.Limiting.{most_cells}
+use Rattle.in_reducer.specs.Limiting.{AreAllowed}
 use Rattle.in_reducer.specs.Machines.{MachineParts, parts_of}
 use Rattle.in_reducer.specs.Reducers.{IsReducer}
 use Rattle.in_reducer.specs.Starts.{IsStart}
@@ -105,7 +106,7 @@ module _ (text : List ℕ) (p : Program) (accepted : IsAccepted text p) where
   pub sound_at : (f : ℕ → ℕ) (n : Parts) → IsRenamed f (net_of p.net) (net_of n) → IsSound (system_of p) (net_of n)
   sound_at f n named = sound_reached (system_of p) (is_sound text p accepted) ℕ_discrete 0 (net_of n) (at_start f (net_of n) named)
 
-  module _ (cells : ℕ) (few : cells ≤ most_cells) (m : MachineParts) (h : IsStart p cells m) where
+  module _ (cells : CellCounts) (few : AreAllowed cells) (m : MachineParts) (h : IsStart p cells m) where
     start_queue : IsQueueOf p.tables (parts_of m) m.queue
     start_queue = subst (IsQueueOf p.tables (parts_of m)) (sym h.queue) (queue_moved p.tables h.name p.net (parts_of m) net_at h.net opposed_at h.first h.pairs.pairs)
 

@@ -4,10 +4,10 @@ use Rattle.std.proofs.lemmas.List.{length-map, length-reverse, length-set, take_
 use Rattle.std.proofs.lemmas.List.Edits.{length-remove}
 use Rattle.std.specs.Prelude.{IsTrue}
 use Rattle.std.proofs.lemmas.Option.{same_Some, slice_get_within, slice_get_read}
+use Rattle.in_arena.proofs.Public.{counts_alike}
 use Rattle.in_arena.specs.Arenas.{ArenaView, NoneLeased, changed}
 use Rattle.in_arena.specs.Changes.{HasAllCells}
 use Rattle.in_arena.specs.States.{Vacant}
-use Rattle.in_arena.specs.declared.content.CellClass.TheVariants.{Small}
 use Rattle.in_arena.specs.declared.content.CellNo.{CellNo}
 use Rattle.in_arena.specs.declared.content.End.{End}
 use Rattle.in_symbols.specs.Tables.{Tables}
@@ -71,13 +71,12 @@ module _ (r : Body) (k : KeepsNet r) (i : ℕ) (p : TemplateParts) (at : IsTempl
   pub over_room : (rest : List (ℕ × ℕ)) → rest ≡ remove r.queue.items i → length rest + most_ends ≤ r.queue.room
   over_room rest same =
       let short = short_queue (reducer_view r) k.reducer in
-      let one = k.reducer.cells.2 Small in
-      let other = cells_at_rest t r.arena k.net Small in
+      let many = counts_alike k.reducer.cells.0 r.arena.cells (λ c. sym (k.reducer.cells.2 c) ∙ cells_at_rest t r.arena k.net c) in
       let room = k.queue in
       let low = slice_get_within r.queue.items i at.pair at.stands in
       let gone = ap length same in
       let fewer = length-remove r.queue.items i low in
-      omega (arith, short, one, other, room, gone, fewer)
+      omega (arith, short, many, room, gone, fewer)
 
   module _ (room : HasRoomAt (reducer_view r) i) (none : NoneLeased r.arena) (pair : Pair) (own : ℕ) (is_own : own ≡ length (own_free r)) (ends : List End) (about : IsAbout t setting p pair own r.arena ends)
       (old : List (ℕ × ℕ)) (a : ArenaView) (es points : List End) (middle : List (ℕ × ℕ)) (up : IsWiredUp t p pair r.arena ends old a es points middle) where

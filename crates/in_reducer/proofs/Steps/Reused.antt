@@ -6,13 +6,12 @@ use Rattle.std.specs.Prelude.{option_map, IsTrue}
 use Rattle.in_base.proofs.Places.{to_mapped, is_some as there}
 use Rattle.in_arena.specs.Arenas.{ArenaView, NoneLeased, changed, state_at}
 use Rattle.in_arena.specs.Changes.{HasAllCells}
-use Rattle.in_arena.specs.Classes.{IsNumberOf}
+use Rattle.in_arena.specs.Classes.{IsNumberOf, all_of}
 use Rattle.in_arena.specs.States.{Vacant, word_of}
 use Rattle.in_arena.specs.declared.content.CellClass.{CellClass}
-use Rattle.in_arena.specs.declared.content.CellClass.TheVariants.{Small}
 use Rattle.in_arena.specs.declared.content.CellNo.{CellNo}
 use Rattle.in_arena.specs.declared.content.End.{End}
-use Rattle.in_arena.proofs.Public.{class_of_number, live_inside, word_live}
+use Rattle.in_arena.proofs.Public.{class_of_number, counts_alike, live_inside, word_live}
 use Rattle.in_symbols.specs.declared.symbols.SymbolNo.{SymbolNo}
 use Rattle.in_symbols.specs.Tables.{Tables}
 use Rattle.in_net.specs.declared.nets.AgentNo.{AgentNo}
@@ -342,14 +341,13 @@ module _ (r : Body) (k : KeepsNet r) (i : ℕ) (p : TemplateParts) (at : IsTempl
         pub own_room : length middle + length p.member.pairs ≤ r.queue.room
         own_room =
             let short = short_queue (after final) reducer_after in
-            let one = reducer_after.cells.2 Small in
-            let other = cells_at_rest t c net Small in
+            let many = counts_alike reducer_after.cells.0 c.cells (λ d. sym (reducer_after.cells.2 d) ∙ cells_at_rest t c net d) in
             let room = k.queue in
             let same_long = ap length all_queued in
             let a = length-append middle (map (both (named ns)) p.member.pairs) in
             let d = length-map p.member.pairs (both (named ns)) in
-            let same_cells = cells in
-            omega (arith, short, one, other, room, same_long, a, d, same_cells)
+            let same_cells = ap all_of cells in
+            omega (arith, short, many, room, same_long, a, d, same_cells)
 
         module _ (queue : List (ℕ × ℕ)) (is_queue : queue ≡ middle ++ map (both (named ns)) p.member.pairs) (zs : List End) (is : zs ≡ es) where
           abbrev pub reused : MachineParts

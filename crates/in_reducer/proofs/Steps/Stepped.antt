@@ -3,9 +3,10 @@ use Rattle.std.proofs.Common.{◌≡◌, ◌<◌, ◌≤◌, ◌+◌, ℕ, List,
 use Rattle.std.specs.Prelude.{option_map}
 use Rattle.std.proofs.lemmas.List.{length-map, length-reverse, map-append, reverse-append, reverse-reverse}
 use Rattle.std.proofs.lemmas.Option.{same_Some, slice_get_within}
+use Rattle.in_arena.proofs.Public.{counts_alike}
 use Rattle.in_arena.specs.Arenas.{ArenaView, NoneLeased, free_of}
+use Rattle.in_arena.specs.Classes.{all_of}
 use Rattle.in_arena.specs.declared.content.CellClass.{CellClass}
-use Rattle.in_arena.specs.declared.content.CellClass.TheVariants.{Small}
 use Rattle.in_arena.specs.declared.content.CellNo.{CellNo}
 use Rattle.in_arena.specs.declared.content.End.{End}
 use Rattle.in_symbols.specs.declared.symbols.SymbolNo.{SymbolNo}
@@ -245,10 +246,10 @@ module _ (r : Body) (k : KeepsNet r) (i : ℕ) (p : TemplateParts) (at : IsTempl
     pub few_pairs : length final ≤ r.queue.room
     few_pairs =
         let short = short_queue (after final) reducer_after in
-        let one = reducer_after.cells.2 Small in
-        let other = cells_at_rest t a net Small in
+        let many = counts_alike reducer_after.cells.0 a.cells (λ c. sym (reducer_after.cells.2 c) ∙ cells_at_rest t a net c) in
+        let same = ap all_of cells in
         let room = k.queue in
-        omega (arith, short, one, other, cells, room)
+        omega (arith, short, many, same, room)
 
     -- no more pairs in all than the queue has room for
     pub lengths : length (remove r.queue.items i) + length made + length p.member.pairs ≤ r.queue.room

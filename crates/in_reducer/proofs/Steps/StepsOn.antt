@@ -1,5 +1,6 @@
 -- An interaction of a reducer leads to a reducer, under any numbers of the new agents.
 use Rattle.std.proofs.Common.{◌≡◌, ◌+◌, ℕ, suc, Some, List, ◌++◌, map, remove, slice_get, refl, sym, ap, subst, ◌∙◌}
+use Rattle.in_arena.specs.declared.content.CellCounts.{CellCounts}
 use Rattle.in_typing.specs.TypedNets.{IsTypedNet}
 use Rattle.in_net.specs.declared.nets.AgentNo.{AgentNo}
 use Rattle.in_net.specs.Interactions.{IsRedex, redex_at}
@@ -99,7 +100,7 @@ module _ (m o : MachineParts) (i : ℕ) (h : IsReducer m) (s : StepsAt m i o) wh
   pub queue_after : IsQueueOf o.program.tables (parts_of o) o.queue
   queue_after = subst (λ (z : Program). IsQueueOf z.tables (parts_of o) o.queue) (sym s.step.program) (subst (IsQueueOf m.program.tables (parts_of o)) (sym queue_by_kinds) queue_on)
 
-  pub counted_after : (cells : ℕ) → HasCells cells m → HasCells cells o
+  pub counted_after : (cells : CellCounts) → HasCells cells m → HasCells cells o
   counted_after cells counted c = ap (λ (z : Program). count_of o.vacant c + agents_of z.tables c o.agents) s.step.program ∙ s.cells c ∙ counted c
 
   pub accepted_after : (text : List ℕ) → IsAccepted text m.program → IsAccepted text o.program

@@ -71,14 +71,14 @@ list_part_numbers-requires c =
 pub list_live-requires-clause-cells : goal.list_live-requires-clause-cells
 list_live-requires-clause-cells c =
     let x = c.args.seam in
-    let fits = names_fit c.part.inside.body c.part.invariant.all.net c.args.part.now c.part.view_is x.cells (length classes * x.cells) (c.requires.cells Small) (omega arith) in
+    let fits = names_fit c.part.inside.body c.part.invariant.all.net c.args.part.now c.part.view_is x.cells (length classes * x.cells) c.requires.cells (omega arith) in
     let room = x.agents_room.1 in
     (x.agents_room.0, omega (arith, fits, room))
 
 pub copy-requires-clause-names : goal.copy-requires-clause-names
 copy-requires-clause-names c = λ j n at. (
     let o = c.part.inside.body in
-    let fits = names_fit o c.part.invariant.all.net c.args.part.now c.part.view_is c.args.seam.cells (length c.args.names.now) (c.requires.cells Small) c.requires.names in
+    let fits = names_fit o c.part.invariant.all.net c.args.part.now c.part.view_is c.args.seam.cells (length c.args.names.now) c.requires.cells c.requires.names in
     let live = c.list_live.ensures.part.live j n (ap (λ (ns : List CellNo). slice_get ns j) (sym c.as_slice-3.ensures.value) ∙ at) in
     let low = live_inside o.arena n.0 live in
     omega (arith, low, fits)
@@ -196,7 +196,7 @@ invariant_of-halves-clause-part_cells c =
     let l = c.part.invariant.all.net in
     let cuts = c.free_ends-count.result in
     let apart = known r o k l c.args.self.now c.args.part.now c.self.view_is c.part.view_is c.free_ends.result cuts c.free_ends.ensures c.free_ends-count.ensures c.requires.fewer c.requires.can in
-    let names : length o.arena.states ≤ length c.copy.new.names = (let e = names_fit o l c.args.part.now c.part.view_is c.args.seam.cells (length c.args.names.now) (c.requires.cells Small) c.requires.names in let f = c.copy.ensures.names in omega (arith, e, f)) in
+    let names : length o.arena.states ≤ length c.copy.new.names = (let e = names_fit o l c.args.part.now c.part.view_is c.args.seam.cells (length c.args.names.now) c.requires.cells c.requires.names in let f = c.copy.ensures.names in omega (arith, e, f)) in
     subst (λ (z : List End). All (IsCellWithin (length c.copy.new.names)) (take cuts z)) (sym c.as_slice-8.ensures.value) (together.all_cells_within o l (length c.copy.new.names) cuts names (sym apart.part))
 
 pub invariant_of-halves-clause-part_free : goal.invariant_of-halves-clause-part_free
@@ -226,7 +226,7 @@ pub add_pairs-requires-clause-within : goal.add_pairs-requires-clause-within
 add_pairs-requires-clause-within c =
     let o = c.part.inside.body in
     let l = c.part.invariant.all.net in
-    let names : length o.arena.states ≤ length c.copy.new.names = (let e = names_fit o l c.args.part.now c.part.view_is c.args.seam.cells (length c.args.names.now) (c.requires.cells Small) c.requires.names in let f = c.copy.ensures.names in omega (arith, e, f)) in
+    let names : length o.arena.states ≤ length c.copy.new.names = (let e = names_fit o l c.args.part.now c.part.view_is c.args.seam.cells (length c.args.names.now) c.requires.cells c.requires.names in let f = c.copy.ensures.names in omega (arith, e, f)) in
     λ j q at. (
     let h = together.pair_within o l j q at in
     let one = h.0 in

@@ -1,6 +1,6 @@
 use Rattle.std.proofs.Common.{◌≤◌, ◌+◌, ◌*◌, length, sym, subst, arith}
 use Rattle.in_arena.specs.Arenas.{NoneLeased}
-use Rattle.in_arena.specs.Classes.{classes}
+use Rattle.in_arena.specs.Classes.{all_of}
 use Rattle.in_reducer.specs.declared.body.Body.{Body}
 use Rattle.in_reducer.specs.declared.tools.Tools.{Tools}
 use Rattle.in_reducer.specs.Inside.{AreTools, IsKept, most_ends, reducer_view}
@@ -39,7 +39,7 @@ invariant_of-result c =
     let fresh = c.in_ok-fresh.ensures in
     let laid = c.in_ok-ends.ensures.laid in
     let x : Body = record { checked = c.args.checked; arena = f.arena; free = c.in_ok-free.free; ends = c.in_ok-ends.ends; queue = f.queue; tools = f.tools } in
-    let room : length classes * c.args.cells + 2 * most_ends ≤ 2 * f.queue.room + 1 = (let r = laid.room in let s = fresh.queue_room in omega (arith, r, s)) in
+    let room : all_of c.args.cells + 2 * most_ends ≤ 2 * f.queue.room + 1 = (let r = laid.room in let s = fresh.queue_room in omega (arith, r, s)) in
     let tools = subst (λ (t : Tools). AreTools t c.in_ok-fresh.fresh.arena) (sym laid.tools) fresh.tools in
     subst IsKept (sym c.into_body.ensures)
     (is_kept h.0 x c.args.templates.now c.start.result.now c.args.cells c.in_ok-fresh.fresh.arena laid.names (record {
