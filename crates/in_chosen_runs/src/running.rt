@@ -5,7 +5,7 @@ ghost use Rattle.in_chosen_runs.specs.Choosing.{RunsAsChosen};
 
 use crate::choosing::choose;
 use in_check::Checked;
-use in_machine::{Machine, StartFault};
+use in_machine::{CellCounts, Machine, StartFault};
 use std::alloc::Global;
 
 /// The outcome of such a run: its machine, the number of choices done, and the number of further interactions.

@@ -5,7 +5,9 @@ ghost use Rattle.in_run.specs.Advancing.{RunsAnyhow};
 ghost use Rattle.in_run.specs.Stops.{GoesOn};
 ghost use Rattle.in_reducer.specs.Same.{RunsUpToNumbers};
 
-use crate::pace::{PHASES_FROM, Pace, SAMPLE_PAIRS, are_newest_first, half_of_cells, sampling, sharing};
+use crate::pace::{
+    PHASES_FROM, Pace, SAMPLE_PAIRS, are_newest_first, half_of_cells, sampling, sharing,
+};
 use in_limits::Limits;
 use in_machine::{Machine, phase, sample};
 use std::alloc::Global;
