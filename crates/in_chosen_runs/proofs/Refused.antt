@@ -1,5 +1,6 @@
 -- A program that is too large for its cells has no start, and one class is the first that is too small.
 use Rattle.std.proofs.Common.{◌≡◌, ◌<◌, ◌+◌, ℕ, List, sym, ap, ◌∙◌, arith}
+use Rattle.in_arena.specs.Classes.{amount}
 use Rattle.in_arena.specs.declared.content.CellClass.{CellClass}
 use Rattle.in_arena.specs.declared.content.CellCounts.{CellCounts}
 use Rattle.in_check.specs.Programs.{Program}
@@ -14,14 +15,14 @@ use Rattle.in_chosen_runs.specs.Laws.{ChosenRunsAreRefusedOnce, StartsAreRefused
 module _ (p : Program) (cells : CellCounts) (c : CellClass) (need free : ℕ) (refused : DoesNotFit p cells c need free) where
   no_start : (m : MachineParts) → IsStart p cells m → ⊥
   no_start m s =
-      let all : count_of m.vacant c + agents_of p.tables c p.net.cells ≡ cells = count_at p cells m s c in
-      let less : cells < agents_of p.tables c p.net.cells = refused.0.0 in
+      let all : count_of m.vacant c + agents_of p.tables c p.net.cells ≡ amount cells c = count_at p cells m s c in
+      let less : amount cells c < agents_of p.tables c p.net.cells = refused.0.0 in
       absurd (omega (arith, all, less))
 
   one_refusal : (d : CellClass) (more less : ℕ) → DoesNotFit p cells d more less → (c ≡ d) × (need ≡ more) × (free ≡ less)
   one_refusal d more less other =
-      let class : c ≡ d = one_short (λ e. agents_of p.tables e p.net.cells) (λ e. cells) c d refused.0 other.0 in
-      (class, refused.1 ∙ ap (λ e. agents_of p.tables e p.net.cells) class ∙ sym other.1, refused.2 ∙ sym other.2)
+      let class : c ≡ d = one_short (λ e. agents_of p.tables e p.net.cells) (amount cells) c d refused.0 other.0 in
+      (class, refused.1 ∙ ap (λ e. agents_of p.tables e p.net.cells) class ∙ sym other.1, refused.2 ∙ ap (amount cells) class ∙ sym other.2)
 
 pub starts_are_refused_once : StartsAreRefusedOnce
 starts_are_refused_once p cells c need free refused = (no_start p cells c need free refused, one_refusal p cells c need free refused)

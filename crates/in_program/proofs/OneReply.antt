@@ -1,5 +1,6 @@
 -- The program has one reply to a text.
 use Rattle.std.proofs.Common.{◌≡◌, ℕ, List, ◌++◌, length, count_by, is_some, Ok, Err, refl, sym, ◌∙◌, ap}
+use Rattle.in_arena.specs.Classes.{amount}
 use Rattle.in_syntax.specs.declared.faults.Fault.TheVariants.{Refused}
 use Rattle.in_symbols.specs.Tables.{Tables}
 use Rattle.in_net.specs.Parts.{Parts}
@@ -43,9 +44,9 @@ turned p q h = record { tables = sym h.tables; rules = sym h.rules; net = sym h.
 one_full : (p q : Program) (l : Limits) (c d : CellClass) (need free more less : ℕ) → AreOneProgram p q → DoesNotFit p l.cells c need free → DoesNotFit q l.cells d more less → start_line c need free ≡ start_line d more less
 one_full p q l c d need free more less same (short, is, all) (shorter, are, each) =
     let needs : (e : CellClass) → agents_of q.tables e q.net.cells ≡ agents_of p.tables e p.net.cells = λ e. sym (same_agents p q same e) in
-    let class : c ≡ d = one_short (λ e. agents_of p.tables e p.net.cells) (λ e. l.cells) c d short (short_needed (λ e. agents_of q.tables e q.net.cells) (λ e. agents_of p.tables e p.net.cells) (λ e. l.cells) d needs shorter) in
+    let class : c ≡ d = one_short (λ e. agents_of p.tables e p.net.cells) (amount l.cells) c d short (short_needed (λ e. agents_of q.tables e q.net.cells) (λ e. agents_of p.tables e p.net.cells) (amount l.cells) d needs shorter) in
     let need_is : need ≡ more = is ∙ same_agents p q same c ∙ ap (λ (e : CellClass). agents_of q.tables e q.net.cells) class ∙ sym are in
-    (λ i. start_line (class i) (need_is i) ((all ∙ sym each) i))
+    (λ i. start_line (class i) (need_is i) ((all ∙ ap (amount l.cells) class ∙ sym each) i))
 
 one_finding : (text : List ℕ) (a : Action) (p q : Program) (x y : Finding) → AreOneProgram p q → IsAccepted text q → TakesTurns a → IsFinding a p x → IsFinding a q y → (finding_lines p x ≡ finding_lines q y) × (finding_status x ≡ finding_status y)
 one_finding text Check p q counted counted same valid turns h k = (ap accepted_line (counts_alike p q same), refl)

@@ -3,6 +3,7 @@
 use Rattle.std.specs.Prelude.{◌≡◌, ◌<◌, ◌+◌, ℕ, List, Option, IsSome}
 use Rattle.in_arena.specs.Classes.{amount}
 use Rattle.in_arena.specs.declared.content.CellClass.{CellClass}
+use Rattle.in_arena.specs.declared.content.CellCounts.{CellCounts}
 use Rattle.in_arena.specs.declared.content.End.{End}
 use Rattle.in_arena.specs.declared.content.End.TheVariants as end
 use Rattle.in_net.specs.declared.nets.Cell.{Cell}
@@ -43,7 +44,7 @@ abbrev pub HasItsPairs : MachineParts → Type 0
 HasItsPairs m = IsQueueOf m.program.tables (parts_of m) m.queue
 
 -- each class has that many cells, free ones and those of its agents
-abbrev pub HasCells : ℕ → MachineParts → Type 0
+abbrev pub HasCells : CellCounts → MachineParts → Type 0
 HasCells cells m = (c : CellClass) → count_of m.vacant c + agents_of m.program.tables c m.agents ≡ amount cells c
 
 -- .. and the other one has as many of each class

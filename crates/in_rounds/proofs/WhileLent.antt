@@ -3,9 +3,11 @@ use Rattle.std.proofs.Common.{◌≡◌, ◌⊎◌, inl, inr, ◌<◌, ◌≤◌
 use Rattle.std.proofs.lemmas.List.Elements.{All-cons, All-head, All-tail}
 use Rattle.in_arena.specs.Arenas.{ArenaView, NoneLeased, state_at}
 use Rattle.in_arena.specs.Bags.{IsBagOf, IsInBag}
+use Rattle.in_arena.specs.Classes.{all_of}
 use Rattle.in_arena.specs.States.{State, Vacant, Leased, Live, IsLeased}
 use Rattle.in_arena.proofs.Public.{leased_or}
 use Rattle.in_compile.specs.Stocks.{Regains}
+use Rattle.in_reducer.specs.Limiting.{AreAllowed}
 use Rattle.in_rounds.specs.Dones.{DoneParts}
 use Rattle.in_rounds.specs.Gathers.{bags_of}
 use Rattle.in_rounds.specs.Holding.{HaveAllLeased, Returns, holders}
@@ -83,11 +85,11 @@ module _ (r : Body) (b : ArenaView) (memory : b.memory ≡ r.arena.memory) (cell
   keeps_net k = record {
     reducer = subst IsReducer (sym view_same) k.reducer;
     net = subst (IsNetIn r.checked.now.tables) (sym (rest_same r.arena b memory cells many each)) k.net;
-    few = (let e = k.few in omega (arith, e, cells));
+    few = subst AreAllowed (sym cells) k.few;
     few_free = k.few_free;
     free = k.free;
     ends = k.ends;
-    queue = (let e = k.queue in omega (arith, e, cells));
+    queue = (let e = k.queue in omega (arith, e, ap all_of cells));
   }
 
   pub keeps_all : KeepsAll r → KeepsAll (over b r)

@@ -6,6 +6,7 @@ use Rattle.std.proofs.lemmas.Option.{same_Some}
 use Rattle.in_arena.specs.Arenas.{ArenaView, NoneLeased, state_at}
 use Rattle.in_arena.specs.States.{State, Vacant, Leased, Live, places, end_at, word_of}
 use Rattle.in_arena.specs.declared.content.End.{End}
+use Rattle.in_reducer.specs.Limiting.{AreAllowed}
 use Rattle.in_symbols.specs.declared.symbols.PortType.{PortType}
 use Rattle.in_symbols.specs.declared.symbols.SymbolNo.{SymbolNo}
 use Rattle.in_symbols.specs.Tables.{Tables, port_at}
@@ -299,7 +300,7 @@ module _ (r : Body) (k : KeepsNet r) (c i : ℕ) (can : CanCut (reducer_view r) 
       accepted = k.reducer.accepted;
       net = record { sound = sound; over = is_over t b gs list sound.net sound.within };
       queue = is_queue;
-      cells = (b.cells, (let e = kept.cells in let f = k.few in omega (arith, e, f)), λ d. cells_at_rest t b still_net d);
+      cells = (b.cells, subst AreAllowed (sym kept.cells) k.few, λ d. cells_at_rest t b still_net d);
     }
 
     pub cuts : NoneLeased r.arena → CutsAt (reducer_view r) c i after

@@ -8,6 +8,7 @@ use Rattle.in_arena.specs.Arenas.{ArenaView, NoneLeased, state_at}
 use Rattle.in_arena.specs.Classes.{all_of}
 use Rattle.in_arena.specs.States.{word_of}
 use Rattle.in_arena.specs.declared.content.End.{End}
+use Rattle.in_reducer.specs.Limiting.{AreAllowed}
 use Rattle.in_symbols.specs.declared.symbols.PortType.{PortType}
 use Rattle.in_symbols.specs.declared.symbols.SymbolNo.{SymbolNo}
 use Rattle.in_symbols.specs.Tables.{Tables, IsSymbol}
@@ -337,7 +338,7 @@ module _ (r : Body) (k : KeepsNet r) (two : 2 ≤ length r.free.items) (own : �
       accepted = k.reducer.accepted;
       net = record { sound = sound; over = is_over t b gs es sound.net sound.within };
       queue = h;
-      cells = (b.cells, (let e = kept.cells in let f = k.few in omega (arith, e, f)), λ d. cells_at_rest t b still_net d);
+      cells = (b.cells, subst AreAllowed (sym kept.cells) k.few, λ d. cells_at_rest t b still_net d);
     }
 
     -- the queue has room for as many pairs as `queue` has

@@ -2,7 +2,6 @@
 use Rattle.std.proofs.Common.{◌≡◌, ◌<◌, ◌+◌, ℕ, suc, Option, Some, None, IsSome, List, [], ◌∷◌, map, length, slice_get, option_map, option_and_then, refl, sym, ap, subst, ◌∙◌, arith}
 use native.Mathlib.Decide.{ℕ_discrete}
 use Rattle.std.proofs.lemmas.Option.{same_Some}
-use Rattle.in_arena.specs.Classes.{all_of}
 use Rattle.in_arena.specs.declared.content.CellCounts.{CellCounts}
 use Rattle.in_base.proofs.Among.{among_all, among_at}
 use Rattle.in_symbols.specs.Tables.{Tables, arity_of}

@@ -6,7 +6,7 @@ use Rattle.std.proofs.lemmas.List.{length-map, length-take-le}
 use Rattle.std.proofs.lemmas.Option.{same_Some}
 use native.Mathlib.Decide.{ℕ_discrete}
 use Rattle.in_arena.specs.Arenas.{ArenaView, NoneLeased, state_at}
-use Rattle.in_arena.specs.Classes.{IsNumberOf, holds}
+use Rattle.in_arena.specs.Classes.{IsNumberOf, all_of, holds}
 use Rattle.in_arena.specs.States.{Vacant, Leased, IsLeased, places, word_of}
 use Rattle.in_arena.specs.declared.content.CellClass.{CellClass}
 use Rattle.in_arena.specs.declared.content.CellCounts.{CellCounts}
@@ -14,6 +14,7 @@ use Rattle.in_arena.specs.declared.content.CellNo.{CellNo}
 use Rattle.in_arena.specs.declared.content.End.{End}
 use Rattle.in_arena.specs.declared.content.End.TheVariants as end
 use Rattle.in_arena.proofs.Public.{state_inside, numbers_apart}
+use Rattle.in_reducer.specs.Limiting.{AreAllowed}
 use Rattle.in_symbols.specs.Tables.{Tables, arity_of}
 use Rattle.in_net.specs.declared.nets.FreeEnd.{FreeEnd}
 use Rattle.in_net.specs.Nets.{Port, Free, Net, signature_of}
@@ -312,7 +313,7 @@ module _ (r o : Body) (k : KeepsNet r) (l : KeepsNet o) (can : CanAppend (reduce
           accepted = k.reducer.accepted;
           net = record { sound = sound; over = is_over t b (map (declared_as r.checked.now) new) list sound.net sound.within };
           queue = queue_after;
-          cells = (b.cells, (let e = copied.cells in let g = anew.cells in let f = k.few in omega (arith, e, f, g)), λ d. cells_at_rest t b still_net d);
+          cells = (b.cells, subst AreAllowed (sym (copied.cells ∙ anew.cells)) k.few, λ d. cells_at_rest t b still_net d);
         }
 
         -- the queue has room for all pairs
@@ -321,8 +322,8 @@ module _ (r o : Body) (k : KeepsNet r) (l : KeepsNet o) (can : CanAppend (reduce
         few_pairs =
             let short = short_queue after is_reducer in
             let e = k.queue in
-            let f = copied.cells in
-            let i = anew.cells in
+            let f = ap all_of copied.cells in
+            let i = ap all_of anew.cells in
             let g = ap length is_queue ∙ length-append r.queue.items (map (both (name_in names)) o.queue.items) in
             let h = length-map o.queue.items (both (name_in names)) in
             omega (arith, short, e, f, g, h, i)

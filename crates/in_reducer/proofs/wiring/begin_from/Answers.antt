@@ -1,5 +1,6 @@
-use Rattle.std.proofs.Common.{◌<◌, ◌+◌, ◌∷◌, [], ◌++◌, length, refl, ◌∙◌, arith}
+use Rattle.std.proofs.Common.{◌<◌, ◌+◌, ◌∷◌, [], ◌++◌, length, refl, ap, ◌∙◌, arith}
 use Rattle.std.proofs.lemmas.List.{length-set}
+use Rattle.in_arena.specs.Classes.{all_of}
 use Rattle.in_base.proofs.Each.{at_index}
 use Rattle.in_base.proofs.Places.{set_there}
 use Rattle.in_compile.proofs.Public.{one_more_begun, some_free}
@@ -15,7 +16,7 @@ begin-cell-requires-clause-all c =
     let b = c.loop-agent.invariant.begun q.0 q.1 q.2 in
     let all = q.1.all in
     let many = b.1.many in
-    let cells = b.1.cells in
+    let cells = ap all_of b.1.cells in
     omega (arith, all, many, cells)
 
 pub begin-cell-requires-clause-free : goal.begin-cell-requires-clause-free

@@ -1,6 +1,8 @@
 use Rattle.std.proofs.Common.{◌≡◌, ◌++◌, ℕ, List, map, reverse, length, length-append, slice_get, sym, ap, subst, ◌∙◌, arith}
 use Rattle.std.specs.Vec.{with_items}
 use Rattle.std.proofs.lemmas.List.{length-reverse, with_items_is}
+use Rattle.in_arena.specs.Classes.{all_of}
+use Rattle.in_reducer.specs.Limiting.{AreAllowed}
 use Rattle.in_symbols.specs.Tables.{Tables}
 use Rattle.in_interaction.specs.Queues.{both}
 use Rattle.in_compile.specs.Members.{MemberParts}
@@ -118,9 +120,9 @@ returns-clause-net c =
           c.take_out.new.queue.items c.queue_made.new.queue.items c.queue_own.new.queue.items
           c.take_out.ensures.items c.queue_made.ensures.items (c.queue_own.ensures.items ∙ ap (λ (z : List (ℕ × ℕ)). c.queue_made.new.queue.items ++ map (both (named r.tools.placed.cells)) z) pairs) (with_items r.ends es).items items;
       net = subst (λ (t : Tables). IsNetIn t (at_rest b)) c.symbols.ensures c.interact.ensures.net;
-      few = (let k = sb.net.few in omega (arith, cells, k));
+      few = subst AreAllowed (sym cells) sb.net.few;
       few_free = sb.net.few_free;
       free = sb.net.free;
       ends = (let k = sb.net.ends in let f = ap length items in omega (arith, k, f, long));
-      queue = (let k = sb.net.queue in let f = c.take_out.ensures.room in let g = c.queue_made.ensures.room in let h = c.queue_own.ensures.room in omega (arith, k, f, g, h, cells));
+      queue = (let k = sb.net.queue in let f = c.take_out.ensures.room in let g = c.queue_made.ensures.room in let h = c.queue_own.ensures.room in omega (arith, k, f, g, h, ap all_of cells));
     }

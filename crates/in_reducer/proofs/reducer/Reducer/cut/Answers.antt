@@ -1,7 +1,9 @@
 use Rattle.std.proofs.Common.{◌≡◌, ◌≤◌, ◌+◌, ℕ, List, [], ◌∷◌, ◌++◌, length, sym, ap, subst, ◌∙◌, arith}
 use Rattle.std.specs.Vec.{with_items}
 use Rattle.std.proofs.lemmas.List.{with_items_is}
+use Rattle.in_arena.specs.Classes.{all_of}
 use Rattle.in_arena.specs.declared.content.End.{End}
+use Rattle.in_reducer.specs.Limiting.{AreAllowed}
 use Rattle.in_symbols.specs.Tables.{Tables, port_at}
 use Rattle.in_symbols.specs.declared.symbols.PortType.{PortType}
 use Rattle.in_net.specs.Nets.{signature_of}
@@ -81,7 +83,7 @@ invariant_of-self-2 c =
         net = record {
           reducer = cut_off.is_reducer r k c.args.cell.0 c.args.place can b es c.len-own.result c.as_mut_slice.result.now c.symbol.result kind c.push_reserved-2.new.self.items c.free.result c.free-2.result c.push_reserved-4.new.self.items given;
           net = cut_off.still_net r k c.args.cell.0 c.args.place can b es c.len-own.result c.as_mut_slice.result.now c.symbol.result kind c.push_reserved-2.new.self.items c.free.result c.free-2.result c.push_reserved-4.new.self.items given;
-          few = (let e = kept.cells in let f = k.few in omega (arith, e, f));
+          few = subst AreAllowed (sym kept.cells) k.few;
           few_free = (let n = cut_off.two_longer r.free.items (Cut kind) (Cut c.opposite_of.result) c.push_reserved-2.new.self.items second in omega (arith, few, n));
           free = cut_off.own_ends r.checked.now r.free.items kind _ c.push_reserved-2.new.self.items new k.free;
           ends = (
@@ -90,7 +92,7 @@ invariant_of-self-2 c =
               let m = cut_off.two_longer es c.free.result c.free-2.result c.push_reserved-4.new.self.items list in
               omega (arith, f, n, m, long)
               );
-          queue = (let f = k.queue in let e = kept.cells in omega (arith, f, e));
+          queue = (let f = k.queue in let e = ap all_of kept.cells in omega (arith, f, e));
         };
         tools = record {
           placed = still.still_none r.tools.placed.bag r.arena b alike tools.placed;

@@ -2,13 +2,14 @@ use Rattle.std.proofs.Common.{◌≡◌, ◌≤◌, ◌+◌, ◌-◌, ◌*◌, �
 use Rattle.std.specs.Prelude.{All}
 use Rattle.std.proofs.lemmas.List.{length-take-le}
 use Rattle.in_arena.proofs.Public.{live_inside}
-use Rattle.in_arena.specs.Classes.{classes}
+use Rattle.in_arena.specs.Classes.{all_of, classes}
 use Rattle.in_arena.specs.declared.content.CellClass.TheVariants.{Small}
 use Rattle.in_arena.specs.declared.content.CellNo.{CellNo}
 use Rattle.in_arena.specs.declared.content.End.{End}
 use Rattle.in_interaction.specs.Queues.{both}
 use Rattle.in_cells.specs.Copying.{AreClosed, HasCellsFor, IsCopied, moved_end, name_in, number_in}
 use Rattle.in_cells.specs.TakingOut.{AreLedTo, AreNumberedAnew}
+use Rattle.in_reducer.specs.Limiting.{AreAllowed}
 use Rattle.in_reducer.specs.declared.body.Body.{Body}
 use Rattle.in_reducer.specs.declared.body.OwnEnd.{OwnEnd}
 use Rattle.in_reducer.specs.Gluing.{IsCellWithin, IsFreeWithin, glued}
@@ -300,12 +301,12 @@ invariant_of-self c =
         net = record {
           reducer = glue.is_reducer r o k l apart.can own cuts apart.rest apart.part agents live rest_numbers each_rest part_numbers each_part a anew ns b copied new is_new sides list is_list queue is_queue;
           net = together.still_net r o k l apart.can agents live (number_in rest_numbers) a anew part_numbers ns b copied;
-          few = (let e = copied.cells in let g = anew.cells in let f = k.few in omega (arith, e, f, g));
+          few = subst AreAllowed (sym (copied.cells ∙ anew.cells)) k.few;
           few_free = glue.few_free r o k l apart.can own cuts apart.rest apart.part agents live rest_numbers each_rest part_numbers each_part a anew ns b copied new is_new sides list is_list queue is_queue
               (let e = c.requires.ends in let f = x.few_free in let w = c.free_ends.ensures in let p = c.free_ends-count.ensures in let g = c.requires.fewer in omega (arith, e, f, w, p, g));
           free = glue.glued_own_ends r.checked.now o.checked.now own cuts r.free.items o.free.items new apart.can.program is_new apart.rest apart.part k.free l.free;
           ends = glue.enough_ends r o k l apart.can own cuts apart.rest apart.part agents live rest_numbers each_rest part_numbers each_part a anew ns b copied new is_new sides list is_list queue is_queue c.add_sides.ensures.items.1;
-          queue = (let f = k.queue in let e = copied.cells in let h = anew.cells in let g = c.add_pairs.ensures.room in omega (arith, e, f, g, h));
+          queue = (let f = k.queue in let e = ap all_of copied.cells in let h = ap all_of anew.cells in let g = c.add_pairs.ensures.room in omega (arith, e, f, g, h));
         };
         tools = record {
           placed = still.still_none r.tools.placed.bag r.arena b alike tools.placed;

@@ -1,7 +1,9 @@
 use Rattle.std.proofs.Common.{◌≡◌, ◌≤◌, ◌+◌, ◌-◌, ℕ, suc, List, [], ◌++◌, length, length-append, reverse, take, slice_get, refl, sym, ap, subst, ◌∙◌, arith}
 use Rattle.std.specs.Vec.{with_items}
 use Rattle.std.proofs.lemmas.List.{length-reverse, with_items_is}
+use Rattle.in_arena.specs.Classes.{all_of}
 use Rattle.in_arena.specs.declared.content.End.{End}
+use Rattle.in_reducer.specs.Limiting.{AreAllowed}
 use Rattle.in_symbols.specs.Tables.{Tables}
 use Rattle.in_net.specs.Nets.{Net, signature_of}
 use Rattle.in_interaction.specs.Queues.{IsQueueOf}
@@ -139,11 +141,11 @@ invariant_of-self c =
         net = record {
           reducer = rejoined.is_reducer r k two own is_own b es kept long joins can new is_new c.queue_made.new.queue.items (subst (IsQueueOf r.checked.now.tables _) (sym c.queue_made.ensures.items) queue);
           net = rejoined.still_net r k two own is_own b es kept long joins can new is_new;
-          few = (let e = kept.cells in let f = k.few in omega (arith, e, f));
+          few = subst AreAllowed (sym kept.cells) k.few;
           few_free = (let f = k.few_free in omega (arith, f, fewer, is_own));
           free = rejoined.own_ends r k two own is_own b es kept long joins can new is_new;
           ends = (let f = k.ends in omega (arith, f, fewer, is_own, long));
-          queue = (let f = k.queue in let e = kept.cells in let q = c.queue_made.ensures.room in omega (arith, f, e, q));
+          queue = (let f = k.queue in let e = ap all_of kept.cells in let q = c.queue_made.ensures.room in omega (arith, f, e, q));
         };
         tools = record {
           placed = still.still_none r.tools.placed.bag r.arena b alike tools.placed;

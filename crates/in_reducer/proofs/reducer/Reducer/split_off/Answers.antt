@@ -244,11 +244,11 @@ invariant_of-self c =
         net = record {
           reducer = kept.rest_reducer r k a own cuts can x h q c.split_queue.ensures.rest;
           net = cells.rest_net r k a own cuts can (number_in x.rest_numbers) x.left h.lost;
-          few = (let e = h.lost.cells in let l = k.few in omega (arith, e, l));
+          few = subst AreAllowed (sym h.lost.cells) k.few;
           few_free = kept.rest_few r k a own cuts can x h;
           free = kept.picked_own r.checked.now (place_of_two own 0) (own + cuts) r.free.items x.rest_free h.rest_free k.free;
           ends = nets.rest_room r k a own cuts can x h;
-          queue = (let e = h.lost.cells in let l = k.queue in let g = c.split_queue.ensures.rest_room in omega (arith, e, l, g));
+          queue = (let e = ap all_of h.lost.cells in let l = k.queue in let g = c.split_queue.ensures.rest_room in omega (arith, e, l, g));
         };
         tools = kept.tools_stay r.tools r.arena x.left (cells.rest_alike r k a own cuts can (number_in x.rest_numbers) x.left h.lost) c.self.invariant.all.tools;
       };

@@ -1,9 +1,11 @@
 use Rattle.std.proofs.Common.{◌≡◌, ◌<◌, ◌++◌, ℕ, Some, length, map, slice_get, refl, sym, ap, subst, ◌∙◌, arith}
 use Rattle.std.specs.Vec.{with_items}
 use Rattle.std.proofs.lemmas.List.{with_items_is}
+use Rattle.in_arena.specs.Classes.{all_of}
 use Rattle.in_interaction.specs.Queues.{both}
 use Rattle.in_compile.specs.Members.{MemberParts}
 use Rattle.in_reducer.specs.Interacting.{named}
+use Rattle.in_reducer.specs.Limiting.{AreAllowed}
 use Rattle.in_reducer.specs.Machines.{MachineParts}
 use Rattle.in_reducer.specs.Steps.{HasRoomAt, StepsAt}
 use Rattle.in_reducer.specs.Templates.{IsTemplateAt}
@@ -128,11 +130,11 @@ invariant_of-self c =
         net = record {
           reducer = place.is_reducer r k i p at room none pair own refl ends about old a es points middle up long c.take_out.ensures.items c.queue_begun.new.queue.items queue zs.items is_ends;
           net = place.net r k i p at room none pair own refl ends about old a es points middle up long;
-          few = (let f = k.few in omega (arith, f, cells));
+          few = subst AreAllowed (sym cells) k.few;
           few_free = k.few_free;
           free = k.free;
           ends = (let f = k.ends in let g = ap length is_ends in omega (arith, f, g, long));
-          queue = (let f = k.queue in let g = c.take_out.ensures.room in let h = c.wire_up.ensures.capacity in let l = c.queue_begun.ensures.room in omega (arith, f, g, h, l, cells));
+          queue = (let f = k.queue in let g = c.take_out.ensures.room in let h = c.wire_up.ensures.capacity in let l = c.queue_begun.ensures.room in omega (arith, f, g, h, l, ap all_of cells));
         };
         tools = record {
           placed = still.none_there r.tools.placed.bag r.arena a memory cells tools.placed;
