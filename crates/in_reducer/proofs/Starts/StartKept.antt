@@ -97,11 +97,11 @@ module _ (text : List ℕ) (x : Body) (ts : TemplatesParts) (m : MemberParts) (c
         net = record {
           reducer = start_reducer text x.checked.now accepted cells few (reducer_view x) starts;
           net = net_in_cells text x.checked.now accepted m member ns a x.arena cells same empty put;
-          few = (let e = cells_there in omega (arith, e, few));
+          few = subst AreAllowed (sym cells_there) few;
           few_free = (let e = free_many in let l = few_joints text x.checked.now accepted m member in omega (arith, e, l));
           free = own;
           ends = (let e = free_many in omega (arith, e, long));
-          queue = (let e = cells_there in omega (arith, e, room));
+          queue = (let e = ap all_of cells_there in omega (arith, e, room));
         };
         tools = tools_there;
       };
