@@ -7,6 +7,7 @@ use Rattle.clap.specs.declared.builder.value_parser.ValueParser.TheVariants.{Uns
 use Rattle.clap.specs.declared.error.kind.ErrorKind.TheVariants.{ValueValidation}
 use Rattle.clap.proofs.OnLiterals.{clap_on_literals}
 use Rattle.clap.proofs.ValueTestLemmas.{accepts-Accepts}
+use Rattle.in_arena.specs.Limiting.{most_larger_cells, most_small_cells}
 use Rattle.in_limits.specs.Limiting.{least_cells, most_cells, most_interactions, most_workers}
 use Rattle.in_command_line.specs.Asking.{Spells, faults}
 use Rattle.in_command_line.specs.Laws.{HelpIsAsked, NumbersOutOfRangeAreWrong, OtherWordsAreWrong, VersionIsAsked}
@@ -48,9 +49,24 @@ cells_wrong : (text : Text) → accepts false (Unsigned least_cells most_cells) 
 unfolding clap_on_literals
 cells_wrong text is = rw is refl
 
+small_wrong : (text : Text) → accepts false (Unsigned least_cells most_small_cells) text ≡ false → faults (codes "inet" ∷ codes "run" ∷ (codes "--small-cells=" ++ text) ∷ []) ≡ ValueValidation ∷ []
+unfolding clap_on_literals
+small_wrong text is = rw is refl
+
+large_wrong : (text : Text) → accepts false (Unsigned least_cells most_larger_cells) text ≡ false → faults (codes "inet" ∷ codes "run" ∷ (codes "--large-cells=" ++ text) ∷ []) ≡ ValueValidation ∷ []
+unfolding clap_on_literals
+large_wrong text is = rw is refl
+
+wide_wrong : (text : Text) → accepts false (Unsigned least_cells most_larger_cells) text ≡ false → faults (codes "inet" ∷ codes "run" ∷ (codes "--wide-cells=" ++ text) ∷ []) ≡ ValueValidation ∷ []
+unfolding clap_on_literals
+wide_wrong text is = rw is refl
+
 pub numbers_wrong : NumbersOutOfRangeAreWrong
 numbers_wrong text n spells = (
   λ out. workers_wrong text (unaccepted 1 most_workers n text spells out),
   λ many. limit_wrong text (unaccepted 0 most_interactions n text spells (inr many)),
   λ out. cells_wrong text (unaccepted least_cells most_cells n text spells out),
+  λ out. small_wrong text (unaccepted least_cells most_small_cells n text spells out),
+  λ out. large_wrong text (unaccepted least_cells most_larger_cells n text spells out),
+  λ out. wide_wrong text (unaccepted least_cells most_larger_cells n text spells out),
 )
