@@ -1,9 +1,8 @@
 -- The requests of words that are written out.
-use Rattle.std.proofs.Common.{◌≡◌, ◌<◌, ◌≤◌, ◌^◌, ℕ, ◌++◌, Bool, true, false, cond, List, [], ◌∷◌, Some, refl, ◌∙◌, ap, arith, rules}
+use Rattle.std.proofs.Common.{◌≡◌, ◌<◌, ◌≤◌, ◌^◌, ℕ, ◌++◌, Bool, true, false, List, [], ◌∷◌, Some, refl, ◌∙◌, ap, arith, rules}
 use Rattle.std.specs.Prelude.{codes}
 use Rattle.clap.specs.Kinds.{Kinds, or_else}
 use Rattle.clap.specs.ValueTests.{accepts}
-use Rattle.clap.specs.declared.error.kind.ErrorKind.TheVariants.{ValueValidation}
 use Rattle.clap.specs.Walk.{Row, Text}
 use Rattle.clap.specs.Simple.{subcommand_of}
 use Rattle.clap.specs.declared.builder.value_parser.ValueParser.TheVariants.{Unsigned}
@@ -18,6 +17,7 @@ use Rattle.in_limits.specs.Limiting.{least_cells, most_cells, most_interactions,
 use Rattle.in_command_line.specs.Asking.{HasLimits, Spells, faults}
 use Rattle.in_command_line.specs.CommandLine.{command_line}
 use Rattle.in_command_line.proofs.Options.{new_row}
+use Rattle.in_command_line.proofs.Refusals.{in_word}
 use Rattle.in_command_line.specs.Laws.{FilesAreAsked, FlagsAreAsked, RunAsksForEachClass, RunAsksForTheGiven, RunAsksForTheOthers, RunAsksForTheUsual, SubcommandsAsk, AreUsualLimits}
 
 abbrev check_words : List Text
@@ -92,10 +92,7 @@ run_given : subcommand_of command_line run_words ≡ Some (codes "run", usual_ro
 unfolding clap_on_literals
 run_given = refl
 
--- the errors in a word with a number, in three of them, and in two
-abbrev in_word : Bool → Kinds
-in_word b = or_else (or_else (cond b [] (ValueValidation ∷ [])) []) []
-
+-- the errors in three words with numbers, and in two
 abbrev in_words : Bool → Bool → Bool → Kinds
 in_words workers limit cells = or_else (or_else (or_else (in_word workers) (or_else (in_word limit) (or_else (in_word cells) []))) []) []
 

@@ -1,6 +1,7 @@
 -- The errors that `clap` finds in words that are written out.
-use Rattle.std.proofs.Common.{◌≡◌, ◌<◌, ◌⊎◌, ℕ, ◌++◌, Bool, true, false, [], ◌∷◌, refl, inl, inr, arith}
+use Rattle.std.proofs.Common.{◌≡◌, ◌<◌, ◌⊎◌, ℕ, ◌++◌, Bool, true, false, cond, [], ◌∷◌, refl, inl, inr, arith}
 use Rattle.std.specs.Prelude.{codes}
+use Rattle.clap.specs.Kinds.{Kinds, or_else}
 use Rattle.clap.specs.ValueTests.{accepts}
 use Rattle.clap.specs.Walk.{Text}
 use Rattle.clap.specs.declared.builder.value_parser.ValueParser.TheVariants.{Unsigned}
@@ -37,29 +38,40 @@ unaccepted least most n text spells out = go (accepts false (Unsigned least most
           | inr many ↦ absurd (omega (arith, spells.1, a.3, many))
         ]
 
+-- the errors in a word with a number
+abbrev pub in_word : Bool → Kinds
+in_word b = or_else (or_else (cond b [] (ValueValidation ∷ [])) []) []
+
+-- .. and in words of which one has a number
+abbrev in_one_word : Bool → Kinds
+in_one_word b = or_else (or_else (or_else (in_word b) []) []) []
+
+one_wrong : (b : Bool) → b ≡ false → in_one_word b ≡ ValueValidation ∷ []
+one_wrong b is = rw is refl
+
 workers_wrong : (text : Text) → accepts false (Unsigned 1 most_workers) text ≡ false → faults (codes "inet" ∷ codes "run" ∷ (codes "--workers=" ++ text) ∷ []) ≡ ValueValidation ∷ []
 unfolding clap_on_literals
-workers_wrong text is = rw is refl
+workers_wrong text is = one_wrong (accepts false (Unsigned 1 most_workers) text) is
 
 limit_wrong : (text : Text) → accepts false (Unsigned 0 most_interactions) text ≡ false → faults (codes "inet" ∷ codes "run" ∷ (codes "--limit=" ++ text) ∷ []) ≡ ValueValidation ∷ []
 unfolding clap_on_literals
-limit_wrong text is = rw is refl
+limit_wrong text is = one_wrong (accepts false (Unsigned 0 most_interactions) text) is
 
 cells_wrong : (text : Text) → accepts false (Unsigned least_cells most_cells) text ≡ false → faults (codes "inet" ∷ codes "run" ∷ (codes "--cells=" ++ text) ∷ []) ≡ ValueValidation ∷ []
 unfolding clap_on_literals
-cells_wrong text is = rw is refl
+cells_wrong text is = one_wrong (accepts false (Unsigned least_cells most_cells) text) is
 
 small_wrong : (text : Text) → accepts false (Unsigned least_cells most_small_cells) text ≡ false → faults (codes "inet" ∷ codes "run" ∷ (codes "--small-cells=" ++ text) ∷ []) ≡ ValueValidation ∷ []
 unfolding clap_on_literals
-small_wrong text is = rw is refl
+small_wrong text is = one_wrong (accepts false (Unsigned least_cells most_small_cells) text) is
 
 large_wrong : (text : Text) → accepts false (Unsigned least_cells most_larger_cells) text ≡ false → faults (codes "inet" ∷ codes "run" ∷ (codes "--large-cells=" ++ text) ∷ []) ≡ ValueValidation ∷ []
 unfolding clap_on_literals
-large_wrong text is = rw is refl
+large_wrong text is = one_wrong (accepts false (Unsigned least_cells most_larger_cells) text) is
 
 wide_wrong : (text : Text) → accepts false (Unsigned least_cells most_larger_cells) text ≡ false → faults (codes "inet" ∷ codes "run" ∷ (codes "--wide-cells=" ++ text) ∷ []) ≡ ValueValidation ∷ []
 unfolding clap_on_literals
-wide_wrong text is = rw is refl
+wide_wrong text is = one_wrong (accepts false (Unsigned least_cells most_larger_cells) text) is
 
 pub numbers_wrong : NumbersOutOfRangeAreWrong
 numbers_wrong text n spells = (

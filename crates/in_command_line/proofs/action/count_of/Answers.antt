@@ -18,4 +18,4 @@ returns-else-contains_id c =
     let found = found_of c.args.options.now in
     let name = c.args.name.now in
     let own : has_row name (rows_of found) ≡ false = row_if_matched found name ∙ sym c.contains_id.ensures ∙ c.if-contains_id.false in
-    subst (λ (b : Bool). IsOptionGiven (cond b name (codes "cells")) (rows_of found) c.number_of-2.result) (sym own) c.number_of-2.ensures
+    subst (λ (b : Bool). IsOptionGiven (cond b name (codes "cells")) (rows_of found) c.number_of-else-contains_id.result) (sym own) c.number_of-else-contains_id.ensures
