@@ -30,8 +30,8 @@ pub class_of_number : (cells : CellCounts) (n : ℕ) → n < all_of cells → (c
 class_of_number cells n lt =
     ⊎_elim
     (λ first. (Small, (omega arith, omega (arith, first))))
-    (λ after. ⊎_elim (λ second. (Large, (omega (arith, after), omega (arith, second)))) (λ third. (Wide, (omega (arith, third), omega (arith, lt)))) (cases_lt n (cells.small + cells.large)))
-    (cases_lt n cells.small)
+    (λ after. ⊎_elim (λ second. (Large, (omega (arith, after), omega (arith, second)))) (λ third. (Wide, (omega (arith, third), omega (arith, lt)))) (cases_lt n (cells.small_cells + cells.large_cells)))
+    (cases_lt n cells.small_cells)
 
 pub numbers_apart : (cells : CellCounts) (n : ℕ) (c d : CellClass) → IsNumberOf cells c n → IsNumberOf cells d n → c ≡ d
 numbers_apart cells n Small Small p q = refl
@@ -71,8 +71,8 @@ same_class Wide Large e = absurd (omega (arith, e))
 -- the number of cells of the first k classes
 abbrev pub of_first : CellCounts → ℕ → ℕ
 of_first cells zero = 0
-of_first cells (suc zero) = cells.small
-of_first cells (suc (suc zero)) = cells.small + cells.large
+of_first cells (suc zero) = cells.small_cells
+of_first cells (suc (suc zero)) = cells.small_cells + cells.large_cells
 of_first cells (suc (suc (suc k))) = all_of cells
 
 -- the classes before one have the cells before its first

@@ -81,6 +81,6 @@ memory_is block cells row c = at_class block null_ptr c
 pub alike : (block : CellClass → Ptr) (cells : CellCounts) (row : CellClass → List State) (x : State) → ((c : CellClass) → row c ≡ replicate (amount cells c) x) → (seen block cells row).states ≡ replicate (all_of cells) x
 alike block cells row x same =
     let none : List State = [] in let all : (seen block cells row).states ≡ row Small ++ (row Large ++ (row Wide ++ none)) = refl in
-    all ∙ ap (λ l. l ++ (row Large ++ (row Wide ++ none))) (same Small) ∙ ap (λ l. replicate cells.small x ++ (l ++ (row Wide ++ none))) (same Large) ∙ ap (λ l. replicate cells.small x ++ (replicate cells.large x ++ (l ++ none))) (same Wide)
-    ∙ ap (λ l. replicate cells.small x ++ (replicate cells.large x ++ l)) (replicate-append-replicate cells.wide 0 x) ∙ ap (λ l. replicate cells.small x ++ l) (replicate-append-replicate cells.large (cells.wide + 0) x)
-    ∙ replicate-append-replicate cells.small (cells.large + (cells.wide + 0)) x ∙ ap (λ n. replicate n x) (omega arith)
+    all ∙ ap (λ l. l ++ (row Large ++ (row Wide ++ none))) (same Small) ∙ ap (λ l. replicate cells.small_cells x ++ (l ++ (row Wide ++ none))) (same Large) ∙ ap (λ l. replicate cells.small_cells x ++ (replicate cells.large_cells x ++ (l ++ none))) (same Wide)
+    ∙ ap (λ l. replicate cells.small_cells x ++ (replicate cells.large_cells x ++ l)) (replicate-append-replicate cells.wide_cells 0 x) ∙ ap (λ l. replicate cells.small_cells x ++ l) (replicate-append-replicate cells.large_cells (cells.wide_cells + 0) x)
+    ∙ replicate-append-replicate cells.small_cells (cells.large_cells + (cells.wide_cells + 0)) x ∙ ap (λ n. replicate n x) (omega arith)

@@ -81,15 +81,15 @@ near_below Wide cells i lt = omega (arith, lt)
 abbrev pub among_larger : CellClass → CellCounts → ℕ → ℕ
 among_larger Small cells i = 0
 among_larger Large cells i = i
-among_larger Wide cells i = cells.large + i
+among_larger Wide cells i = cells.large_cells + i
 
 -- further words of a cell, by their bounds
-middle_bounds : (c : CellClass) (cells : CellCounts) (i k : ℕ) → i < amount cells c → k < 6 → k + 4 < slots c → (middle_of c cells i ≡ middle_start cells + 6 * among_larger c cells i) × (first_of cells c + i ≡ cells.small + among_larger c cells i) × (among_larger c cells i < cells.large + cells.wide)
+middle_bounds : (c : CellClass) (cells : CellCounts) (i k : ℕ) → i < amount cells c → k < 6 → k + 4 < slots c → (middle_of c cells i ≡ middle_start cells + 6 * among_larger c cells i) × (first_of cells c + i ≡ cells.small_cells + among_larger c cells i) × (among_larger c cells i < cells.large_cells + cells.wide_cells)
 middle_bounds Small cells i k lt few in_it = absurd (omega (arith, in_it))
 middle_bounds Large cells i k lt few in_it = (refl, refl, omega (arith, lt))
 middle_bounds Wide cells i k lt few in_it = (refl, omega arith, omega (arith, lt))
 
-far_bounds : (c : CellClass) (cells : CellCounts) (i k : ℕ) → i < amount cells c → k + 10 < slots c → (first_of cells c + i ≡ cells.small + cells.large + i) × (i < cells.wide)
+far_bounds : (c : CellClass) (cells : CellCounts) (i k : ℕ) → i < amount cells c → k + 10 < slots c → (first_of cells c + i ≡ cells.small_cells + cells.large_cells + i) × (i < cells.wide_cells)
 far_bounds Small cells i k lt in_it = absurd (omega (arith, in_it))
 far_bounds Large cells i k lt in_it = absurd (omega (arith, in_it))
 far_bounds Wide cells i k lt in_it = (refl, lt)
@@ -97,8 +97,8 @@ far_bounds Wide cells i k lt in_it = (refl, lt)
 -- a word of a cell is in one of the three parts of the row
 data IsInPart (c : CellClass) (cells : CellCounts) (i q : ℕ) : Type 0 where
   Near : q < 4 → spot c cells i q ≡ 4 * (first_of cells c + i) + q → first_of cells c + i < all_of cells → IsInPart c cells i q
-  Middle : 4 ≤ q → q < 10 → (m : ℕ) → spot c cells i q ≡ middle_start cells + 6 * m + (q - 4) → first_of cells c + i ≡ cells.small + m → m < cells.large + cells.wide → IsInPart c cells i q
-  Far : 10 ≤ q → q < 18 → spot c cells i q ≡ far_start cells + 8 * i + (q - 10) → first_of cells c + i ≡ cells.small + cells.large + i → i < cells.wide → IsInPart c cells i q
+  Middle : 4 ≤ q → q < 10 → (m : ℕ) → spot c cells i q ≡ middle_start cells + 6 * m + (q - 4) → first_of cells c + i ≡ cells.small_cells + m → m < cells.large_cells + cells.wide_cells → IsInPart c cells i q
+  Far : 10 ≤ q → q < 18 → spot c cells i q ≡ far_start cells + 8 * i + (q - 10) → first_of cells c + i ≡ cells.small_cells + cells.large_cells + i → i < cells.wide_cells → IsInPart c cells i q
 
 slots_few : (c : CellClass) → slots c ≤ 18
 slots_few Small = omega arith
@@ -178,10 +178,10 @@ all_some cells x lt = let s = some in (s.class, s.index, s.slot, s.inside, s.in_
         (λ a. near_some cells x Small (x / 4) (omega (arith, a)) (omega arith))
         (λ a.
         ⊎_elim
-        (λ b. near_some cells x Large (x / 4 - cells.small) (omega (arith, a, b)) (omega (arith, a)))
-        (λ b. near_some cells x Wide (x / 4 - cells.small - cells.large) (omega (arith, a, b, e)) (omega (arith, a, b)))
-        (cases_lt x (4 * (cells.small + cells.large))))
-        (cases_lt x (4 * cells.small))
+        (λ b. near_some cells x Large (x / 4 - cells.small_cells) (omega (arith, a, b)) (omega (arith, a)))
+        (λ b. near_some cells x Wide (x / 4 - cells.small_cells - cells.large_cells) (omega (arith, a, b, e)) (omega (arith, a, b)))
+        (cases_lt x (4 * (cells.small_cells + cells.large_cells))))
+        (cases_lt x (4 * cells.small_cells))
 
     -- among the further words of large and of wide cells
     middle : middle_start cells ≤ x → x < far_start cells → IsOfSome cells x
@@ -190,9 +190,9 @@ all_some cells x lt = let s = some in (s.class, s.index, s.slot, s.inside, s.in_
         ⊎_elim
         (λ a. record { class = Large; index = y / 6; slot = y % 6 + 4; inside = omega (arith, e, a); in_it = omega (arith, few); is = omega (arith, e, few, spot_middle Large cells (y / 6) (y % 6 + 4) (omega arith) (omega (arith, few))) })
         (λ a.
-        let i = y / 6 - cells.large in
+        let i = y / 6 - cells.large_cells in
         record { class = Wide; index = i; slot = y % 6 + 4; inside = omega (arith, e, f, a); in_it = omega (arith, few); is = omega (arith, e, a, few, spot_middle Wide cells i (y % 6 + 4) (omega arith) (omega (arith, few))) })
-        (cases_lt (y / 6) cells.large)
+        (cases_lt (y / 6) cells.large_cells)
 
     -- among the last words
     far : far_start cells ≤ x → IsOfSome cells x

@@ -34,23 +34,23 @@ holds c n = nat_le (least c) n && nat_le n (width c)
 
 -- the number of cells of a class
 abbrev pub amount : CellCounts → CellClass → ℕ
-amount cells Small = cells.small
-amount cells Large = cells.large
-amount cells Wide = cells.wide
+amount cells Small = cells.small_cells
+amount cells Large = cells.large_cells
+amount cells Wide = cells.wide_cells
 
 -- this number of cells of each class
 abbrev pub each : ℕ → CellCounts
-each n = record { small = n; large = n; wide = n }
+each n = record { small_cells = n; large_cells = n; wide_cells = n }
 
 -- the number of cells of all classes
 abbrev pub all_of : CellCounts → ℕ
-all_of cells = cells.small + cells.large + cells.wide
+all_of cells = cells.small_cells + cells.large_cells + cells.wide_cells
 
 -- the number of the first cell of a class: the cells of a class come after those of the class before
 abbrev pub first_of : CellCounts → CellClass → ℕ
 first_of cells Small = 0
-first_of cells Large = cells.small
-first_of cells Wide = cells.small + cells.large
+first_of cells Large = cells.small_cells
+first_of cells Wide = cells.small_cells + cells.large_cells
 
 -- in an arena with that many cells of each class, n is the number of one of class c
 abbrev pub IsNumberOf : CellCounts → CellClass → ℕ → Type 0

@@ -12,9 +12,9 @@ most_larger_cells = 8388608
 
 -- an arena may have that many cells
 pub record AreAllowed (cells : CellCounts) : Type 0 where
-  pub small : cells.small ≤ most_small_cells
-  pub large : cells.large ≤ most_larger_cells
-  pub wide : cells.wide ≤ most_larger_cells
+  pub small : cells.small_cells ≤ most_small_cells
+  pub large : cells.large_cells ≤ most_larger_cells
+  pub wide : cells.wide_cells ≤ most_larger_cells
 
 -- the most cells of each class where there are as many of each
 abbrev pub most_cells : ℕ

@@ -30,11 +30,11 @@ abbrev pub middle_start : CellCounts → ℕ
 middle_start cells = 4 * all_of cells
 
 abbrev pub far_start : CellCounts → ℕ
-far_start cells = middle_start cells + 6 * (cells.large + cells.wide)
+far_start cells = middle_start cells + 6 * (cells.large_cells + cells.wide_cells)
 
 -- the number of words of the row
 abbrev pub words_of : CellCounts → ℕ
-words_of cells = far_start cells + 8 * cells.wide
+words_of cells = far_start cells + 8 * cells.wide_cells
 
 -- where the words of a cell begin in each part
 abbrev pub near_of : CellClass → CellCounts → ℕ → ℕ
@@ -43,7 +43,7 @@ near_of c cells i = 4 * (first_of cells c + i)
 abbrev pub middle_of : CellClass → CellCounts → ℕ → ℕ
 middle_of Small cells i = 0
 middle_of Large cells i = middle_start cells + 6 * i
-middle_of Wide cells i = middle_start cells + 6 * (cells.large + i)
+middle_of Wide cells i = middle_start cells + 6 * (cells.large_cells + i)
 
 abbrev pub far_of : CellCounts → ℕ → ℕ
 far_of cells i = far_start cells + 8 * i

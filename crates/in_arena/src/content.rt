@@ -138,17 +138,17 @@ impl CellClass {
 /// A number of cells of each class.
 #[derive(Clone, Copy, Debug, PartialEq, Eq)]
 pub struct CellCounts {
-    pub small: u32,
-    pub large: u32,
-    pub wide: u32,
+    pub small_cells: u32,
+    pub large_cells: u32,
+    pub wide_cells: u32,
 }
 
 impl CellCounts {
     /// The most cells of each class that an arena may have. Together they are as many as there are numbers in words.
     pub const MOST: CellCounts = CellCounts {
-        small: 16_777_216,
-        large: 8_388_608,
-        wide: 8_388_608,
+        small_cells: 16_777_216,
+        large_cells: 8_388_608,
+        wide_cells: 8_388_608,
     };
 
     /// This number of cells of each class.
@@ -156,9 +156,9 @@ impl CellCounts {
         ensures { result ≡ each cells }
     {
         CellCounts {
-            small: cells,
-            large: cells,
-            wide: cells,
+            small_cells: cells,
+            large_cells: cells,
+            wide_cells: cells,
         }
     }
 
@@ -168,9 +168,9 @@ impl CellCounts {
         ensures { result ≡ amount self class }
     {
         match class {
-            CellClass::Small => self.small,
-            CellClass::Large => self.large,
-            CellClass::Wide => self.wide,
+            CellClass::Small => self.small_cells,
+            CellClass::Large => self.large_cells,
+            CellClass::Wide => self.wide_cells,
         }
     }
 
@@ -182,8 +182,8 @@ impl CellCounts {
     {
         match class {
             CellClass::Small => 0,
-            CellClass::Large => self.small,
-            CellClass::Wide => self.small + self.large,
+            CellClass::Large => self.small_cells,
+            CellClass::Wide => self.small_cells + self.large_cells,
         }
     }
 
@@ -192,7 +192,7 @@ impl CellCounts {
         requires { AreAllowed self }
         ensures { result ≡ all_of self }
     {
-        self.small + self.large + self.wide
+        self.small_cells + self.large_cells + self.wide_cells
     }
 
     /// Whether an arena may have that many cells: at most 16,777,216 small ones, 8,388,608 large ones and 8,388,608 wide ones, which is this
@@ -200,8 +200,8 @@ impl CellCounts {
     pub fn are_allowed(self) -> bool
         ensures { IsTrue result ↔ AreAllowed self }
     {
-        self.small <= CellCounts::MOST.small
-            && self.large <= CellCounts::MOST.large
-            && self.wide <= CellCounts::MOST.wide
+        self.small_cells <= CellCounts::MOST.small_cells
+            && self.large_cells <= CellCounts::MOST.large_cells
+            && self.wide_cells <= CellCounts::MOST.wide_cells
     }
 }

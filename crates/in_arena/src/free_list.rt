@@ -41,9 +41,9 @@ impl FreeLists {
     {
         FreeLists {
             lists: [
-                FreeList::unused(cells.small),
-                FreeList::unused(cells.large),
-                FreeList::unused(cells.wide),
+                FreeList::unused(cells.small_cells),
+                FreeList::unused(cells.large_cells),
+                FreeList::unused(cells.wide_cells),
             ],
         }
     }

@@ -22,22 +22,22 @@ pub fn spot_of(cells: CellCounts, cell: CellNo) -> Spot
     requires { AreAllowed cells × (cell.0 < all_of cells) }
     ensures { (result.cells ≡ cells) × IsPlace cells cell.0 result.class result.index }
 {
-    if cell.0 < cells.small {
+    if cell.0 < cells.small_cells {
         Spot {
             class: CellClass::Small,
             index: cell.0,
             cells,
         }
-    } else if cell.0 - cells.small < cells.large {
+    } else if cell.0 - cells.small_cells < cells.large_cells {
         Spot {
             class: CellClass::Large,
-            index: cell.0 - cells.small,
+            index: cell.0 - cells.small_cells,
             cells,
         }
     } else {
         Spot {
             class: CellClass::Wide,
-            index: cell.0 - cells.small - cells.large,
+            index: cell.0 - cells.small_cells - cells.large_cells,
             cells,
         }
     }
@@ -60,7 +60,7 @@ pub fn words_of(cells: CellCounts) -> usize
     requires { AreAllowed cells }
     ensures { result ≡ words_of cells }
 {
-    far_start(cells) + 8 * cells.wide as usize
+    far_start(cells) + 8 * cells.wide_cells as usize
 }
 
 /// Where the second part of the row begins.
@@ -78,7 +78,7 @@ fn far_start(cells: CellCounts) -> usize
     requires { AreAllowed cells }
     ensures { result ≡ far_start cells }
 {
-    middle_start(cells) + 6 * (cells.large as usize + cells.wide as usize)
+    middle_start(cells) + 6 * (cells.large_cells as usize + cells.wide_cells as usize)
 }
 
 /// The word of a place that the cell has, where there are `cells` of each class.
@@ -90,11 +90,11 @@ pub fn place_word(cells: CellCounts, cell: CellNo, place: u8) -> usize
     if place < HEAD {
         return near_word(cell, place);
     }
-    let number = cell.0 as usize - cells.small as usize;
+    let number = cell.0 as usize - cells.small_cells as usize;
     if place < 9 {
         middle_start(cells) + 6 * number + (place as usize - 3)
     } else {
-        far_start(cells) + 8 * (number - cells.large as usize) + (place as usize - 9)
+        far_start(cells) + 8 * (number - cells.large_cells as usize) + (place as usize - 9)
     }
 }
 

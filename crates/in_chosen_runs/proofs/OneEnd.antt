@@ -1,10 +1,11 @@
 -- Machines that are the same up to the numbers of their agents do the same choices, and lead to the same.
 use Rattle.std.proofs.Common.{◌≡◌, ◌⊎◌, inl, inr, ◌<◌, ◌≤◌, ℕ, zero, suc, List, [], ◌∷◌, length, take, slice_get, Some, refl, sym, ap, subst, arith}
 use Rattle.std.proofs.lemmas.Option.{slice_get_cases, slice_get_within}
+use Rattle.in_arena.specs.declared.content.CellCounts.{CellCounts}
 use Rattle.in_check.specs.Checking.{IsAccepted}
 use Rattle.in_check.specs.Programs.{Program}
 use Rattle.in_compile.specs.Cells.{count_of, IsEnough}
-use Rattle.in_reducer.specs.Limiting.{most_cells}
+use Rattle.in_reducer.specs.Limiting.{AreAllowed}
 use Rattle.in_reducer.specs.Machines.{MachineParts}
 use Rattle.in_reducer.specs.Same.{AreSame, RunsUpToNumbers}
 use Rattle.in_reducer.specs.Steps.{StepsAt}
@@ -52,7 +53,7 @@ not_fewer m n o u (i ∷ choices) (suc j) (suc k) h g same (a, s, one) left (b, 
     not_fewer a b o u choices j k (machine_on m a i h s) (machine_on n b i g t)
     (same_step same.0 m n a b i (as_reducer m h) (as_reducer n g) same.1 s t) one left two (omega (arith, few)) (omega (arith, l))
 
-module _ (text : List ℕ) (p : Program) (accepted : IsAccepted text p) (choices : List ℕ) (limit : ℕ) (cells : CellCounts) (few : cells ≤ most_cells) (o u : Chosen) (h : IsAsChosen p choices limit cells o) (g : IsAsChosen p choices limit cells u) where
+module _ (text : List ℕ) (p : Program) (accepted : IsAccepted text p) (choices : List ℕ) (limit : ℕ) (cells : CellCounts) (few : AreAllowed cells) (o u : Chosen) (h : IsAsChosen p choices limit cells o) (g : IsAsChosen p choices limit cells u) where
   one : IsMachine h.start
   one = start_machine text p accepted cells h.start h.is_start few
 

@@ -1,6 +1,7 @@
 -- A program that is too large for its cells has no start, and one class is the first that is too small.
 use Rattle.std.proofs.Common.{◌≡◌, ◌<◌, ◌+◌, ℕ, List, sym, ap, ◌∙◌, arith}
 use Rattle.in_arena.specs.declared.content.CellClass.{CellClass}
+use Rattle.in_arena.specs.declared.content.CellCounts.{CellCounts}
 use Rattle.in_check.specs.Programs.{Program}
 use Rattle.in_compile.specs.Cells.{agents_of, count_of}
 use Rattle.in_compile.proofs.Public.{one_short}

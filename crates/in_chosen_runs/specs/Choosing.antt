@@ -1,5 +1,6 @@
 -- A run whose first pairs are chosen. Lafont 1990 leaves open which pair comes next: here a caller chooses.
 use Rattle.std.specs.Prelude.{◌≡◌, ◌⊎◌, ◌<◌, ◌≤◌, ℕ, List, [], ◌∷◌, length, take, slice_get, Some, Result, Ok, Err}
+use Rattle.in_arena.specs.declared.content.CellCounts.{CellCounts}
 use Rattle.in_check.specs.Programs.{Program}
 use Rattle.in_reducer.specs.Machines.{MachineParts}
 use Rattle.in_reducer.specs.Starts.{IsStart}
@@ -32,6 +33,6 @@ pub record IsAsChosen (p : Program) (choices : List ℕ) (limit : ℕ) (cells : 
   pub few : o.further ≤ limit
   pub fewer : o.chosen ≡ length choices → o.further < limit → TakesNoFirst o.machine
 
-abbrev pub RunsAsChosen : Program → List ℕ → ℕ → ℕ → Result Chosen StartFault → Type 0
+abbrev pub RunsAsChosen : Program → List ℕ → ℕ → CellCounts → Result Chosen StartFault → Type 0
 RunsAsChosen p choices limit cells (Ok o) = IsAsChosen p choices limit cells o
 RunsAsChosen p choices limit cells (Err f) = IsNoStart p cells f

@@ -1,9 +1,10 @@
 -- Laws over runs whose first pairs are chosen.
 use Rattle.std.specs.Prelude.{◌≡◌, ◌≤◌, ℕ, List, Ok, Err}
 use Rattle.in_arena.specs.declared.content.CellClass.{CellClass}
+use Rattle.in_arena.specs.declared.content.CellCounts.{CellCounts}
 use Rattle.in_check.specs.Checking.{IsAccepted}
 use Rattle.in_check.specs.Programs.{Program}
-use Rattle.in_reducer.specs.Limiting.{most_cells}
+use Rattle.in_reducer.specs.Limiting.{AreAllowed}
 use Rattle.in_reducer.specs.Machines.{MachineParts}
 use Rattle.in_reducer.specs.Same.{AreSame}
 use Rattle.in_reducer.specs.Starts.{IsStart}
@@ -15,7 +16,7 @@ use Rattle.in_chosen_runs.specs.declared.running.Chosen.{Chosen}
 
 -- an accepted program, choices and limits lead to one end, up to the numbers of agents
 abbrev pub ChosenRunsAreOne : Type 0
-ChosenRunsAreOne = (text : List ℕ) (p : Program) (choices : List ℕ) (limit : ℕ) (cells : CellCounts) (o u : Chosen) → IsAccepted text p → cells ≤ most_cells →
+ChosenRunsAreOne = (text : List ℕ) (p : Program) (choices : List ℕ) (limit : ℕ) (cells : CellCounts) (o u : Chosen) → IsAccepted text p → AreAllowed cells →
     RunsAsChosen p choices limit cells (Ok o) → RunsAsChosen p choices limit cells (Ok u) →
     (o.chosen ≡ u.chosen) × (o.further ≡ u.further) × AreSame o.machine u.machine
 
@@ -32,4 +33,4 @@ ChosenRunsAreRefusedOnce = (p : Program) (choices : List ℕ) (limit : ℕ) (cel
 
 -- the end of such a run is a machine
 abbrev pub ChosenRunsAreMachines : Type 0
-ChosenRunsAreMachines = (text : List ℕ) (p : Program) (choices : List ℕ) (limit : ℕ) (cells : CellCounts) (o : Chosen) → IsAccepted text p → cells ≤ most_cells → RunsAsChosen p choices limit cells (Ok o) → IsMachine o.machine
+ChosenRunsAreMachines = (text : List ℕ) (p : Program) (choices : List ℕ) (limit : ℕ) (cells : CellCounts) (o : Chosen) → IsAccepted text p → AreAllowed cells → RunsAsChosen p choices limit cells (Ok o) → IsMachine o.machine

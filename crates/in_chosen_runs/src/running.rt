@@ -1,11 +1,11 @@
 // A run whose first pairs are chosen.
 ghost use Rattle.std.specs.Prelude.{ℕ, ◌≡◌, ◌≤◌, length, slice_get, Some};
-ghost use Rattle.in_reducer.specs.Limiting.{least_cells, most_cells};
+ghost use Rattle.in_reducer.specs.Limiting.{AreAllowed};
 ghost use Rattle.in_chosen_runs.specs.Choosing.{RunsAsChosen};
 
 use crate::choosing::choose;
 use in_check::Checked;
-use in_machine::{Machine, StartFault};
+use in_machine::{CellCounts, Machine, StartFault};
 use std::alloc::Global;
 
 /// The outcome of such a run: its machine, the number of choices done, and the number of further interactions.
@@ -34,13 +34,12 @@ pub fn run_chosen<'a>(
     checked: &'a Checked,
     choices: &[u32],
     limit: u64,
-    cells: u32,
+    cells: CellCounts,
 ) -> Result<Chosen<'a>, StartFault>
-    requires least { least_cells ≤ cells }
-    requires most { cells ≤ most_cells }
+    requires { AreAllowed cells }
     ensures { RunsAsChosen checked.now choices.now limit cells result }
 {
-    let mut machine = Machine::new(alloc, checked, cells)?;
+    let mut machine = Machine::with_counts(alloc, checked, cells)?;
     let chosen = choose(&mut machine, choices);
     let further = machine.take_first(allowed(chosen, choices, limit));
     Ok(Chosen {

@@ -1,12 +1,13 @@
 // Cells by their classes: the class for an agent, and the numbers that are needed.
 ghost use Rattle.std.specs.Prelude.{◌≡◌, ◌≤◌, ◌<◌, ◌+◌, ◌^◌, ◌↔◌, IsTrue, true, length, max, MatchOption};
 ghost use Rattle.in_arena.specs.Arenas.{free_of};
+ghost use Rattle.in_arena.specs.Classes.{amount};
 ghost use Rattle.in_symbols.specs.Tables.{IsSymbol};
 ghost use Rattle.in_net.specs.Built.{IsOver};
 ghost use Rattle.in_open_nets_of_programs.specs.Opening.{AreAllThere};
 ghost use Rattle.in_compile.specs.Cells.{is_of, agents_of, count_of, IsNeedOf, IsEnough, IsFirstShort};
 
-use in_arena::{Arena, CellClass};
+use in_arena::{Arena, CellClass, CellCounts};
 use in_net::{AgentNo, Net};
 use in_symbols::{SymbolNo, Symbols};
 
@@ -53,6 +54,13 @@ impl Need {
         ensures { (c : CellClass) → count_of result c ≡ max (count_of self c) (count_of other c) }
     {
         Need::by_class(|class| self.of(class).max(other.of(class)))
+    }
+
+    /// As many as there are cells of each class.
+    pub fn of_counts(cells: CellCounts) -> Need
+        ensures { (c : CellClass) → count_of result c ≡ amount cells c }
+    {
+        Need::by_class(|class| cells.of(class))
     }
 
     /// The number of free cells of each class in an arena.

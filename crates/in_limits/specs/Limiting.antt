@@ -14,4 +14,4 @@ least_cells = 16
 
 -- of each class
 abbrev pub HasLeast : CellCounts → Type 0
-HasLeast cells = (least_cells ≤ cells.small) × (least_cells ≤ cells.large) × (least_cells ≤ cells.wide)
+HasLeast cells = (least_cells ≤ cells.small_cells) × (least_cells ≤ cells.large_cells) × (least_cells ≤ cells.wide_cells)

@@ -48,9 +48,9 @@ impl Limits {
         ensures { AreLimitsOf workers limit cells result }
     {
         let has_workers = 1 <= workers && workers <= MOST_WORKERS;
-        let has_least = LEAST_CELLS <= cells.small
-            && LEAST_CELLS <= cells.large
-            && LEAST_CELLS <= cells.wide;
+        let has_least = LEAST_CELLS <= cells.small_cells
+            && LEAST_CELLS <= cells.large_cells
+            && LEAST_CELLS <= cells.wide_cells;
         if has_workers && limit <= MOST_INTERACTIONS && has_least && cells.are_allowed() {
             Some(Limits {
                 workers,

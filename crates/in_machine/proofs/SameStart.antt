@@ -1,6 +1,8 @@
 -- Starts of a program: each is a machine, and two with as many cells are the same up to the numbers of their agents.
 use Rattle.std.proofs.Common.{◌≡◌, ◌≤◌, ◌+◌, ℕ, zero, List, map, sym, ap, subst, ◌∙◌, arith}
+use Rattle.in_arena.specs.Classes.{amount}
 use Rattle.in_arena.specs.declared.content.CellClass.{CellClass}
+use Rattle.in_arena.specs.declared.content.CellCounts.{CellCounts}
 use Rattle.in_net.specs.Built.{IsOver}
 use Rattle.in_net.specs.Nets.{IsNet, net_of, signature_of}
 use Rattle.in_interaction.proofs.Public.{same_first}
@@ -11,7 +13,7 @@ use Rattle.in_check.specs.Runs.{Reached, at_start}
 use Rattle.in_check.specs.Systems.{system_of}
 use Rattle.in_check.proofs.Public.{is_sound, AreOpposed, opposed_in}
 use Rattle.in_interaction.specs.Queues.{IsQueueOf, both}
-use Rattle.in_reducer.specs.Limiting.{most_cells}
+use Rattle.in_reducer.specs.Limiting.{AreAllowed}
 use Rattle.in_compile.specs.Cells.{agents_of, count_of}
 use Rattle.in_reducer.specs.Machines.{MachineParts, parts_of, plain_of}
 use Rattle.in_machine.specs.Machines.{IsMachine}
@@ -20,8 +22,8 @@ use Rattle.in_reducer.specs.Same.{AreSame}
 use Rattle.in_compile.proofs.Public.{same_need}
 use Rattle.in_reducer.proofs.Public.{as_many_of, between, from_to, lives, map_same, map_twice, queue_moved, renamed_between}
 
--- of the `cells` cells of each class, as many are free as the agents of the program's net leave
-pub count_at : (p : Program) (cells : CellCounts) (m : MachineParts) → IsStart p cells m → (c : CellClass) → count_of m.vacant c + agents_of p.tables c p.net.cells ≡ cells
+-- of the cells of each class, as many are free as the agents of the program's net leave
+pub count_at : (p : Program) (cells : CellCounts) (m : MachineParts) → IsStart p cells m → (c : CellClass) → count_of m.vacant c + agents_of p.tables c p.net.cells ≡ amount cells c
 count_at p cells m h c = ap (λ (k : ℕ). count_of m.vacant c + k) (as_many_of p.tables c h.name p.net (parts_of m) h.net) ∙ ap (λ (q : Program). count_of m.vacant c + agents_of q.tables c m.agents) (sym h.program) ∙ h.counted c
 
 module _ (text : List ℕ) (p : Program) (accepted : IsAccepted text p) (cells : CellCounts) where
@@ -42,7 +44,7 @@ module _ (text : List ℕ) (p : Program) (accepted : IsAccepted text p) (cells :
       names = h.names ∙ ap (λ (z : Program). map (λ f. f.name) z.net.free) (sym h.program);
     }
 
-    pub start_machine : cells ≤ most_cells → IsMachine m
+    pub start_machine : AreAllowed cells → IsMachine m
     start_machine few = record {
       accepted = (text, subst (λ (z : Program). IsAccepted text z) (sym h.program) accepted);
       plain = start_plain;

@@ -1,5 +1,6 @@
 -- Laws over machines and their runs.
 use Rattle.std.specs.Prelude.{◌≡◌, ◌<◌, ◌≤◌, ◌+◌, ◌++◌, ℕ, suc, List, [], length, map, drop}
+use Rattle.in_arena.specs.declared.content.CellCounts.{CellCounts}
 use Rattle.in_net.specs.Nets.{net_of}
 use Rattle.in_check.specs.Checking.{IsAccepted}
 use Rattle.in_check.specs.NetText.{IsQueue}
@@ -9,7 +10,7 @@ use Rattle.in_check.specs.Promises.{IsAsPromised}
 use Rattle.in_check.specs.Systems.{system_of}
 use Rattle.in_order.specs.Ends.{EndsOnce}
 use Rattle.in_interaction.specs.Queues.{numbers_of}
-use Rattle.in_reducer.specs.Limiting.{most_cells}
+use Rattle.in_reducer.specs.Limiting.{AreAllowed}
 use Rattle.in_reducer.specs.Machines.{MachineParts, parts_of, plain_of}
 use Rattle.in_machine.specs.Machines.{IsMachine}
 use Rattle.in_machine.specs.Together.{HasRoomFor}
@@ -54,7 +55,7 @@ StartsAreSame = (text : List ℕ) (p : Program) (cells : CellCounts) (m n : Mach
 
 -- a start of an accepted program is a machine
 abbrev pub StartsAreMachines : Type 0
-StartsAreMachines = (text : List ℕ) (p : Program) (cells : CellCounts) (m : MachineParts) → IsAccepted text p → cells ≤ most_cells → IsStart p cells m → IsMachine m
+StartsAreMachines = (text : List ℕ) (p : Program) (cells : CellCounts) (m : MachineParts) → IsAccepted text p → AreAllowed cells → IsStart p cells m → IsMachine m
 
 -- a machine without active pairs is the only end of its program: each run that ends, in any order, has as many interactions and the same text
 abbrev pub NormalEndsAreOne : Type 0

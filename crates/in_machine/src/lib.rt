@@ -12,7 +12,7 @@ pub mod machine_laws;
 mod phases;
 mod starting;
 
-pub use in_arena::{CellClass, CellNo, End};
+pub use in_arena::{CellClass, CellCounts, CellNo, End};
 pub use in_compile::Need;
 pub use in_phases::{Room, Sampled, Sharing, Worked};
 pub use in_reducer::{LEAST_CELLS, MOST_CELLS};

@@ -1,9 +1,10 @@
 // A machine, its start, and its interactions.
 ghost use Rattle.std.specs.Prelude.{◌≡◌, ◌<◌, ◌≤◌, ℕ, suc, true, false, length};
 ghost use Rattle.in_check.specs.Plain.{IsReachedBy};
+ghost use Rattle.in_arena.specs.Classes.{each};
 ghost use Rattle.in_arena.specs.declared.content.CellClass.{CellClass};
 ghost use Rattle.in_compile.specs.Cells.{count_of};
-ghost use Rattle.in_reducer.specs.Limiting.{least_cells, most_cells};
+ghost use Rattle.in_reducer.specs.Limiting.{AreAllowed, least_cells, most_cells};
 ghost use Rattle.in_reducer.specs.Machines.{plain_of};
 ghost use Rattle.in_reducer.specs.Parting.{ReducesTo};
 ghost use Rattle.in_reducer.specs.Steps.{HasRoomAt, StepsAt};
@@ -14,6 +15,7 @@ ghost use Rattle.in_machine.specs.Starts.{Starts};
 ghost use Rattle.in_machine.specs.Taking.{TakesNoFirst};
 
 use crate::starting::StartFault;
+use in_arena::CellCounts;
 use in_base::use_promise;
 use in_check::Checked;
 use in_compile::{Need, Templates, compile, need_of_net};
@@ -45,23 +47,35 @@ impl<'a> Model for Machine<'a> {
 }
 
 impl<'a> Machine<'a> {
-    /// A machine of the program's net with `cells` cells of each class. Its pairs are queued in the order of the places of their wires,
+    /// A machine of the program's net with `cells` cells of each class, as by `with_counts`.
+    pub fn new(alloc: Global, checked: &'a Checked, cells: u32) -> Result<Machine<'a>, StartFault>
+        requires least { least_cells ≤ cells }
+        requires most { cells ≤ most_cells }
+        ensures { Starts checked.now (each cells) result }
+    {
+        Machine::with_counts(alloc, checked, CellCounts::each(cells))
+    }
+
+    /// A machine of the program's net with that many cells of each class. Its pairs are queued in the order of the places of their wires,
     /// which is this project's own choice, as are the sizes of cells.
     ///
     /// Refused as `Full` if the net has more agents of a class than cells, tested in the order of the classes, or when out of memory. No
     /// other call takes memory.
-    pub fn new(alloc: Global, checked: &'a Checked, cells: u32) -> Result<Machine<'a>, StartFault>
-        requires least { least_cells ≤ cells }
-        requires most { cells ≤ most_cells }
+    pub fn with_counts(
+        alloc: Global,
+        checked: &'a Checked,
+        cells: CellCounts,
+    ) -> Result<Machine<'a>, StartFault>
+        requires { AreAllowed cells }
         ensures { Starts checked.now cells result }
     {
         use_promise!(checked.is_accepted());
         let need = need_of_net(checked.symbols(), checked.net());
-        if let Some(class) = need.first_short(Need::each(cells)) {
+        if let Some(class) = need.first_short(Need::of_counts(cells)) {
             return Err(StartFault::Full {
                 class,
                 need: need.of(class),
-                free: cells,
+                free: cells.of(class),
             });
         }
         let templates = compile(alloc, checked)?;

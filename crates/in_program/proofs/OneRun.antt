@@ -1,6 +1,8 @@
 -- A program's run has one end: two accepted programs of one text differ at most in the table of their rules, which a run doesn't show.
 use Rattle.std.proofs.Common.{◌≡◌, ◌≤◌, ℕ, zero, suc, List, map, ap, ◌∙◌, subst, arith}
+use Rattle.in_arena.specs.Classes.{amount}
 use Rattle.in_arena.specs.declared.content.CellClass.{CellClass}
+use Rattle.in_arena.specs.declared.content.CellCounts.{CellCounts}
 use Rattle.in_cover.specs.Table.{Cells}
 use Rattle.in_net.specs.declared.nets.AgentNo.{AgentNo}
 use Rattle.in_net.specs.Built.{IsOver}
@@ -100,7 +102,7 @@ module _ (p q : Program) (same : AreOneProgram p q) where
   pub same_agents : (c : CellClass) → agents_of p.tables c p.net.cells ≡ agents_of q.tables c q.net.cells
   same_agents c = (λ i. agents_of (same.tables i) c (same.net i).cells)
 
-fits : (p : Program) (cells : CellCounts) (m : MachineParts) (c : CellClass) → IsStart p cells m → agents_of p.tables c p.net.cells ≤ cells
+fits : (p : Program) (cells : CellCounts) (m : MachineParts) (c : CellClass) → IsStart p cells m → agents_of p.tables c p.net.cells ≤ amount cells c
 fits p cells m c h = let count = count_at p cells m h c in omega (arith, count)
 
 pub starts_or_not : (p q : Program) → AreOneProgram p q → (cells : CellCounts) (m : MachineParts) (c : CellClass) (need free : ℕ) → IsStart p cells m → DoesNotFit q cells c need free → ⊥

@@ -2,7 +2,6 @@
 -- between the two are cut before. That nets are reduced in parts is this project's own choice.
 use Rattle.std.specs.Prelude.{◌≡◌, ◌+◌, ◌-◌, ◌<◌, ℕ, zero, suc, nat_lt, cond, List, [], ◌∷◌, ◌++◌, length, map, Option, Some, None, IsSome, slice_get}
 use Rattle.in_arena.specs.Changes.{AreListedOnce}
-use Rattle.in_arena.specs.Classes.{each}
 use Rattle.in_arena.specs.declared.content.CellClass.{CellClass}
 use Rattle.in_arena.specs.declared.content.CellNo.{CellNo}
 use Rattle.in_net.specs.Nets.{Point, Port, Free}
@@ -12,7 +11,7 @@ use Rattle.in_cells.specs.Laws.{ends_of}
 use Rattle.in_gluing.specs.SideBySide.{IsWiredWithin, StandBeside}
 use Rattle.in_order.specs.Leading.{Leads}
 use Rattle.in_reducer.specs.Cutting.{net_in}
-use Rattle.in_reducer.specs.Machines.{MachineParts, HasCells, HasItsPairs, KeepsCellCounts}
+use Rattle.in_reducer.specs.Machines.{HasItsPairs, KeepsCellCounts, MachineParts}
 
 abbrev pub names_of : MachineParts → List (List ℕ)
 names_of m = map (λ f. f.name) m.free
@@ -74,7 +73,7 @@ pub record IsSplitButQueues (m : MachineParts) (agents : List CellNo) (own cuts 
   pub two : IsOfTwo m rest part own cuts
   pub many_rest : length rest.free ≡ own + cuts
   pub many_part : length part.free ≡ cuts
-  pub part_cells : HasCells (each size) part
+  pub part_cells : (c : CellClass) → count_of part.vacant c + agents_of part.program.tables c part.agents ≡ size
   pub vacant : (c : CellClass) → count_of rest.vacant c ≡ count_of m.vacant c + agents_of m.program.tables c part.agents
   pub cells : (c : CellClass) → count_of rest.vacant c + agents_of m.program.tables c rest.agents ≡ count_of m.vacant c + agents_of m.program.tables c m.agents
 

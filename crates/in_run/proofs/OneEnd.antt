@@ -1,5 +1,6 @@
 -- A run that stops normally is at the only end of its program.
 use Rattle.std.proofs.Common.{◌≡◌, ℕ, [], subst}
+use Rattle.in_arena.specs.declared.content.CellCounts.{CellCounts}
 use Rattle.in_limits.specs.declared.limits.Limits.{Limits}
 use Rattle.in_run.specs.declared.stops.Stop.{Stop}
 use Rattle.in_run.specs.declared.stops.Stop.TheVariants.{Normal}

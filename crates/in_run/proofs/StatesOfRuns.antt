@@ -1,6 +1,8 @@
 -- A run, step by step and phase by phase.
 use Rattle.std.proofs.Common.{◌≡◌, ◌≢◌, ◌⊎◌, ◌≤◌, ◌<◌, ◌+◌, ℕ, zero, suc, List, [], length, inl, inr, Ok, Err, refl, sym, ap, subst, ◌∙◌, arith}
 use Rattle.std.proofs.lemmas.List.{length-map}
+use Rattle.in_arena.specs.Classes.{amount}
+use Rattle.in_arena.specs.declared.content.CellCounts.{CellCounts}
 use Rattle.in_check.specs.Checking.{IsAccepted}
 use Rattle.in_check.specs.Plain.{IsReachedBy}
 use Rattle.in_check.specs.Programs.{Program}
@@ -57,9 +59,9 @@ program_kept m o k (then_renamed _ n _ _ before same) = same.1.program ∙ progr
 cells_kept : (m n : MachineParts) (k : ℕ) (cells : CellCounts) → RunsAnyhow m k n → HasCells cells m → HasCells cells n
 cells_kept m n zero cells (no_step _) h = h
 cells_kept m o (suc k) cells (then_any _ n _ _ i before s) h = λ c.
-    subst (λ (z : Program). count_of o.vacant c + agents_of z.tables c o.agents ≡ cells) (sym s.step.program) (s.cells c ∙ cells_kept m n k cells before h c)
+    subst (λ (z : Program). count_of o.vacant c + agents_of z.tables c o.agents ≡ amount cells c) (sym s.step.program) (s.cells c ∙ cells_kept m n k cells before h c)
 cells_kept m o _ cells (then_phase _ n _ k j before p) h = λ c.
-    subst (λ (z : Program). count_of o.vacant c + agents_of z.tables c o.agents ≡ cells) (sym p.program) (p.cells c ∙ cells_kept m n k cells before h c)
+    subst (λ (z : Program). count_of o.vacant c + agents_of z.tables c o.agents ≡ amount cells c) (sym p.program) (p.cells c ∙ cells_kept m n k cells before h c)
 cells_kept m o k cells (then_renamed _ n _ _ before same) h = counted_same n o same.0 same.1 cells (cells_kept m n k cells before h)
 
 machine_kept : (m n : MachineParts) (k : ℕ) → RunsAnyhow m k n → IsMachine m → IsMachine n

@@ -1,5 +1,6 @@
 -- The outcome of `run`.
 use Rattle.std.specs.Prelude.{◌≡◌, ◌≢◌, ◌≤◌, ◌⊎◌, ℕ, Result, Ok, Err}
+use Rattle.in_arena.specs.declared.content.CellCounts.{CellCounts}
 use Rattle.in_check.specs.Plain.{IsReachedBy}
 use Rattle.in_check.specs.Programs.{Program}
 use Rattle.in_limits.specs.declared.limits.Limits.{Limits}
@@ -16,7 +17,7 @@ use Rattle.in_run.specs.Stops.{IsOutcome, IsStop, NoneHasRoom}
 
 -- ---- in any order
 
--- k interactions of the program, from a start with `cells` cells of each class: they come in any order, and the program reaches the
+-- k interactions of the program, from a start with that many cells of each class: they come in any order, and the program reaches the
 -- net by exactly as many
 pub record ReachesWith (p : Program) (cells : CellCounts) (k : ℕ) (m : MachineParts) : Type 0 where
   pub start : (s : MachineParts) × IsStart p cells s

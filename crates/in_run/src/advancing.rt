@@ -5,7 +5,9 @@ ghost use Rattle.in_run.specs.Advancing.{RunsAnyhow};
 ghost use Rattle.in_run.specs.Stops.{GoesOn};
 ghost use Rattle.in_reducer.specs.Same.{RunsUpToNumbers};
 
-use crate::pace::{PHASES_FROM, Pace, SAMPLE_PAIRS, are_newest_first, sampling, sharing};
+use crate::pace::{
+    PHASES_FROM, Pace, SAMPLE_PAIRS, are_newest_first, half_of_cells, sampling, sharing,
+};
 use in_limits::Limits;
 use in_machine::{Machine, phase, sample};
 use std::alloc::Global;
@@ -23,7 +25,7 @@ fn take_alone(machine: &mut Machine, limits: Limits, most: u64) -> u64
     if !are_newest_first(machine) {
         return machine.take_first(most);
     }
-    let count = machine.take_newest(limits.cells() / 2, most);
+    let count = machine.take_newest(half_of_cells(limits), most);
     if count != 0 {
         return count;
     }

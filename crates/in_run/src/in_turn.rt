@@ -25,7 +25,7 @@ pub fn run_in_turn<'a>(
     ensures order { IfOk result (λ o. o.stop ≡ Normal → EndsOnce checked.now o.interactions (text_of o.machine)) }
 {
     use_promise!(checked.is_accepted());
-    let mut machine = Machine::new(alloc, checked, limits.cells())?;
+    let mut machine = Machine::with_counts(alloc, checked, limits.cells())?;
     let mut interactions = 0;
     loop {
         if let Some(stop) = stop(&machine, limits.limit(), interactions) {

@@ -18,7 +18,9 @@ mod watching;
 
 pub use in_claims::{Gate, NoGate};
 pub use in_limits::{Limits, MOST_INTERACTIONS, MOST_WORKERS};
-pub use in_machine::{CellClass, CellNo, End, LEAST_CELLS, MOST_CELLS, Machine, Need, StartFault};
+pub use in_machine::{
+    CellClass, CellCounts, CellNo, End, LEAST_CELLS, MOST_CELLS, Machine, Need, StartFault,
+};
 pub use in_turn::run_in_turn;
 pub use running::{Outcome, RunFault, run, run_watched};
 pub use stops::Stop;

@@ -5,7 +5,7 @@ ghost use Rattle.in_phases.specs.Phases.{HasFree};
 ghost use Rattle.in_reducer.specs.Limiting.{most_cells};
 
 use in_limits::Limits;
-use in_machine::{MOST_CELLS, Machine, Room, Sampled, Sharing, Worked};
+use in_machine::{MOST_CELLS, Machine, Need, Room, Sampled, Sharing, Worked};
 use std::alloc::Global;
 
 /// The number of interactions before a phase is tried: a shorter run is over before it could pay, and the pairs are spread far by then.
@@ -144,6 +144,11 @@ pub(crate) fn sampling(sharing: Sharing, left: u64) -> Sharing
     }
 }
 
+/// Half of the cells of the class that has the fewest.
+pub(crate) fn half_of_cells(limits: Limits) -> u32 {
+    Need::of_counts(limits.cells()).least() / 2
+}
+
 /// The sharing of a machine's net among the workers, after `interactions` interactions, with `left` left; `None` if a phase can't pay. Half of the
 /// cells are kept back, so the order in which pairs are taken is no reason to stop.
 pub(crate) fn sharing(
@@ -159,7 +164,7 @@ pub(crate) fn sharing(
 {
     let pairs = machine.pairs();
     let parts = limits.workers().min(MOST_PARTS).min(pairs / PART_PAIRS);
-    let floor = limits.cells() / 2;
+    let floor = half_of_cells(limits);
     let free = machine.least_free();
     let is_early = pairs < MANY_PAIRS && interactions < FEW_PAIRS_FROM;
     if is_early || pairs < PHASE_PAIRS || parts < 2 || left < LEAST_LEFT || free < floor {

@@ -15,7 +15,7 @@ use in_base::use_promise;
 use in_check::Checked;
 use in_claims::Gate;
 use in_limits::Limits;
-use in_machine::{Machine, Need, StartFault};
+use in_machine::{CellCounts, Machine, Need, StartFault};
 use std::alloc::Global;
 use std::sync::Wait;
 use std::thread::Threads;
@@ -40,13 +40,13 @@ pub enum RunFault<'a> {
 }
 
 /// The progress of a watched run.
-fn progress_of(machine: &Machine, cells: u32, interactions: u64, pace: &Pace) -> Progress {
+fn progress_of(machine: &Machine, cells: CellCounts, interactions: u64, pace: &Pace) -> Progress {
     let free = machine.vacant();
     Progress {
         interactions,
         phases: pace.phases,
         threads: pace.threads,
-        used: Need::by_class(|class| cells.saturating_sub(free.of(class))),
+        used: Need::by_class(|class| cells.of(class).saturating_sub(free.of(class))),
     }
 }
 
@@ -64,7 +64,7 @@ pub fn run_watched<'a, R: Threads, W: Watch>(
 {
     use_promise!(checked.is_accepted());
     watch.begin();
-    let mut machine = match Machine::new(alloc, checked, limits.cells()) {
+    let mut machine = match Machine::with_counts(alloc, checked, limits.cells()) {
         Ok(machine) => machine,
         Err(fault) => return Err(RunFault::Start(fault)),
     };

@@ -1,11 +1,11 @@
 -- The changes of an arena by calls in a row.
-use Rattle.std.proofs.Common.{◌≡◌, ◌<◌, ◌*◌, refl, ℕ, List, length, set, get_or, Option, Some, sym, ap, ◌∙◌, subst, ⊎_elim, arith, length-set, get_or-set_same, get_or-set_other}
+use Rattle.std.proofs.Common.{◌≡◌, ◌<◌, refl, ℕ, List, length, set, get_or, Option, Some, sym, ap, ◌∙◌, subst, ⊎_elim, arith, length-set, get_or-set_same, get_or-set_other}
 use Rattle.std.proofs.lemmas.Bool.{cases_eq}
 use Rattle.std.proofs.lemmas.List.{set-set, set-get_or, length-replicate}
 use Rattle.in_arena.specs.Arenas.{ArenaView, BeginsCell, LeaseView, Leases, NoneLeased, changed, state_at, written}
 use Rattle.in_arena.specs.Bags.{LeasesTo, empty_bag}
 use Rattle.in_arena.specs.Changes.{HasAllCells}
-use Rattle.in_arena.specs.Classes.{classes, IsNumberOf}
+use Rattle.in_arena.specs.Classes.{IsNumberOf, all_of}
 use Rattle.in_arena.specs.States.{State, Vacant, Leased, Live, IsLeased}
 use Rattle.in_arena.specs.declared.content.CellClass.{CellClass}
 use Rattle.in_arena.specs.declared.content.End.{End}

@@ -4,6 +4,7 @@ use Rattle.std.proofs.lemmas.Bool.{cases_eq}
 use Rattle.std.proofs.lemmas.List.{length-set}
 use Rattle.std.proofs.lemmas.List.Sums.{sum_by_more, sum_by_more_le}
 use Rattle.std.proofs.lemmas.Option.{same_Some, slice_get_within, get_or_from_slice_get}
+use Rattle.in_arena.specs.declared.content.CellCounts.{CellCounts}
 use Rattle.in_base.proofs.Each.{at_index}
 use Rattle.in_base.proofs.Places.{kept_at, last_at, more_at}
 use Rattle.in_arena.specs.Arenas.{ArenaView, BeginsCell, changed, free_of, state_at}
@@ -120,7 +121,7 @@ module _ (m : MemberParts) (old : ArenaView) (x : ℕ) (now : ArenaView) (ns : L
     each_by k z p stands (inr r) =
         let agent : a ≡ z = same_Some a z (sym at ∙ ap (slice_get m.agents) (sym (r.0 ∙ h.count)) ∙ stands) in
         subst (λ (q : AgentParts × CellNo). IsNumberOf old.cells q.0.class q.1.0 × (state_at old q.1.0 ≡ Vacant) × IsBegun q.0.symbol.0 (length q.0.ends) (state_at now' q.1.0)) (λ i. (agent i, r.1 i))
-        (subst (λ (c : ℕ). IsNumberOf c a.class n.0) h.cells b.at, was_free, subst (IsBegun a.symbol.0 (length a.ends)) (sym here) b.begun)
+        (subst (λ (c : CellCounts). IsNumberOf c a.class n.0) h.cells b.at, was_free, subst (IsBegun a.symbol.0 (length a.ends)) (sym here) b.begun)
 
     left_now : (d : CellClass) → free_of now' d + count_by (has_class d) (take (x + 1) m.agents) ≡ free_of old d
     left_now d =
@@ -210,7 +211,7 @@ module _ (m : MemberParts) (old begun : ArenaView) (ns : List CellNo) (b : AreBe
     each = λ k a n stands r.
         let g = b.each k a n stands r in
         let l = slice_get_within m.agents k a stands in (
-          subst (λ (c : ℕ). IsNumberOf c a.class n.0) (sym (h.cells ∙ b.cells)) g.0,
+          subst (λ (c : CellCounts). IsNumberOf c a.class n.0) (sym (h.cells ∙ b.cells)) g.0,
           ap word_of g.1,
           h.each k a n (omega (arith, l, beyond)) stands r,
         );

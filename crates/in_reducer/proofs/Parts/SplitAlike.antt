@@ -2,7 +2,6 @@
 use Rattle.std.proofs.Common.{◌≡◌, inl, inr, ◌+◌, ◌<◌, ℕ, Option, Some, None, List, length, map, slice_get, refl, sym, subst, ap, ◌∙◌, arith}
 use Rattle.std.proofs.lemmas.List.{length-map}
 use Rattle.std.proofs.lemmas.Option.{slice_get_within}
-use Rattle.in_arena.specs.Classes.{amount, each}
 use Rattle.in_arena.specs.declared.content.CellClass.{CellClass}
 use Rattle.in_arena.specs.declared.content.CellNo.{CellNo}
 use Rattle.in_net.proofs.Public.{all_same}
@@ -89,8 +88,8 @@ module _ (m rest part rest_too part_too : MachineParts) (agents : List CellNo) (
   same_rest_vacant : (c : CellClass) → count_of rest.vacant c ≡ count_of rest_too.vacant c
   same_rest_vacant c = let a = off.cells c in let b = off_too.cells c in let d = same_rest_agents c in omega (arith, a, b, d)
 
-  part_vacant : (a : MachineParts) (c : CellClass) → a.program ≡ m.program → count_of a.vacant c + agents_of a.program.tables c a.agents ≡ amount (each size) c → count_of a.vacant c + agents_of m.program.tables c a.agents ≡ size
-  part_vacant a c same counted = subst (λ (p : Program). count_of a.vacant c + agents_of p.tables c a.agents ≡ amount (each size) c) same counted
+  part_vacant : (a : MachineParts) (c : CellClass) → a.program ≡ m.program → count_of a.vacant c + agents_of a.program.tables c a.agents ≡ size → count_of a.vacant c + agents_of m.program.tables c a.agents ≡ size
+  part_vacant a c same counted = subst (λ (p : Program). count_of a.vacant c + agents_of p.tables c a.agents ≡ size) same counted
 
   same_part_vacant : (c : CellClass) → count_of part.vacant c ≡ count_of part_too.vacant c
   same_part_vacant c =

@@ -8,7 +8,7 @@ use Rattle.in_arena.specs.States.{State, Vacant, Leased, Live, IsLeased, IsLive,
 use Rattle.in_arena.specs.declared.content.CellClass.{CellClass}
 use Rattle.in_arena.specs.declared.content.CellCounts.{CellCounts}
 use Rattle.in_arena.specs.declared.content.CellNo.{CellNo}
-use Rattle.in_arena.proofs.Public.{numbers_apart, live_in}
+use Rattle.in_arena.proofs.Public.{each_amount, live_in, numbers_apart}
 use Rattle.in_symbols.specs.Tables.{Tables, arity_of}
 use Rattle.in_compile.specs.Cells.{agents_of, count_of, is_of}
 use Rattle.in_cells.specs.Copying.{IsCopied, is_for, moved, name_in, number_in}
@@ -82,8 +82,8 @@ module _ (r : Body) (k : KeepsNet r) (agents : List CellNo) (own cuts : ℕ) (ca
     pub part_none : NoneLeased new
     part_none y low leased = empty_none first (each size) same empty y (let e = copied.many in omega (arith, e, low)) (part_leased y leased)
 
-    pub part_cells : (c : CellClass) → count_of (vacant_in (at_rest new)) c + agents_of t c (agents_in new) ≡ amount (each size) c
-    part_cells c = cells_at_rest t new part_net c ∙ ap (λ (z : CellCounts). amount z c) (copied.cells ∙ same)
+    pub part_cells : (c : CellClass) → count_of (vacant_in (at_rest new)) c + agents_of t c (agents_in new) ≡ size
+    part_cells c = cells_at_rest t new part_net c ∙ ap (λ (z : CellCounts). amount z c) (copied.cells ∙ same) ∙ each_amount size c
 
     -- the part has as many agents of each class as were copied
     pub part_counted : (c : CellClass) → agents_of t c (agents_in new) ≡ count_by (is_for r.arena c) agents
@@ -92,7 +92,8 @@ module _ (r : Body) (k : KeepsNet r) (agents : List CellNo) (own cuts : ℕ) (ca
         let b = vacant_is new part_none c in
         let d = copied.free c in
         let e = all_free first (each size) same empty t c in
-        omega (arith, a, b, d, e)
+        let f = each_amount size c in
+        omega (arith, a, b, d, e, f)
 
   -- ---- the rest
 

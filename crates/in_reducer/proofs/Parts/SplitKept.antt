@@ -7,7 +7,7 @@ use Rattle.in_arena.specs.Arenas.{ArenaView, NoneLeased, state_at}
 use Rattle.in_arena.specs.Classes.{all_of, each}
 use Rattle.in_arena.specs.States.{State, Vacant, Leased, Live, IsLive, word_of}
 use Rattle.in_arena.specs.declared.content.CellNo.{CellNo}
-use Rattle.in_arena.proofs.Public.{word_live}
+use Rattle.in_arena.proofs.Public.{each_amount, word_live}
 use Rattle.in_symbols.specs.Tables.{Tables}
 use Rattle.in_net.specs.declared.nets.FreeEnd.{FreeEnd}
 use Rattle.in_net.specs.Nets.{net_of}
@@ -40,6 +40,10 @@ use Rattle.in_reducer.proofs.Parts.SplitNets as nets
 use Rattle.in_reducer.proofs.Parts.SplitNets.{ArePieces, Pieces}
 use Rattle.in_reducer.proofs.Starts.StartNet.{no_word}
 use Rattle.in_reducer.proofs.Steps.StillNet.{still_none}
+
+-- an arena may have as many cells of each class
+pub each_allowed : (n : ℕ) → n ≤ most_cells → AreAllowed (each n)
+each_allowed n few = record { small = omega (arith, few); large = omega (arith, few); wide = omega (arith, few) }
 
 -- ---- pairs
 
@@ -174,12 +178,11 @@ module _ (r : Body) (k : KeepsNet r) (agents : List CellNo) (own cuts : ℕ) (ca
   pub part_reducer : x.size ≤ most_cells → (q : List (ℕ × ℕ)) → q ≡ part_pairs → IsReducer (nets.part r k agents own cuts can x h q)
   part_reducer few q is =
       let sound = (nets.sound r k agents own cuts can x h).1 in
-      let few_each : AreAllowed (each x.size) = record { small = omega (arith, few); large = omega (arith, few); wide = omega (arith, few) } in
       record {
         accepted = k.reducer.accepted;
         net = record { sound = sound; over = is_over t x.new part_fs x.part_ends sound.net sound.within };
         queue = subst (IsQueueOf t part_parts) (sym is) part_queue;
-        cells = (each x.size, few_each, λ d. cells.part_cells r k agents own cuts can x.numbers x.names x.size x.first x.new h.same h.empty h.copied d);
+        cells = (each x.size, each_allowed x.size few, λ d. cells.part_cells r k agents own cuts can x.numbers x.names x.size x.first x.new h.same h.empty h.copied d ∙ sym (each_amount x.size d));
       }
 
   -- the part's queue has room for all its pairs

@@ -6,9 +6,10 @@ use Rattle.std.proofs.lemmas.List.{length-map, length-take-le}
 use Rattle.std.proofs.lemmas.Option.{same_Some}
 use native.Mathlib.Decide.{ℕ_discrete}
 use Rattle.in_arena.specs.Arenas.{ArenaView, NoneLeased, state_at}
-use Rattle.in_arena.specs.Classes.{holds, IsNumberOf}
+use Rattle.in_arena.specs.Classes.{IsNumberOf, holds}
 use Rattle.in_arena.specs.States.{Vacant, Leased, IsLeased, places, word_of}
 use Rattle.in_arena.specs.declared.content.CellClass.{CellClass}
+use Rattle.in_arena.specs.declared.content.CellCounts.{CellCounts}
 use Rattle.in_arena.specs.declared.content.CellNo.{CellNo}
 use Rattle.in_arena.specs.declared.content.End.{End}
 use Rattle.in_arena.specs.declared.content.End.TheVariants as end
@@ -247,7 +248,7 @@ module _ (r o : Body) (k : KeepsNet r) (l : KeepsNet o) (can : CanAppend (reduce
               let state : state_at b y ≡ moved (name_in names) (number_in numbers) (state_at o.arena c.0) = ap (state_at b) (sym at.3) ∙ (copied.each at.0 c at.2).1 in
               let word : word_of (state_at o.arena c.0) ≡ Some s = sym (word_moved (name_in names) (number_in numbers) (state_at o.arena c.0)) ∙ sym (ap word_of state) ∙ w in
               let class = copied.classes at.0 c at.2 in
-              let same : class.0 ≡ d = numbers_apart r.arena.cells y class.0 d (subst (λ (z : ℕ). IsNumberOf z class.0 y) (copied.cells ∙ anew.cells) (subst (IsNumberOf b.cells class.0) at.3 class.2)) in_class in
+              let same : class.0 ≡ d = numbers_apart r.arena.cells y class.0 d (subst (λ (z : CellCounts). IsNumberOf z class.0 y) (copied.cells ∙ anew.cells) (subst (IsNumberOf b.cells class.0) at.3 class.2)) in_class in
               let many = places_more c.0 s word in
               let fit : holds class.0 (arity_of t s + 1) ≡ true = ap (holds class.0) (let z : arity_of t s + 1 ≡ places (state_at o.arena c.0) = omega (arith, many) in z) ∙ to_holds class.0 (places (state_at o.arena c.0)) class.1 in
               subst (λ (z : CellClass). is_of t z s ≡ true) same fit

@@ -5,6 +5,7 @@ use Rattle.std.proofs.lemmas.List.{length-map, length-set}
 use Rattle.std.proofs.lemmas.Bool.{cases_eq}
 use Rattle.std.proofs.lemmas.Bool.Decides.{nat_tests}
 use Rattle.std.proofs.lemmas.Option.{get_or_from_slice_get, slice_get_read}
+use Rattle.in_arena.specs.declared.content.CellCounts.{CellCounts}
 use Rattle.in_base.proofs.Places.{kept_at, last_at, set_here, set_there}
 use Rattle.std.specs.List.{enumerate_from}
 use Rattle.std.proofs.lemmas.List.FromFn.{length-enumerate_from}
@@ -113,7 +114,7 @@ over_few m =
 pub all_begun : (m : MemberParts) (old now : ArenaView) (ns : List CellNo) (x : ℕ) → x ≡ length m.agents → AreBegunBelow m old x now ns → HasBegun m ns old now
 all_begun m old now ns x all h = record {
   count = h.count ∙ all;
-  each = λ k a n e at. (let g = h.each k a n e at in (subst (λ (z : ℕ). IsNumberOf z a.class n.0) (sym h.cells) g.0, ap word_of g.1, g.2));
+  each = λ k a n e at. (let g = h.each k a n e at in (subst (λ (z : CellCounts). IsNumberOf z a.class n.0) (sym h.cells) g.0, ap word_of g.1, g.2));
   once = h.once;
   others = h.others;
   memory = h.memory;

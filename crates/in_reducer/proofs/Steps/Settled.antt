@@ -5,9 +5,10 @@ use Rattle.std.proofs.lemmas.List.Sums.{sum_by-cons}
 use Rattle.in_arena.specs.Arenas.{ArenaView, changed, free_of, state_at}
 use Rattle.in_arena.specs.Bags.{IsBagOf, IsInBag}
 use Rattle.in_arena.specs.Changes.{HasAllCells, one_if_free}
-use Rattle.in_arena.specs.Classes.{class_no, IsNumberOf}
+use Rattle.in_arena.specs.Classes.{IsNumberOf, class_no}
 use Rattle.in_arena.specs.States.{State, Vacant, Leased, Live, word_of}
 use Rattle.in_arena.specs.declared.content.CellClass.{CellClass}
+use Rattle.in_arena.specs.declared.content.CellCounts.{CellCounts}
 use Rattle.in_arena.specs.declared.content.CellNo.{CellNo}
 use Rattle.in_arena.proofs.Public.{leased_or, counts_change, number_inside}
 use Rattle.in_compile.specs.Cells.{count_of}
@@ -29,7 +30,7 @@ module _ (m : MemberParts) (p : PlacedParts) (is : IsPlacedMember m p) (a b : Ar
     each = λ k x n at here. (
         let there = is.each k x n at here in
         let in_it = is.written.cells.each k n here in (
-          subst (λ (z : ℕ). IsNumberOf z x.class n.0) (of.cells ∙ sym back.cells) there.0,
+          subst (λ (z : CellCounts). IsNumberOf z x.class n.0) (of.cells ∙ sym back.cells) there.0,
           ap word_of (of.leased n.0 in_it),
           back.back n.0 in_it ∙ there.1,
         ));
@@ -89,7 +90,7 @@ module _ (m : MemberParts) (sound : IsSoundMember m) (ns : List CellNo) (a b : A
   rested_there : (k : ℕ) (x : AgentParts) (n : CellNo) → slice_get m.agents k ≡ Some x → slice_get ns k ≡ Some n → IsNumberOf a.cells x.class n.0 × (state_at (at_rest a) n.0 ≡ Vacant)
   rested_there k x n e f =
       let there = put.each k x n e f in
-      let number : IsNumberOf a.cells x.class n.0 = subst (λ (z : ℕ). IsNumberOf z x.class n.0) put.cells there.0 in
+      let number : IsNumberOf a.cells x.class n.0 = subst (λ (z : CellCounts). IsNumberOf z x.class n.0) put.cells there.0 in
       (number, rested_none a.states n.0 (subst (λ (z : ℕ). n.0 < z) (as_many a) (number_inside (at_rest a) n.0 x.class all number)) there.1)
 
   pub there_was_room : (c : CellClass) → count_of m.need c ≤ free_of (at_rest a) c

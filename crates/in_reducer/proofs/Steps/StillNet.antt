@@ -6,9 +6,10 @@ use native.Mathlib.Decide.{ℕ_discrete}
 use Rattle.std.proofs.lemmas.Bool.{cases_eq}
 use Rattle.in_arena.specs.Arenas.{ArenaView, NoneLeased, changed, state_at}
 use Rattle.in_arena.specs.Changes.{HasAllCells}
-use Rattle.in_arena.specs.Classes.{classes, IsNumberOf}
+use Rattle.in_arena.specs.Classes.{IsNumberOf, all_of}
 use Rattle.in_arena.specs.States.{State, Vacant, Leased, Live, IsLeased, IsLive, word_of}
 use Rattle.in_arena.specs.declared.content.CellClass.{CellClass}
+use Rattle.in_arena.specs.declared.content.CellCounts.{CellCounts}
 use Rattle.in_arena.specs.declared.content.CellNo.{CellNo}
 use Rattle.in_arena.proofs.Public.{state_inside, numbers_apart, live_in}
 use Rattle.in_symbols.specs.Tables.{Tables}
@@ -31,9 +32,9 @@ IsGood t a n x = (c : CellClass) (s : ℕ) → IsNumberOf a.cells c n → word_o
 
 pub net_in : (t : Tables) (a b : ArenaView) → HasAllCells (at_rest a) → b.cells ≡ a.cells → length b.states ≡ length a.states → ((n : ℕ) → IsGood t a n (state_at b n)) → IsNetIn t (at_rest b)
 net_in t a b all cells many good = record {
-  all = (let f = ap (λ (z : ℕ). length classes * z) cells in let g = rest.as_many a in let h = rest.as_many b in omega (arith, all, many, f, g, h));
+  all = (let f = ap all_of cells in let g = rest.as_many a in let h = rest.as_many b in omega (arith, all, many, f, g, h));
   none = rest.none_at_rest b;
-  classed = λ c n s at w. good n c s (subst (λ (z : ℕ). IsNumberOf z c n) cells at) (sym (rest.word_at b n) ∙ w);
+  classed = λ c n s at w. good n c s (subst (λ (z : CellCounts). IsNumberOf z c n) cells at) (sym (rest.word_at b n) ∙ w);
 }
 
 pub good_of : (t : Tables) (a : ArenaView) → IsNetIn t (at_rest a) → (n : ℕ) → IsGood t a n (state_at a n)
@@ -58,7 +59,7 @@ module _ (t : Tables) (n : Parts) (over : IsOver t n) (m : MemberParts) (of : Is
       go (inl at) =
           let x = laid.begun_whose t n over m of ns a b begun at.0 y at.1 in
           let there = begun.each at.0 x.0 (record { 0 = y }) x.1 at.1 in
-          let number : IsNumberOf a.cells x.0.class y = subst (λ (z : ℕ). IsNumberOf z x.0.class y) begun.cells there.0 in
+          let number : IsNumberOf a.cells x.0.class y = subst (λ (z : CellCounts). IsNumberOf z x.0.class y) begun.cells there.0 in
           λ c s in_class w. (
           let same : x.0.symbol.0 ≡ s = (let f : Some x.0.symbol.0 ≡ Some s = sym (ap word_of there.2.2) ∙ w in cc) in
           let one : x.0.class ≡ c = numbers_apart a.cells y x.0.class c number in_class in

@@ -1,4 +1,5 @@
 use Rattle.std.proofs.Common.{◌≡◌, ◌≤◌, length, sym, ap, subst, ◌∙◌, arith}
+use Rattle.in_arena.proofs.Public.{class_few}
 use Rattle.in_check.specs.Programs.{Program}
 use Rattle.in_arena.specs.declared.content.CellClass.{CellClass}
 use Rattle.in_arena.specs.declared.content.CellClass.TheVariants.{Small}
@@ -58,13 +59,13 @@ overflow_add-floor c =
     let of = c.pairs.ensures.reducer.cells in
     let floor = c.requires.floor Small in
     let all = of.2 Small in
-    let most = of.1 in
+    let most = class_few of.0 of.1 Small in
     let split = c.in-Some.ensures.split.1 in
     let part = split.of_part.cells in
     let there = part.2 Small in
     let size = split.split.but_queues.part_cells Small in
-    let few = part.1 in
-    omega (arith, floor, all, most, there, size, few)
+    let few = class_few part.0 part.1 Small in
+    omega (arith, floor, all, most.0, there, size, few.0)
 
 pub bring_back-requires : goal.bring_back-requires
 bring_back-requires c =

@@ -1,6 +1,8 @@
 use Rattle.std.proofs.Common.{◌≡◌, ◌⊎◌, inl, inr, ◌<◌, ◌≤◌, ℕ, zero, suc, length, refl, sym, ap, subst, ◌∙◌, arith}
 use Rattle.std.proofs.Math.Nat.{div-le_self}
+use Rattle.in_arena.proofs.Public.{class_few}
 use Rattle.in_arena.specs.Arenas.{ArenaView, free_of}
+use Rattle.in_arena.specs.declared.content.CellClass.TheVariants.{Small}
 use Rattle.in_compile.specs.declared.cells.Need.{Need}
 use Rattle.in_compile.specs.Cells.{count_of}
 use Rattle.in_rounds.specs.Gathers.{bags_of}
@@ -23,17 +25,17 @@ some_or_none (suc k) = inl (omega arith)
 pub overflow_add-count : goal.overflow_add-count
 overflow_add-count g c =
     let short = short_queue _ c.pairs.ensures.reducer in
-    let most = c.pairs.ensures.reducer.cells.1 in
+    let cells = c.pairs.ensures.reducer.cells in let most = class_few cells.0 cells.1 Small in
     let part = div-le_self c.min-count.result c.args.workers in
-    omega (arith, short, most, part, c.pairs.ensures.count, c.from.ensures, c.min-count.ensures)
+    omega (arith, short, most.1, part, c.pairs.ensures.count, c.from.ensures, c.min-count.ensures)
 
 pub gather_jobs-requires-clause-few : goal.gather_jobs-requires-clause-few
 gather_jobs-requires-clause-few g c =
     let short = short_queue _ c.pairs.ensures.reducer in
-    let most = c.pairs.ensures.reducer.cells.1 in
+    let cells = c.pairs.ensures.reducer.cells in let most = class_few cells.0 cells.1 Small in
     let long = ap (λ x. length x.jobs) c.new-plan.ensures in
     let slice = ap length c.as_slice.ensures.value in
-    omega (arith, short, most, long, slice, c.in_ok-heads.ensures.count, c.pairs.ensures.count, c.from.ensures, c.min-count.ensures)
+    omega (arith, short, most.1, long, slice, c.in_ok-heads.ensures.count, c.pairs.ensures.count, c.from.ensures, c.min-count.ensures)
 
 pub gather_jobs-requires-clause-share : goal.gather_jobs-requires-clause-share
 gather_jobs-requires-clause-share g c =

@@ -1,4 +1,5 @@
 use Rattle.std.proofs.Common.{◌-◌, ℕ, Ok, subst, arith}
+use Rattle.in_arena.specs.declared.content.CellCounts.{CellCounts}
 use Rattle.in_reducer.specs.Starts.{IsStart}
 use Rattle.in_run.specs.Stops.{IsStop}
 use Rattle.in_run.proofs.OneEnd.{normal_outcomes_are_one}
@@ -7,7 +8,7 @@ use Rattle.in_run.proofs.in_turn.run_in_turn.Goals as goal
 
 pub loop-stop-init : goal.loop-stop-init
 loop-stop-init c =
-    begins_in_turn c.args.checked.now c.args.limits c.in_ok-machine.machine (subst (λ (n : ℕ). IsStart c.args.checked.now n c.in_ok-machine.machine) c.cells.ensures.cells c.in_ok-machine.ensures)
+    begins_in_turn c.args.checked.now c.args.limits c.in_ok-machine.machine (subst (λ (n : CellCounts). IsStart c.args.checked.now n c.in_ok-machine.machine) c.cells.ensures.cells c.in_ok-machine.ensures)
 
 pub loop-stop-preserved : goal.loop-stop-preserved
 loop-stop-preserved c =

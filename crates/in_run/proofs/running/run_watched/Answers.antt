@@ -1,4 +1,5 @@
 use Rattle.std.proofs.Common.{◌≡◌, ◌⊎◌, ℕ, Ok, sym, subst}
+use Rattle.in_arena.specs.declared.content.CellCounts.{CellCounts}
 use Rattle.in_reducer.specs.Starts.{IsStart}
 use Rattle.in_run.specs.Outcomes.{GoesOnToTheEnd, RunsTo}
 use Rattle.in_run.specs.Stops.{IsStop, NoneHasRoom}
@@ -12,7 +13,7 @@ use Rattle.in_run.proofs.running.run_watched.Goals as goal
 pub loop-stop-init : goal.loop-stop-init
 loop-stop-init g c =
     begins c.is_accepted.ensures.0 c.args.checked.now c.args.limits c.is_accepted.ensures.1 c.in-Ok.machine
-    (subst (λ (n : ℕ). IsStart c.args.checked.now n c.in-Ok.machine) c.cells.ensures.cells (c.in-Ok.ensures {u = tt}))
+    (subst (λ (n : CellCounts). IsStart c.args.checked.now n c.in-Ok.machine) c.cells.ensures.cells (c.in-Ok.ensures {u = tt}))
 
 pub loop-stop-preserved : goal.loop-stop-preserved
 loop-stop-preserved g c =

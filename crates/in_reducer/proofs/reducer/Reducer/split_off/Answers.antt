@@ -1,5 +1,7 @@
 use Rattle.std.proofs.Common.{◌≡◌, ◌<◌, ◌+◌, ℕ, List, length, take, slice_get, sym, ap, subst, ◌∙◌, arith}
 use Rattle.std.proofs.lemmas.List.{length-take-le}
+use Rattle.in_arena.proofs.Public.{each_amount}
+use Rattle.in_arena.specs.Classes.{all_of, each}
 use Rattle.in_arena.specs.declared.content.CellNo.{CellNo}
 use Rattle.in_arena.specs.declared.content.End.{End}
 use Rattle.in_arena.specs.declared.content.End.TheVariants.{Free}
@@ -8,6 +10,7 @@ use Rattle.in_cells.proofs.Public.{numbered_classed}
 use Rattle.in_reducer.specs.Inside.{IsKept, reducer_view}
 use Rattle.in_interaction.proofs.Public.{has_value}
 use Rattle.in_reducer.specs.Cutting.{net_in}
+use Rattle.in_reducer.specs.Limiting.{AreAllowed}
 use Rattle.in_reducer.specs.Machines.{AreNumbersBelow, MachineParts}
 use Rattle.in_reducer.specs.Parting.{CanSplit, IsSplitOff, place_of_two}
 use Rattle.in_reducer.proofs.Cuts.CutOff.{free_many}
@@ -59,7 +62,7 @@ copy-requires-clause-room c =
     let can = subst (λ (m : MachineParts). CanSplit m c.args.agents.now c.args.own c.args.cuts) (sym c.self.view_is) c.requires.can in
     let a = c.in_ok-room.room.fresh.arena in
     let fresh = c.in_ok-room.ensures.fresh in
-    before.cells_for r c.self.invariant.all.net c.args.agents.now c.args.own c.args.cuts can a c.args.cells (all_free a c.args.cells fresh.cells fresh.empty r.checked.now.tables) c.requires.fits
+    before.cells_for r c.self.invariant.all.net c.args.agents.now c.args.own c.args.cuts can a c.args.cells (λ d. all_free a (each c.args.cells) fresh.cells fresh.empty r.checked.now.tables d ∙ each_amount c.args.cells d) c.requires.fits
 
 pub copy-requires-clause-names : goal.copy-requires-clause-names
 copy-requires-clause-names c = λ j n at. (
@@ -287,11 +290,11 @@ invariant_of-result c =
         net = record {
           reducer = kept.part_reducer r k a own cuts can x h c.requires.cells o c.split_queue.ensures.part;
           net = cells.part_net r k a own cuts can x.numbers x.names x.size x.first x.new h.same h.empty h.copied;
-          few = (let e = h.copied.cells in let same = h.same in let l = c.requires.cells in omega (arith, e, same, l));
+          few = subst AreAllowed (sym (h.copied.cells ∙ h.same)) (kept.each_allowed c.args.cells c.requires.cells);
           few_free = kept.part_few r k a own cuts can x h;
           free = kept.picked_own r.checked.now (place_of_two own 1) cuts r.free.items x.part_free h.part_free k.free;
           ends = nets.part_room r k a own cuts can x h;
-          queue = (let e = h.copied.cells in let same = h.same in let l = fresh.queue_room in let g = c.split_queue.ensures.part_room in omega (arith, e, same, l, g));
+          queue = (let e = ap all_of h.copied.cells in let same = ap all_of h.same in let l = fresh.queue_room in let g = c.split_queue.ensures.part_room in omega (arith, e, same, l, g));
         };
         tools = kept.tools_stay f.tools f.arena x.new (cells.part_alike r k a own cuts can x.numbers x.names x.size x.first x.new h.same h.empty h.copied) fresh.tools;
       };
