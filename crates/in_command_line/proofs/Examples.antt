@@ -141,9 +141,9 @@ usual_limits l usual = (
   (codes "1", refl, ((omega arith, search rules), usual.0)),
   (codes "1000000", refl, ((omega arith, search rules), usual.1)),
   (
-    (codes "65536", refl, ((omega arith, search rules), ap (λ (c : CellCounts). c.small) usual.2)),
-    (codes "65536", refl, ((omega arith, search rules), ap (λ (c : CellCounts). c.large) usual.2)),
-    (codes "65536", refl, ((omega arith, search rules), ap (λ (c : CellCounts). c.wide) usual.2)),
+    (codes "65536", refl, ((omega arith, search rules), ap (λ (c : CellCounts). c.small_cells) usual.2)),
+    (codes "65536", refl, ((omega arith, search rules), ap (λ (c : CellCounts). c.large_cells) usual.2)),
+    (codes "65536", refl, ((omega arith, search rules), ap (λ (c : CellCounts). c.wide_cells) usual.2)),
   ),
 )
 
@@ -166,9 +166,9 @@ usual_asks l usual = record {
 
 pub given_asks : RunAsksForTheGiven
 given_asks workers limit cells n l has is are few same =
-    let small : l.cells.small ≡ n = ap (λ (c : CellCounts). c.small) same in
-    let large : l.cells.large ≡ n = ap (λ (c : CellCounts). c.large) same in
-    let wide : l.cells.wide ≡ n = ap (λ (c : CellCounts). c.wide) same in
+    let small : l.cells.small_cells ≡ n = ap (λ (c : CellCounts). c.small_cells) same in
+    let large : l.cells.large_cells ≡ n = ap (λ (c : CellCounts). c.large_cells) same in
+    let wide : l.cells.wide_cells ≡ n = ap (λ (c : CellCounts). c.wide_cells) same in
     let least : least_cells ≤ n = omega (arith, small, l.least.0) in
     record {
       name = codes "run";
@@ -184,7 +184,7 @@ pub classes_ask : RunAsksForEachClass
 classes_ask small large wide l alone usual has is are = record {
   name = codes "run";
   options = class_rows small large wide;
-  taken = classes_taken small large wide (accepted least_cells most_small_cells l.cells.small small has l.least.0 l.most.small (omega arith)) (accepted least_cells most_larger_cells l.cells.large large is l.least.1 l.most.large (omega arith)) (accepted least_cells most_larger_cells l.cells.wide wide are l.least.2 l.most.wide (omega arith));
+  taken = classes_taken small large wide (accepted least_cells most_small_cells l.cells.small_cells small has l.least.0 l.most.small (omega arith)) (accepted least_cells most_larger_cells l.cells.large_cells large is l.least.1 l.most.large (omega arith)) (accepted least_cells most_larger_cells l.cells.wide_cells wide are l.least.2 l.most.wide (omega arith));
   given = classes_given small large wide;
   named = (refl, ((codes "1", refl, ((omega arith, search rules), alone)), (codes "1000000", refl, ((omega arith, search rules), usual)), ((small, refl, has), (large, refl, is), (wide, refl, are))), refl);
   file_is = refl;
@@ -197,7 +197,7 @@ others_ask cells small n l alone usual are few has large wide =
     record {
       name = codes "run";
       options = two_rows cells small;
-      taken = two_taken cells small (accepted least_cells most_cells n cells are least few (omega arith)) (accepted least_cells most_small_cells l.cells.small small has l.least.0 l.most.small (omega arith));
+      taken = two_taken cells small (accepted least_cells most_cells n cells are least few (omega arith)) (accepted least_cells most_small_cells l.cells.small_cells small has l.least.0 l.most.small (omega arith));
       given = two_given cells small;
       named = (refl, ((codes "1", refl, ((omega arith, search rules), alone)), (codes "1000000", refl, ((omega arith, search rules), usual)), ((small, refl, has), (cells, refl, (are.0, large ∙ are.1)), (cells, refl, (are.0, wide ∙ are.1)))), refl);
       file_is = refl;

@@ -53,10 +53,10 @@ row_if_matched f name = go f.entries.items
 -- the classes have one number of cells each
 pub counts_once : (options : List Row) (c d : CellCounts) → HasCounts options c → HasCounts options d → c ≡ d
 counts_once options c d h g =
-    let small = number_once (option_for (codes "small-cells") options) options c.small d.small h.0 g.0 in
-    let large = number_once (option_for (codes "large-cells") options) options c.large d.large h.1 g.1 in
-    let wide = number_once (option_for (codes "wide-cells") options) options c.wide d.wide h.2 g.2 in
-    λ i. (let z : CellCounts = record { small = small i; large = large i; wide = wide i } in z)
+    let small = number_once (option_for (codes "small-cells") options) options c.small_cells d.small_cells h.0 g.0 in
+    let large = number_once (option_for (codes "large-cells") options) options c.large_cells d.large_cells h.1 g.1 in
+    let wide = number_once (option_for (codes "wide-cells") options) options c.wide_cells d.wide_cells h.2 g.2 in
+    λ i. (let z : CellCounts = record { small_cells = small i; large_cells = large i; wide_cells = wide i } in z)
 
 -- the limits of these numbers are those of the options
 pub limits_given : (options : List Row) (workers limit : ℕ) (cells : CellCounts) (r : Option Limits) → AreLimitsOf workers limit cells r

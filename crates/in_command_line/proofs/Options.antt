@@ -364,7 +364,7 @@ limits_asked args none =
     let l : Limits = record {
       workers = workers.0;
       limit = limit.0;
-      cells = record { small = small.0; large = large.0; wide = wide.0 };
+      cells = record { small_cells = small.0; large_cells = large.0; wide_cells = wide.0 };
       some_worker = workers.2;
       few_workers = workers.3;
       limit_in_range = limit.3;

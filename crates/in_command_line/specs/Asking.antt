@@ -39,7 +39,7 @@ HasCount name options n = IsNumber (option_for name options) options n
 
 -- the classes have these numbers of cells
 abbrev pub HasCounts : List Row → CellCounts → Type 0
-HasCounts options cells = HasCount (codes "small-cells") options cells.small × HasCount (codes "large-cells") options cells.large × HasCount (codes "wide-cells") options cells.wide
+HasCounts options cells = HasCount (codes "small-cells") options cells.small_cells × HasCount (codes "large-cells") options cells.large_cells × HasCount (codes "wide-cells") options cells.wide_cells
 
 -- `--workers` and `--limit` have these numbers, and so have the classes of cells
 abbrev pub HasLimits : List Row → Limits → Type 0

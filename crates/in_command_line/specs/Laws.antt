@@ -36,12 +36,12 @@ RunAsksForTheGiven = (workers limit cells : Text) (n : ℕ) (l : Limits) → Spe
 
 -- with an option for each class of cells it requests a run with exactly as many cells of each as their texts spell
 abbrev pub RunAsksForEachClass : Type 0
-RunAsksForEachClass = (small large wide : Text) (l : Limits) → l.workers ≡ 1 → l.limit ≡ 1000000 → Spells small l.cells.small → Spells large l.cells.large → Spells wide l.cells.wide
+RunAsksForEachClass = (small large wide : Text) (l : Limits) → l.workers ≡ 1 → l.limit ≡ 1000000 → Spells small l.cells.small_cells → Spells large l.cells.large_cells → Spells wide l.cells.wide_cells
     → AsksFor (codes "inet" ∷ codes "run" ∷ (codes "--small-cells=" ++ small) ∷ (codes "--large-cells=" ++ large) ∷ (codes "--wide-cells=" ++ wide) ∷ []) (on_input (Run l))
 
 -- with one for small cells alone, there are as many of the others as `--cells` says
 abbrev pub RunAsksForTheOthers : Type 0
-RunAsksForTheOthers = (cells small : Text) (n : ℕ) (l : Limits) → l.workers ≡ 1 → l.limit ≡ 1000000 → Spells cells n → n ≤ most_cells → Spells small l.cells.small → l.cells.large ≡ n → l.cells.wide ≡ n
+RunAsksForTheOthers = (cells small : Text) (n : ℕ) (l : Limits) → l.workers ≡ 1 → l.limit ≡ 1000000 → Spells cells n → n ≤ most_cells → Spells small l.cells.small_cells → l.cells.large_cells ≡ n → l.cells.wide_cells ≡ n
     → AsksFor (codes "inet" ∷ codes "run" ∷ (codes "--cells=" ++ cells) ∷ (codes "--small-cells=" ++ small) ∷ []) (on_input (Run l))
 
 -- with `--no-net` it requests a run without a printed net, and with `--stats` figures

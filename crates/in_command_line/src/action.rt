@@ -126,7 +126,9 @@ fn small_cells_option<'a>(alloc: Global) -> Arg<'a>
         .value_name("N")
         .help("The cells for agents of arity 0 to 2, 16 to 16777216 [default: that of --cells]")
         .action(ArgAction::Set)
-        .value_parser(value_parser!(u64).range(LEAST_CELLS as i64..=CellCounts::MOST.small as i64))
+        .value_parser(value_parser!(u64).range(
+            LEAST_CELLS as i64..=CellCounts::MOST.small_cells as i64,
+        ))
 }
 
 /// The option `--large-cells`: the number of large cells, by default that of `--cells`.
@@ -139,7 +141,9 @@ fn large_cells_option<'a>(alloc: Global) -> Arg<'a>
         .value_name("N")
         .help("The cells for agents of arity 3 to 8, 16 to 8388608 [default: that of --cells]")
         .action(ArgAction::Set)
-        .value_parser(value_parser!(u64).range(LEAST_CELLS as i64..=CellCounts::MOST.large as i64))
+        .value_parser(value_parser!(u64).range(
+            LEAST_CELLS as i64..=CellCounts::MOST.large_cells as i64,
+        ))
 }
 
 /// The option `--wide-cells`: the number of wide cells, by default that of `--cells`.
@@ -152,7 +156,9 @@ fn wide_cells_option<'a>(alloc: Global) -> Arg<'a>
         .value_name("N")
         .help("The cells for agents of arity 9 to 16, 16 to 8388608 [default: that of --cells]")
         .action(ArgAction::Set)
-        .value_parser(value_parser!(u64).range(LEAST_CELLS as i64..=CellCounts::MOST.wide as i64))
+        .value_parser(value_parser!(u64).range(
+            LEAST_CELLS as i64..=CellCounts::MOST.wide_cells as i64,
+        ))
 }
 
 /// The flag `--no-net`: whether the net isn't printed.
@@ -329,10 +335,14 @@ fn count_of(options: &ArgMatches, name: &str) -> Option<u32>
 fn counts_of(options: &ArgMatches) -> Option<CellCounts>
     ensures { AreCountsGiven (rows_of (found_of options.now)) result }
 {
-    let small = count_of(options, "small-cells")?;
-    let large = count_of(options, "large-cells")?;
-    let wide = count_of(options, "wide-cells")?;
-    Some(CellCounts { small, large, wide })
+    let small_cells = count_of(options, "small-cells")?;
+    let large_cells = count_of(options, "large-cells")?;
+    let wide_cells = count_of(options, "wide-cells")?;
+    Some(CellCounts {
+        small_cells,
+        large_cells,
+        wide_cells,
+    })
 }
 
 /// The limits of a run; `None` if they are no numbers within their bounds.

@@ -173,7 +173,11 @@ pub fn add_verified(sheet: &mut Sheet, program: &Checked, words: &[String]) {
 
 /// The numbers of cells: one if each class has as many, and otherwise those of the classes.
 fn add_counts(sheet: &mut Sheet, cells: CellCounts) {
-    let CellCounts { small, large, wide } = cells;
+    let CellCounts {
+        small_cells: small,
+        large_cells: large,
+        wide_cells: wide,
+    } = cells;
     if cells == CellCounts::each(small) {
         sheet.fill(" #", &[small as u64]);
     } else {

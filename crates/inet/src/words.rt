@@ -147,12 +147,16 @@ fn limits_in(action: &Action) -> Option<Limits> {
 /// Help after a run with these cells that had too few of a size: if it had as many of each and more are allowed, the option for all, and otherwise
 /// those for each size.
 fn help_with_cells(alloc: Global, cells: CellCounts) -> Result<String, AllocError> {
-    let CellCounts { small, large, wide } = CellCounts::MOST;
+    let CellCounts {
+        small_cells: small,
+        large_cells: large,
+        wide_cells: wide,
+    } = CellCounts::MOST;
     if cells == CellCounts::MOST {
         format!(in alloc;
             "help: no run may have more than {small} small, {large} large and {wide} wide cells\n"
         )
-    } else if cells == CellCounts::each(cells.small) && cells.small < MOST_CELLS {
+    } else if cells == CellCounts::each(cells.small_cells) && cells.small_cells < MOST_CELLS {
         format!(in alloc; "help: `--cells N` gives more cells of each size, up to {MOST_CELLS}\n")
     } else {
         format!(in alloc;
