@@ -20,8 +20,8 @@ _inet() {
       derive)
         words='-h --help' files=1 ;;
       run)
-        case $before in --workers|--limit|--cells) return ;; esac
-        words='--workers --limit --cells --no-net --stats -h --help' files=1 ;;
+        case $before in --workers|--limit|--cells|--small-cells|--large-cells|--wide-cells) return ;; esac
+        words='--workers --limit --cells --small-cells --large-cells --wide-cells --no-net --stats -h --help' files=1 ;;
       help) if ((COMP_CWORD == 2)); then words='check derive run'; fi ;;
     esac
   fi

@@ -123,7 +123,7 @@ def roff_options(options):
     for option in options:
         names = ", ".join(f"\\fB{roff(name)}\\fR" for name in option.names())
         yield f".TP\n{names}" + (f" \\fI{option.value}\\fR" if option.value else "")
-        yield roff(option.what) + "." + (f" Usually {option.usual}." if option.usual else "")
+        yield roff(option.what) + "." + (f" Usually {roff(option.usual)}." if option.usual else "")
 
 
 def man_page(command):

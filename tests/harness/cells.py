@@ -18,12 +18,14 @@ CLASSES = {"small": 2, "large": 8, "wide": 16}
 GROWING = ("fills_large_cells", "fills_wide_cells")
 GROWING_EXAMPLES = ("factorial", "stream", "product")
 MOST_CELLS = 1_048_576
+MOST_OF_A_SIZE = ["--small-cells", "16777216", "--large-cells", "8388608", "--wide-cells", "8388608"]
 # What is told who runs a program that stops early.
 MORE_INTERACTIONS = b"help: `--limit N` allows more interactions, up to 1000000000000\n"
 MORE_CELLS = b"help: `--cells N` gives more cells of each size, up to 1048576\n"
-NO_MORE_CELLS = b"help: no run may have more cells of a size than 1048576\n"
-# So often doubled, one has more agents than there may be cells.
-DOUBLINGS = 21
+MORE_OF_A_SIZE = b"help: `--small-cells N`, `--large-cells N` and `--wide-cells N` give more cells of a size, up to 16777216, 8388608 and 8388608\n"
+NO_MORE_CELLS = b"help: no run may have more than 16777216 small, 8388608 large and 8388608 wide cells\n"
+# So often doubled, one has more agents than there may be cells of each size, and of small ones.
+DOUBLINGS, MORE_DOUBLINGS = 21, 25
 # Programs with agents of each class whose runs are so short that figures are taken at their beginning and their end alone, and how many
 # interactions those may have.
 WITH_FIGURES = ("sum_of_two_and_one", "copies_added", "agent_with_a_large_cell", "as_many_wide_agents_as_cells")
@@ -153,11 +155,11 @@ def figures(program):
         yield f"figures of many jobs, {workers} workers", partial(wrong_threads, program, workers)
 
 
-def doubled_text():
-    """One, doubled again and again, by the rules of the example."""
+def doubled_text(times):
+    """One, doubled so many times, by the rules of the example."""
     rules = text_of("double").decode().rpartition("net (")[0]
-    lines = "".join(f"Dup(one{k}, other{k}) ~ n{k}; Add(other{k}, n{k + 1}) ~ one{k};\n" for k in range(DOUBLINGS))
-    return f"{rules}net (n{DOUBLINGS} : nat+) {{\nn0 ~ S(Z);\n{lines}}}\n".encode()
+    lines = "".join(f"Dup(one{k}, other{k}) ~ n{k}; Add(other{k}, n{k + 1}) ~ one{k};\n" for k in range(times))
+    return f"{rules}net (n{times} : nat+) {{\nn0 ~ S(Z);\n{lines}}}\n".encode()
 
 
 def wrong_help(program, words, text, status, told):
@@ -172,7 +174,9 @@ def helps(program):
         (["--limit", "1"], text_of("sum"), LIMIT, MORE_INTERACTIONS),
         (["--cells", "16"], text_of("fills_wide_cells", ROWS), FULL, MORE_CELLS),
         (["--cells", "16"], text_of("more_wide_agents_than_cells", ROWS), FULL, MORE_CELLS),
-        (["--cells", str(MOST_CELLS), "--limit", "100000000"], doubled_text(), FULL, NO_MORE_CELLS),
+        (["--cells", "16", "--small-cells", "17"], text_of("fills_wide_cells", ROWS), FULL, MORE_OF_A_SIZE),
+        (["--cells", str(MOST_CELLS), "--limit", "100000000"], doubled_text(DOUBLINGS), FULL, MORE_OF_A_SIZE),
+        ([*MOST_OF_A_SIZE, "--limit", "100000000"], doubled_text(MORE_DOUBLINGS), FULL, NO_MORE_CELLS),
     ):
         yield f"told of {' '.join(['run', *words])}, status {status}", partial(wrong_help, program, words, text, status, told)
 

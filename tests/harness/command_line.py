@@ -25,6 +25,8 @@ OFFERED = {
     ("inet", "he"): ["help"],
     ("inet", "run", "--li"): ["--limit"],
     ("inet", "run", "--no"): ["--no-net"],
+    ("inet", "run", "--sm"): ["--small-cells"],
+    ("inet", "run", "--wide-cells", ""): [],
     ("inet", "run", "--limit", ""): [],
     ("inet", "check", "--s"): [],
     ("inet", "check", "waits_for_itself.i"): ["waits_for_itself.inet"],

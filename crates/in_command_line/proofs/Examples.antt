@@ -1,14 +1,15 @@
 -- The requests of words that are written out.
-use Rattle.std.proofs.Common.{◌≡◌, ◌<◌, ◌≤◌, ◌^◌, ℕ, ◌++◌, Bool, true, false, cond, List, [], ◌∷◌, Some, refl, arith, rules}
+use Rattle.std.proofs.Common.{◌≡◌, ◌<◌, ◌≤◌, ◌^◌, ℕ, ◌++◌, Bool, true, false, List, [], ◌∷◌, Some, refl, ◌∙◌, ap, arith, rules}
 use Rattle.std.specs.Prelude.{codes}
 use Rattle.clap.specs.Kinds.{Kinds, or_else}
 use Rattle.clap.specs.ValueTests.{accepts}
-use Rattle.clap.specs.declared.error.kind.ErrorKind.TheVariants.{ValueValidation}
 use Rattle.clap.specs.Walk.{Row, Text}
 use Rattle.clap.specs.Simple.{subcommand_of}
 use Rattle.clap.specs.declared.builder.value_parser.ValueParser.TheVariants.{Unsigned}
 use Rattle.clap.specs.declared.parser.matches.ValueSource.TheVariants.{DefaultValue, CommandLine}
 use Rattle.clap.specs.declared.parser.matches.ValueSource.{ValueSource}
+use Rattle.in_arena.specs.Limiting.{most_larger_cells, most_small_cells}
+use Rattle.in_arena.specs.declared.content.CellCounts.{CellCounts}
 use Rattle.in_limits.specs.declared.limits.Limits.{Limits}
 use Rattle.clap.proofs.OnLiterals.{clap_on_literals}
 use Rattle.clap.proofs.ValueTestLemmas.{Accepts-accepts}
@@ -16,7 +17,8 @@ use Rattle.in_limits.specs.Limiting.{least_cells, most_cells, most_interactions,
 use Rattle.in_command_line.specs.Asking.{HasLimits, Spells, faults}
 use Rattle.in_command_line.specs.CommandLine.{command_line}
 use Rattle.in_command_line.proofs.Options.{new_row}
-use Rattle.in_command_line.specs.Laws.{FilesAreAsked, FlagsAreAsked, RunAsksForTheGiven, RunAsksForTheUsual, SubcommandsAsk, AreUsualLimits}
+use Rattle.in_command_line.proofs.Refusals.{in_word}
+use Rattle.in_command_line.specs.Laws.{FilesAreAsked, FlagsAreAsked, RunAsksForEachClass, RunAsksForTheGiven, RunAsksForTheOthers, RunAsksForTheUsual, SubcommandsAsk, AreUsualLimits}
 
 abbrev check_words : List Text
 check_words = codes "inet" ∷ codes "check" ∷ []
@@ -30,8 +32,17 @@ run_words = codes "inet" ∷ codes "run" ∷ []
 abbrev given_words : Text → Text → Text → List Text
 given_words workers limit cells = codes "inet" ∷ codes "run" ∷ (codes "--workers=" ++ workers) ∷ (codes "--limit=" ++ limit) ∷ (codes "--cells=" ++ cells) ∷ []
 
+abbrev class_words : Text → Text → Text → List Text
+class_words small large wide = codes "inet" ∷ codes "run" ∷ (codes "--small-cells=" ++ small) ∷ (codes "--large-cells=" ++ large) ∷ (codes "--wide-cells=" ++ wide) ∷ []
+
+abbrev two_words : Text → Text → List Text
+two_words cells small = codes "inet" ∷ codes "run" ∷ (codes "--cells=" ++ cells) ∷ (codes "--small-cells=" ++ small) ∷ []
+
+abbrev usual_limit : List Row
+usual_limit = new_row (codes "workers") (codes "1") DefaultValue ∷ new_row (codes "limit") (codes "1000000") DefaultValue ∷ []
+
 abbrev usual_numbers : List Row
-usual_numbers = new_row (codes "workers") (codes "1") DefaultValue ∷ new_row (codes "limit") (codes "1000000") DefaultValue ∷ new_row (codes "cells") (codes "65536") DefaultValue ∷ []
+usual_numbers = usual_limit ++ new_row (codes "cells") (codes "65536") DefaultValue ∷ []
 
 abbrev usual_flags : List Row
 usual_flags = new_row (codes "no-net") (codes "false") DefaultValue ∷ new_row (codes "stats") (codes "false") DefaultValue ∷ []
@@ -41,6 +52,12 @@ usual_rows = usual_numbers ++ usual_flags
 
 abbrev given_rows : Text → Text → Text → List Row
 given_rows workers limit cells = (new_row (codes "workers") workers CommandLine ∷ new_row (codes "limit") limit CommandLine ∷ new_row (codes "cells") cells CommandLine ∷ []) ++ usual_flags
+
+abbrev class_rows : Text → Text → Text → List Row
+class_rows small large wide = (new_row (codes "small-cells") small CommandLine ∷ new_row (codes "large-cells") large CommandLine ∷ new_row (codes "wide-cells") wide CommandLine ∷ []) ++ usual_rows
+
+abbrev two_rows : Text → Text → List Row
+two_rows cells small = (new_row (codes "cells") cells CommandLine ∷ new_row (codes "small-cells") small CommandLine ∷ []) ++ usual_limit ++ usual_flags
 
 abbrev file_row : Text → Row
 file_row file = new_row (codes "file") file CommandLine
@@ -75,12 +92,15 @@ run_given : subcommand_of command_line run_words ≡ Some (codes "run", usual_ro
 unfolding clap_on_literals
 run_given = refl
 
--- the errors in a word with a number, and in three of them
-abbrev in_word : Bool → Kinds
-in_word b = or_else (or_else (cond b [] (ValueValidation ∷ [])) []) []
-
+-- the errors in three words with numbers, and in two
 abbrev in_words : Bool → Bool → Bool → Kinds
 in_words workers limit cells = or_else (or_else (or_else (in_word workers) (or_else (in_word limit) (or_else (in_word cells) []))) []) []
+
+abbrev in_two_words : Bool → Bool → Kinds
+in_two_words cells small = or_else (or_else (or_else (in_word cells) (or_else (in_word small) [])) []) []
+
+none_of_two_wrong : (a b : Bool) → a ≡ true → b ≡ true → in_two_words a b ≡ []
+none_of_two_wrong a b has is = rw (has, is) refl
 
 none_wrong : (a b c : Bool) → a ≡ true → b ≡ true → c ≡ true → in_words a b c ≡ []
 none_wrong a b c has is are = rw (has, is, are) refl
@@ -94,14 +114,38 @@ all_given : (workers limit cells : Text) → subcommand_of command_line (given_w
 unfolding clap_on_literals
 all_given workers limit cells = refl
 
+classes_taken : (small large wide : Text) → accepts false (Unsigned least_cells most_small_cells) small ≡ true → accepts false (Unsigned least_cells most_larger_cells) large ≡ true → accepts false (Unsigned least_cells most_larger_cells) wide ≡ true → faults (class_words small large wide) ≡ []
+unfolding clap_on_literals
+classes_taken small large wide has is are =
+    none_wrong (accepts false (Unsigned least_cells most_small_cells) small) (accepts false (Unsigned least_cells most_larger_cells) large) (accepts false (Unsigned least_cells most_larger_cells) wide) has is are
+
+classes_given : (small large wide : Text) → subcommand_of command_line (class_words small large wide) ≡ Some (codes "run", class_rows small large wide)
+unfolding clap_on_literals
+classes_given small large wide = refl
+
+two_taken : (cells small : Text) → accepts false (Unsigned least_cells most_cells) cells ≡ true → accepts false (Unsigned least_cells most_small_cells) small ≡ true → faults (two_words cells small) ≡ []
+unfolding clap_on_literals
+two_taken cells small has is = none_of_two_wrong (accepts false (Unsigned least_cells most_cells) cells) (accepts false (Unsigned least_cells most_small_cells) small) has is
+
+two_given : (cells small : Text) → subcommand_of command_line (two_words cells small) ≡ Some (codes "run", two_rows cells small)
+unfolding clap_on_literals
+two_given cells small = refl
+
 accepted : (least most n : ℕ) (text : Text) → Spells text n → least ≤ n → n ≤ most → most < 2 ^ 64 → accepts false (Unsigned least most) text ≡ true
 accepted least most n text spells above below few =
     Accepts-accepts false (Unsigned least most) text (spells.0, omega (arith, spells.1), omega (arith, spells.1), omega (arith, spells.1))
 
 -- the usual limits are those of any rows that begin with the usual numbers
 usual_limits : (l : Limits) → AreUsualLimits l → HasLimits usual_rows l
-usual_limits l usual =
-    ((codes "1", refl, ((omega arith, search rules), usual.0)), (codes "1000000", refl, ((omega arith, search rules), usual.1)), (codes "65536", refl, ((omega arith, search rules), usual.2)))
+usual_limits l usual = (
+  (codes "1", refl, ((omega arith, search rules), usual.0)),
+  (codes "1000000", refl, ((omega arith, search rules), usual.1)),
+  (
+    (codes "65536", refl, ((omega arith, search rules), ap (λ (c : CellCounts). c.small_cells) usual.2)),
+    (codes "65536", refl, ((omega arith, search rules), ap (λ (c : CellCounts). c.large_cells) usual.2)),
+    (codes "65536", refl, ((omega arith, search rules), ap (λ (c : CellCounts). c.wide_cells) usual.2)),
+  ),
+)
 
 pub named_ask : SubcommandsAsk
 named_ask = (
@@ -121,15 +165,44 @@ usual_asks l usual = record {
 }
 
 pub given_asks : RunAsksForTheGiven
-given_asks workers limit cells l has is are = record {
+given_asks workers limit cells n l has is are few same =
+    let small : l.cells.small_cells ≡ n = ap (λ (c : CellCounts). c.small_cells) same in
+    let large : l.cells.large_cells ≡ n = ap (λ (c : CellCounts). c.large_cells) same in
+    let wide : l.cells.wide_cells ≡ n = ap (λ (c : CellCounts). c.wide_cells) same in
+    let least : least_cells ≤ n = omega (arith, small, l.least.0) in
+    record {
+      name = codes "run";
+      options = given_rows workers limit cells;
+      taken = all_taken workers limit cells (accepted 1 most_workers l.workers workers has l.some_worker l.few_workers (omega arith)) (accepted 0 most_interactions l.limit limit is (omega arith) l.limit_in_range (omega arith)) (accepted least_cells most_cells n cells are least few (omega arith));
+      given = all_given workers limit cells;
+      named = (refl, ((workers, refl, has), (limit, refl, is), ((cells, refl, (are.0, small ∙ are.1)), (cells, refl, (are.0, large ∙ are.1)), (cells, refl, (are.0, wide ∙ are.1)))), refl);
+      file_is = refl;
+      stats_are = refl;
+    }
+
+pub classes_ask : RunAsksForEachClass
+classes_ask small large wide l alone usual has is are = record {
   name = codes "run";
-  options = given_rows workers limit cells;
-  taken = all_taken workers limit cells (accepted 1 most_workers l.workers workers has l.some_worker l.few_workers (omega arith)) (accepted 0 most_interactions l.limit limit is (omega arith) l.limit_in_range (omega arith)) (accepted least_cells most_cells l.cells cells are l.least l.most (omega arith));
-  given = all_given workers limit cells;
-  named = (refl, ((workers, refl, has), (limit, refl, is), (cells, refl, are)), refl);
+  options = class_rows small large wide;
+  taken = classes_taken small large wide (accepted least_cells most_small_cells l.cells.small_cells small has l.least.0 l.most.small (omega arith)) (accepted least_cells most_larger_cells l.cells.large_cells large is l.least.1 l.most.large (omega arith)) (accepted least_cells most_larger_cells l.cells.wide_cells wide are l.least.2 l.most.wide (omega arith));
+  given = classes_given small large wide;
+  named = (refl, ((codes "1", refl, ((omega arith, search rules), alone)), (codes "1000000", refl, ((omega arith, search rules), usual)), ((small, refl, has), (large, refl, is), (wide, refl, are))), refl);
   file_is = refl;
   stats_are = refl;
 }
+
+pub others_ask : RunAsksForTheOthers
+others_ask cells small n l alone usual are few has large wide =
+    let least : least_cells ≤ n = omega (arith, large, l.least.1) in
+    record {
+      name = codes "run";
+      options = two_rows cells small;
+      taken = two_taken cells small (accepted least_cells most_cells n cells are least few (omega arith)) (accepted least_cells most_small_cells l.cells.small_cells small has l.least.0 l.most.small (omega arith));
+      given = two_given cells small;
+      named = (refl, ((codes "1", refl, ((omega arith, search rules), alone)), (codes "1000000", refl, ((omega arith, search rules), usual)), ((small, refl, has), (cells, refl, (are.0, large ∙ are.1)), (cells, refl, (are.0, wide ∙ are.1)))), refl);
+      file_is = refl;
+      stats_are = refl;
+    }
 
 -- ---- flags and files
 

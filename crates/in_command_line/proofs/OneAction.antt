@@ -9,12 +9,12 @@ use Rattle.in_command_line.specs.Asking.{Asked, HasLimits, Names, file_in, is_se
 use Rattle.in_command_line.specs.Laws.{WordsAskForOneAction}
 use Rattle.in_command_line.specs.declared.action.Action.{Action}
 use Rattle.in_command_line.specs.declared.action.Action.TheVariants.{Check, Derive, Run, Count}
-use Rattle.in_command_line.proofs.Numbers.{number_once}
+use Rattle.in_command_line.proofs.Numbers.{counts_once, number_once}
 
 one_number : (options : List Row) (l k : Limits) → HasLimits options l → HasLimits options k → l ≡ k
 one_number options l k h g =
     one_limits l k (number_once (codes "workers") options l.workers k.workers h.0 g.0) (number_once (codes "limit") options l.limit k.limit h.1 g.1)
-    (number_once (codes "cells") options l.cells k.cells h.2 g.2)
+    (counts_once options l.cells k.cells h.2 g.2)
 
 one_name : (name : Text) (options : List Row) (a b : Action) → Names name options a → Names name options b → a ≡ b
 one_name name options Check Check h g = refl

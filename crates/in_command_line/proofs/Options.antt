@@ -1,5 +1,5 @@
 -- The options of `run` after words without fault: each has a text that its parser takes.
-use Rattle.std.proofs.Common.{◌≡◌, ◌==◌, ◌||◌, ℕ, Bool, true, false, cond, List, [], ◌∷◌, ◌++◌, length, Option, Some, None, refl, sym, ◌∙◌, subst, ◌≤◌, arith}
+use Rattle.std.proofs.Common.{◌≡◌, ◌==◌, ◌||◌, ℕ, Bool, true, false, cond, List, [], ◌∷◌, ◌++◌, length, Option, Some, None, refl, sym, ◌∙◌, ap, subst, ◌≤◌, arith}
 use Rattle.std.proofs.lemmas.Option.{same_Some}
 use Rattle.std.specs.Prelude.{codes, slice_get}
 use Rattle.std.proofs.lemmas.Bool.{eqb-true}
@@ -19,10 +19,11 @@ use Rattle.clap.specs.declared.error.kind.ErrorKind.TheVariants as kind
 use Rattle.clap.specs.declared.parser.matches.ValueSource.{ValueSource}
 use Rattle.clap.specs.declared.parser.matches.ValueSource.TheVariants.{DefaultValue, CommandLine}
 use Rattle.clap.proofs.ValueTestLemmas.{accepts-Accepts}
+use Rattle.in_arena.specs.Limiting.{most_larger_cells, most_small_cells}
 use Rattle.in_limits.specs.Limiting.{least_cells, most_cells, most_interactions, most_workers}
 use Rattle.in_limits.specs.declared.limits.Limits.{Limits}
-use Rattle.in_command_line.specs.Asking.{HasLimits, IsNumber}
-use Rattle.in_command_line.specs.CommandLine.{command_line, file_argument, flag, number_option, run_command}
+use Rattle.in_command_line.specs.Asking.{HasLimits, IsNumber, option_for}
+use Rattle.in_command_line.specs.CommandLine.{command_line, count_option, file_argument, flag, number_option, run_command}
 use Rattle.in_command_line.proofs.Faultless.{AllKeep, Keeps, first_none, settled_keeps, walk_keeps}
 
 -- ---- lists of rows
@@ -44,7 +45,7 @@ each_at P id change missing (r ∷ rs) changed new h = go (bytes_eq r.id id) (ea
     go true later = each_append P (change r) rs (changed r h.0) h.1
     go false later = (h.0, later)
 
--- ---- the rows of the three options
+-- ---- the rows of the options with numbers
 
 -- the row has a text between these bounds, as it was written
 pub record Fits (least most : ℕ) (r : Row) : Type 0 where
@@ -53,7 +54,7 @@ pub record Fits (least most : ℕ) (r : Row) : Type 0 where
   pub first : slice_get r.values 0 ≡ Some text
   pub passes : accepts false (Unsigned least most) text ≡ true
 
--- an option that takes a number, as a command that is built has it
+-- an option that takes a number and has a default, as a command that is built has it
 abbrev pub number_rule : Text → Text → ℕ → ℕ → Rule
 number_rule name usual least most = with_index 1 (filled (number_option name usual least most))
 
@@ -65,6 +66,19 @@ limit_rule = number_rule (codes "limit") (codes "1000000") 0 most_interactions
 
 abbrev pub cells_rule : Rule
 cells_rule = number_rule (codes "cells") (codes "65536") least_cells most_cells
+
+-- .. and one without a default
+abbrev pub count_rule : Text → ℕ → ℕ → Rule
+count_rule name least most = with_index 1 (filled (count_option name least most))
+
+abbrev pub small_cells_rule : Rule
+small_cells_rule = count_rule (codes "small-cells") least_cells most_small_cells
+
+abbrev pub large_cells_rule : Rule
+large_cells_rule = count_rule (codes "large-cells") least_cells most_larger_cells
+
+abbrev pub wide_cells_rule : Rule
+wide_cells_rule = count_rule (codes "wide-cells") least_cells most_larger_cells
 
 -- a flag, as a command that is built has it
 abbrev pub flag_rule : Text → Rule
@@ -89,6 +103,8 @@ run_shape = built_leaf (inherited (built command_line).top run_command.top)
 -- the row of an option has values that the option takes
 abbrev pub IsGood : Row → Type 0
 IsGood r = (bytes_eq r.id (codes "workers") ≡ true → Fits 1 most_workers r) × (bytes_eq r.id (codes "limit") ≡ true → Fits 0 most_interactions r) × (bytes_eq r.id (codes "cells") ≡ true → Fits least_cells most_cells r)
+    × (bytes_eq r.id (codes "small-cells") ≡ true → Fits least_cells most_small_cells r) × (bytes_eq r.id (codes "large-cells") ≡ true → Fits least_cells most_larger_cells r)
+    × (bytes_eq r.id (codes "wide-cells") ≡ true → Fits least_cells most_larger_cells r)
 
 abbrev pub Good : List Row → Type 0
 Good rows = Each IsGood rows
@@ -105,7 +121,7 @@ values_keep : (id : Text) (how : Reading) (s : ValueSource) (values : List Text)
     → IsGood (record { id = id; values = values; count = None; source = Some s; reading = how }) → Good rows → Good (with_values id how s values rows)
 values_keep id how s values rows new h =
     each_at IsGood id (more_values s values) _ rows
-    (λ r g. ((λ e. fits_more _ _ values r _ (g.0 e), λ e. fits_more _ _ values r _ (g.1 e), λ e. fits_more _ _ values r _ (g.2 e)), tt)) (new, tt) h
+    (λ r g. ((λ e. fits_more _ _ values r _ (g.0 e), λ e. fits_more _ _ values r _ (g.1 e), λ e. fits_more _ _ values r _ (g.2 e), λ e. fits_more _ _ values r _ (g.3 e), λ e. fits_more _ _ values r _ (g.4 e), λ e. fits_more _ _ values r _ (g.5 e)), tt)) (new, tt) h
 
 without_keeps : (id : Text) (rows : List Row) → Good rows → Good (without id rows)
 without_keeps id rows h = each_at IsGood id (λ _. []) [] rows (λ r g. tt) tt h
@@ -143,13 +159,26 @@ number_keeps name usual least most new again (v ∷ []) rows good none =
     values_keep name AsWritten CommandLine (v ∷ []) (without name rows) (new v (is_taken (Unsigned least most) v passed.0)) (without_keeps name rows good)
 
 workers_row : (s : ValueSource) (text : Text) → accepts false (Unsigned 1 most_workers) text ≡ true → IsGood (new_row (codes "workers") text s)
-workers_row s text fits = (λ _. record { text = text; reading = refl; first = refl; passes = fits }, λ e. cc, λ e. cc)
+workers_row s text fits = (λ _. record { text = text; reading = refl; first = refl; passes = fits }, λ e. cc, λ e. cc, λ e. cc, λ e. cc, λ e. cc)
 
 limit_row : (s : ValueSource) (text : Text) → accepts false (Unsigned 0 most_interactions) text ≡ true → IsGood (new_row (codes "limit") text s)
-limit_row s text fits = (λ e. cc, λ _. record { text = text; reading = refl; first = refl; passes = fits }, λ e. cc)
+limit_row s text fits = (λ e. cc, λ _. record { text = text; reading = refl; first = refl; passes = fits }, λ e. cc, λ e. cc, λ e. cc, λ e. cc)
 
 cells_row : (s : ValueSource) (text : Text) → accepts false (Unsigned least_cells most_cells) text ≡ true → IsGood (new_row (codes "cells") text s)
-cells_row s text fits = (λ e. cc, λ e. cc, λ _. record { text = text; reading = refl; first = refl; passes = fits })
+cells_row s text fits = (λ e. cc, λ e. cc, λ _. record { text = text; reading = refl; first = refl; passes = fits }, λ e. cc, λ e. cc, λ e. cc)
+
+small_cells_row : (s : ValueSource) (text : Text) → accepts false (Unsigned least_cells most_small_cells) text ≡ true → IsGood (new_row (codes "small-cells") text s)
+small_cells_row s text fits = (λ e. cc, λ e. cc, λ e. cc, λ _. record { text = text; reading = refl; first = refl; passes = fits }, λ e. cc, λ e. cc)
+
+large_cells_row : (s : ValueSource) (text : Text) → accepts false (Unsigned least_cells most_larger_cells) text ≡ true → IsGood (new_row (codes "large-cells") text s)
+large_cells_row s text fits = (λ e. cc, λ e. cc, λ e. cc, λ e. cc, λ _. record { text = text; reading = refl; first = refl; passes = fits }, λ e. cc)
+
+wide_cells_row : (s : ValueSource) (text : Text) → accepts false (Unsigned least_cells most_larger_cells) text ≡ true → IsGood (new_row (codes "wide-cells") text s)
+wide_cells_row s text fits = (λ e. cc, λ e. cc, λ e. cc, λ e. cc, λ e. cc, λ _. record { text = text; reading = refl; first = refl; passes = fits })
+
+-- a use doesn't read the defaults
+count_keeps : (name : Text) (least most : ℕ) → ((text : Text) → accepts false (Unsigned least most) text ≡ true → IsGood (new_row name text CommandLine)) → Keeps Good (count_rule name least most)
+count_keeps name least most new = number_keeps name (codes "1") least most new
 
 -- the rows of the other arguments are open
 flag_keeps : (name : Text) → ((values : List Text) → IsGood (record { id = name; values = values; count = None; source = Some CommandLine; reading = reading_by (flag_rule name) })) → Keeps Good (flag_rule name)
@@ -158,21 +187,29 @@ flag_keeps name new again values rows good none =
 
 file_keeps : Keeps Good file_rule
 file_keeps again values rows good none =
-    values_keep (codes "file") (reading_by file_rule) CommandLine (values_or_missing file_rule values) (without (codes "file") rows) (λ e. cc, λ e. cc, λ e. cc) (without_keeps (codes "file") rows good)
+    values_keep (codes "file") (reading_by file_rule) CommandLine (values_or_missing file_rule values) (without (codes "file") rows) (λ e. cc, λ e. cc, λ e. cc, λ e. cc, λ e. cc, λ e. cc) (without_keeps (codes "file") rows good)
 
-pub options_keep : AllKeep Good (workers_rule ∷ limit_rule ∷ cells_rule ∷ no_net_rule ∷ stats_rule ∷ file_rule ∷ help_flag ∷ [])
-options_keep f a is = go (f workers_rule) (f limit_rule) (f cells_rule) (f no_net_rule) (f stats_rule) (f file_rule) (f help_flag) is
+-- the rules of arguments with other rows, after those with numbers
+others_keep : (a : Rule) (w x y z : Bool) → cond w (Some no_net_rule) (cond x (Some stats_rule) (cond y (Some file_rule) (cond z (Some help_flag) None))) ≡ Some a → Keeps Good a
+others_keep a true x y z e = subst (Keeps Good) (same_Some _ _ e) (flag_keeps (codes "no-net") (λ values. (λ e. cc, λ e. cc, λ e. cc, λ e. cc, λ e. cc, λ e. cc)))
+others_keep a false true y z e = subst (Keeps Good) (same_Some _ _ e) (flag_keeps (codes "stats") (λ values. (λ e. cc, λ e. cc, λ e. cc, λ e. cc, λ e. cc, λ e. cc)))
+others_keep a false false true z e = subst (Keeps Good) (same_Some _ _ e) file_keeps
+others_keep a false false false true e = subst (Keeps Good) (same_Some _ _ e) (λ again values rows good none. good)
+others_keep a false false false false e = cc
+
+pub options_keep : AllKeep Good (workers_rule ∷ limit_rule ∷ cells_rule ∷ small_cells_rule ∷ large_cells_rule ∷ wide_cells_rule ∷ no_net_rule ∷ stats_rule ∷ file_rule ∷ help_flag ∷ [])
+options_keep f a is =
+    go _ (others_keep a (f no_net_rule) (f stats_rule) (f file_rule) (f help_flag)) (f workers_rule) (f limit_rule) (f cells_rule) (f small_cells_rule) (f large_cells_rule) (f wide_cells_rule) is
   where
-    go : (t u v w x y z : Bool) → cond t (Some workers_rule) (cond u (Some limit_rule) (cond v (Some cells_rule) (cond w (Some no_net_rule) (cond x (Some stats_rule) (cond y (Some file_rule) (cond z (Some help_flag) None)))))) ≡ Some a
+    go : (others : Option Rule) → (others ≡ Some a → Keeps Good a) → (q r s t u v : Bool) → cond q (Some workers_rule) (cond r (Some limit_rule) (cond s (Some cells_rule) (cond t (Some small_cells_rule) (cond u (Some large_cells_rule) (cond v (Some wide_cells_rule) others))))) ≡ Some a
         → Keeps Good a
-    go true u v w x y z e = subst (Keeps Good) (same_Some _ _ e) (number_keeps (codes "workers") (codes "1") 1 most_workers (workers_row CommandLine))
-    go false true v w x y z e = subst (Keeps Good) (same_Some _ _ e) (number_keeps (codes "limit") (codes "1000000") 0 most_interactions (limit_row CommandLine))
-    go false false true w x y z e = subst (Keeps Good) (same_Some _ _ e) (number_keeps (codes "cells") (codes "65536") least_cells most_cells (cells_row CommandLine))
-    go false false false true x y z e = subst (Keeps Good) (same_Some _ _ e) (flag_keeps (codes "no-net") (λ values. (λ e. cc, λ e. cc, λ e. cc)))
-    go false false false false true y z e = subst (Keeps Good) (same_Some _ _ e) (flag_keeps (codes "stats") (λ values. (λ e. cc, λ e. cc, λ e. cc)))
-    go false false false false false true z e = subst (Keeps Good) (same_Some _ _ e) file_keeps
-    go false false false false false false true e = subst (Keeps Good) (same_Some _ _ e) (λ again values rows good none. good)
-    go false false false false false false false e = cc
+    go others keep true r s t u v e = subst (Keeps Good) (same_Some _ _ e) (number_keeps (codes "workers") (codes "1") 1 most_workers (workers_row CommandLine))
+    go others keep false true s t u v e = subst (Keeps Good) (same_Some _ _ e) (number_keeps (codes "limit") (codes "1000000") 0 most_interactions (limit_row CommandLine))
+    go others keep false false true t u v e = subst (Keeps Good) (same_Some _ _ e) (number_keeps (codes "cells") (codes "65536") least_cells most_cells (cells_row CommandLine))
+    go others keep false false false true u v e = subst (Keeps Good) (same_Some _ _ e) (count_keeps (codes "small-cells") least_cells most_small_cells (small_cells_row CommandLine))
+    go others keep false false false false true v e = subst (Keeps Good) (same_Some _ _ e) (count_keeps (codes "large-cells") least_cells most_larger_cells (large_cells_row CommandLine))
+    go others keep false false false false false true e = subst (Keeps Good) (same_Some _ _ e) (count_keeps (codes "wide-cells") least_cells most_larger_cells (wide_cells_row CommandLine))
+    go others keep false false false false false false e = keep e
 
 -- ---- the default texts of missing options
 
@@ -239,10 +276,19 @@ has_beside other name rows has = go (has_row name rows)
 has_beside_flags : (other : Text) (rows : List Row) → has_row other rows ≡ true → has_row other (with_default (with_default rows no_net_rule) stats_rule) ≡ true
 has_beside_flags other rows has = has_beside other (codes "stats") (with_default rows no_net_rule) (has_beside other (codes "no-net") rows has)
 
--- neither the file nor the help flag has one
+-- the options of each class, the file and the help flag have none
 either_way : (b : Bool) (rows : List Row) → cond b rows rows ≡ rows
 either_way true rows = refl
 either_way false rows = refl
+
+with_count : (name : Text) (least most : ℕ) (rows : List Row) → with_default rows (count_rule name least most) ≡ rows
+with_count name least most rows = either_way (has_row name rows) rows
+
+with_counts : (rows : List Row) → with_default (with_default (with_default rows small_cells_rule) large_cells_rule) wide_cells_rule ≡ rows
+with_counts rows =
+    with_count (codes "wide-cells") least_cells most_larger_cells (with_default (with_default rows small_cells_rule) large_cells_rule)
+    ∙ with_count (codes "large-cells") least_cells most_larger_cells (with_default rows small_cells_rule)
+    ∙ with_count (codes "small-cells") least_cells most_small_cells rows
 
 with_file : (rows : List Row) → with_default rows file_rule ≡ rows
 with_file rows = either_way (has_row (codes "file") rows) rows
@@ -273,6 +319,17 @@ read_number name least most fits (r ∷ rs) good has = go (bytes_eq r.id name) r
         let one : one_of name (r ∷ rs) ≡ one_of name rs = rw is refl in
         (l.0, (l.1.0, one ∙ l.1.1, l.1.2), l.2, l.3)
 
+-- the number of cells of a class, if each has its own option or that for all
+read_count : (name : Text) (most : ℕ) → most_cells ≤ most → ((r : Row) → IsGood r → bytes_eq r.id name ≡ true → Fits least_cells most r) → (rows : List Row) → Good rows → has_row (codes "cells") rows ≡ true
+    → (n : ℕ) × IsNumber (option_for name rows) rows n × (least_cells ≤ n) × (n ≤ most)
+read_count name most more fits rows good has = go (has_row name rows) refl
+  where
+    go : (b : Bool) → has_row name rows ≡ b → (n : ℕ) × IsNumber (cond b name (codes "cells")) rows n × (least_cells ≤ n) × (n ≤ most)
+    go true own = read_number name least_cells most fits rows good own
+    go false own =
+        let usual = read_number (codes "cells") least_cells most_cells (λ r g. g.2) rows good has in
+        (usual.0, usual.1, usual.2, omega (arith, usual.3, more))
+
 -- the options of `run` after words with no fault
 pub limits_asked : (args : List Text) → level_fault run_shape [] nothing_held args false [] ≡ [] → (l : Limits) × HasLimits (rows_after run_shape.rules [] args) l
 limits_asked args none =
@@ -296,10 +353,24 @@ limits_asked args none =
     let has_cells = has_default (codes "cells") (codes "65536") least_cells most_cells with_limit refl in
     let with_no_net = with_default with_all no_net_rule in
     let with_flags = with_default with_no_net stats_rule in
-    let good_no_net = flag_default_keeps (codes "no-net") (λ e. cc, λ e. cc, λ e. cc) with_all good_all in
-    let good_flags = flag_default_keeps (codes "stats") (λ e. cc, λ e. cc, λ e. cc) with_no_net good_no_net in
+    let good_no_net = flag_default_keeps (codes "no-net") (λ e. cc, λ e. cc, λ e. cc, λ e. cc, λ e. cc, λ e. cc) with_all good_all in
+    let good_flags = flag_default_keeps (codes "stats") (λ e. cc, λ e. cc, λ e. cc, λ e. cc, λ e. cc, λ e. cc) with_no_net good_no_net in
     let workers = read_number (codes "workers") 1 most_workers (λ r g. g.0) with_flags good_flags (has_beside_flags (codes "workers") with_all has_workers) in
     let limit = read_number (codes "limit") 0 most_interactions (λ r g. g.1) with_flags good_flags (has_beside_flags (codes "limit") with_all has_limit) in
-    let cells = read_number (codes "cells") least_cells most_cells (λ r g. g.2) with_flags good_flags (has_beside_flags (codes "cells") with_all has_cells) in
-    let l : Limits = record { workers = workers.0; limit = limit.0; cells = cells.0; some_worker = workers.2; few_workers = workers.3; limit_in_range = limit.3; least = cells.2; most = cells.3 } in
-    (l, subst (λ (rs : List Row). HasLimits rs l) (sym (with_help (with_default with_flags file_rule) ∙ with_file with_flags)) (workers.1, limit.1, cells.1))
+    let has_still_cells = has_beside_flags (codes "cells") with_all has_cells in
+    let small = read_count (codes "small-cells") most_small_cells (omega arith) (λ r g. g.3) with_flags good_flags has_still_cells in
+    let large = read_count (codes "large-cells") most_larger_cells (omega arith) (λ r g. g.4) with_flags good_flags has_still_cells in
+    let wide = read_count (codes "wide-cells") most_larger_cells (omega arith) (λ r g. g.5) with_flags good_flags has_still_cells in
+    let l : Limits = record {
+      workers = workers.0;
+      limit = limit.0;
+      cells = record { small_cells = small.0; large_cells = large.0; wide_cells = wide.0 };
+      some_worker = workers.2;
+      few_workers = workers.3;
+      limit_in_range = limit.3;
+      least = (small.2, large.2, wide.2);
+      most = record { small = small.3; large = large.3; wide = wide.3 };
+    } in
+    let with_counts_flags = with_default (with_default (with_default (with_default (with_default with_all small_cells_rule) large_cells_rule) wide_cells_rule) no_net_rule) stats_rule in
+    let same : with_counts_flags ≡ with_flags = ap (λ (rs : List Row). with_default (with_default rs no_net_rule) stats_rule) (with_counts with_all) in
+    (l, subst (λ (rs : List Row). HasLimits rs l) (sym (with_help (with_default with_counts_flags file_rule) ∙ with_file with_counts_flags ∙ same)) (workers.1, limit.1, (small.1, large.1, wide.1)))

@@ -3,9 +3,12 @@ use Rattle.std.specs.Prelude.{◌≡◌, ◌≢◌, ◌<◌, ◌^◌, ℕ, Bool,
 use Rattle.std.specs.Option.{option_map_or}
 use Rattle.std.specs.Str.{bytes_eq}
 use Rattle.std.specs.Str.Parse.{IsNumeral, without_leading_plus, digits_value}
+use Rattle.clap.specs.Walk.{has_row}
 use Rattle.clap.specs.Words.{IsAmong, Kinds, Row, Text, fault_of, first_of, one_of, subcommand_of}
 use Rattle.clap.specs.declared.error.kind.ErrorKind.{ErrorKind}
 use Rattle.clap.specs.declared.error.kind.ErrorKind.TheVariants.{DisplayHelp, DisplayVersion, OutOfMemory}
+use Rattle.in_arena.specs.declared.content.CellCounts.{CellCounts}
+use Rattle.in_limits.specs.Limiting.{AreAllowed}
 use Rattle.in_limits.specs.declared.limits.Limits.{Limits}
 use Rattle.in_command_line.specs.CommandLine.{command_line}
 use Rattle.in_command_line.specs.declared.action.Action.{Action}
@@ -26,9 +29,21 @@ Spells text n = IsNumeral 10 (without_leading_plus text) × (n ≡ digits_value 
 abbrev pub IsNumber : Text → List Row → ℕ → Type 0
 IsNumber name options n = (text : Text) × (one_of name options ≡ Some text) × Spells text n
 
--- the options `--workers`, `--limit` and `--cells` have these numbers
+-- the option that says how many cells a class has: its own, of this name, if that is among the options, and otherwise `--cells`
+abbrev pub option_for : Text → List Row → Text
+option_for name options = if has_row name options then name else codes "cells"
+
+-- the class with the option of this name has n cells
+abbrev pub HasCount : Text → List Row → ℕ → Type 0
+HasCount name options n = IsNumber (option_for name options) options n
+
+-- the classes have these numbers of cells
+abbrev pub HasCounts : List Row → CellCounts → Type 0
+HasCounts options cells = HasCount (codes "small-cells") options cells.small_cells × HasCount (codes "large-cells") options cells.large_cells × HasCount (codes "wide-cells") options cells.wide_cells
+
+-- `--workers` and `--limit` have these numbers, and so have the classes of cells
 abbrev pub HasLimits : List Row → Limits → Type 0
-HasLimits options l = IsNumber (codes "workers") options l.workers × IsNumber (codes "limit") options l.limit × IsNumber (codes "cells") options l.cells
+HasLimits options l = IsNumber (codes "workers") options l.workers × IsNumber (codes "limit") options l.limit × HasCounts options l.cells
 
 -- the flag of this name is set
 abbrev pub is_set : Text → List Row → Bool
@@ -96,6 +111,11 @@ IsErrorTold kind Memory = Unit {0}
 abbrev pub IsOptionGiven : Text → List Row → Option ℕ → Type 0
 IsOptionGiven name options (Some n) = IsNumber name options n
 IsOptionGiven name options None = (n : ℕ) → n < 2 ^ 32 → IsNumber name options n → ⊥
+
+-- the numbers of cells that the options give, if they give any that a run may have
+abbrev pub AreCountsGiven : List Row → Option CellCounts → Type 0
+AreCountsGiven options (Some cells) = HasCounts options cells
+AreCountsGiven options None = (cells : CellCounts) → AreAllowed cells → HasCounts options cells → ⊥
 
 abbrev pub HasNoLimits : List Row → Type 0
 HasNoLimits options = (l : Limits) → HasLimits options l → ⊥

@@ -3,17 +3,21 @@ use Rattle.std.specs.Prelude.{ℕ, true, [], ◌∷◌, Some, codes}
 use Rattle.clap.specs.Words.{App, Rule, Text, new_app, new_rule, with_rule, with_subcommand}
 use Rattle.clap.specs.declared.builder.action.ArgAction.TheVariants.{Set, SetTrue}
 use Rattle.clap.specs.declared.builder.value_parser.ValueParser.TheVariants.{Unsigned}
+use Rattle.in_arena.specs.Limiting.{most_larger_cells, most_small_cells}
 use Rattle.in_limits.specs.Limiting.{least_cells, most_cells, most_interactions, most_workers}
 
--- the option `--name N`, where N is a number from least to most, and the usual text is the default
-abbrev pub number_option : Text → Text → ℕ → ℕ → Rule
-number_option name usual least most = record (new_rule name) {
+-- the option `--name N`, where N is a number from least to most
+abbrev pub count_option : Text → ℕ → ℕ → Rule
+count_option name least most = record (new_rule name) {
   long = Some name;
   action = Some Set;
   value_names = 1;
   parser = Some (Unsigned least most);
-  defaults = usual ∷ [];
 }
+
+-- the same with a default, which is the usual text
+abbrev pub number_option : Text → Text → ℕ → ℕ → Rule
+number_option name usual least most = record (count_option name least most) { defaults = usual ∷ [] }
 
 -- the number of workers, by default 1
 abbrev pub workers_option : Rule
@@ -26,6 +30,16 @@ limit_option = number_option (codes "limit") (codes "1000000") 0 most_interactio
 -- the number of cells of each class, by default 65,536
 abbrev pub cells_option : Rule
 cells_option = number_option (codes "cells") (codes "65536") least_cells most_cells
+
+-- the number of small cells, of large ones and of wide ones, each by default that of `--cells`
+abbrev pub small_cells_option : Rule
+small_cells_option = count_option (codes "small-cells") least_cells most_small_cells
+
+abbrev pub large_cells_option : Rule
+large_cells_option = count_option (codes "large-cells") least_cells most_larger_cells
+
+abbrev pub wide_cells_option : Rule
+wide_cells_option = count_option (codes "wide-cells") least_cells most_larger_cells
 
 -- the flag `--name`
 abbrev pub flag : Text → Rule
@@ -47,9 +61,13 @@ file_argument = record (new_rule (codes "file")) { action = Some Set; value_name
 abbrev pub on_file : Text → App
 on_file name = with_rule (new_app name) file_argument
 
--- `run` with its three numbers
+-- `run` with the numbers of its workers, its interactions and its cells
+abbrev pub cells_command : App
+cells_command = with_rule (with_rule (with_rule (new_app (codes "run")) workers_option) limit_option) cells_option
+
+-- .. with those of the cells of each class
 abbrev pub limits_command : App
-limits_command = with_rule (with_rule (with_rule (new_app (codes "run")) workers_option) limit_option) cells_option
+limits_command = with_rule (with_rule (with_rule cells_command small_cells_option) large_cells_option) wide_cells_option
 
 -- .. and with its flags and its file
 abbrev pub run_command : App

@@ -1,7 +1,9 @@
 -- Laws over the requests that the words of a command line make.
-use Rattle.std.specs.Prelude.{◌≡◌, ◌<◌, ◌⊎◌, ◌++◌, ℕ, true, List, [], ◌∷◌, Some, None, codes}
+use Rattle.std.specs.Prelude.{◌≡◌, ◌≤◌, ◌<◌, ◌⊎◌, ◌++◌, ℕ, true, List, [], ◌∷◌, None, codes}
 use Rattle.clap.specs.Words.{Text}
 use Rattle.clap.specs.declared.error.kind.ErrorKind.TheVariants.{ArgumentConflict, DisplayHelp, DisplayVersion, MissingSubcommand, UnknownArgument, ValueValidation}
+use Rattle.in_arena.specs.Classes.{each}
+use Rattle.in_arena.specs.Limiting.{most_larger_cells, most_small_cells}
 use Rattle.in_limits.specs.Limiting.{least_cells, most_cells, most_interactions, most_workers}
 use Rattle.in_limits.specs.declared.limits.Limits.{Limits}
 use Rattle.in_command_line.specs.Asking.{Asked, AsksFor, Spells, faults, on_file_of, on_input}
@@ -21,16 +23,26 @@ SubcommandsAsk = AsksFor (codes "inet" ∷ codes "check" ∷ []) (on_input Check
 
 -- the default limits, with one worker
 abbrev pub AreUsualLimits : Limits → Type 0
-AreUsualLimits l = (l.workers ≡ 1) × (l.limit ≡ 1000000) × (l.cells ≡ 65536)
+AreUsualLimits l = (l.workers ≡ 1) × (l.limit ≡ 1000000) × (l.cells ≡ each 65536)
 
 -- `inet run` requests a run within the default limits
 abbrev pub RunAsksForTheUsual : Type 0
 RunAsksForTheUsual = (l : Limits) → AreUsualLimits l → AsksFor (codes "inet" ∷ codes "run" ∷ []) (on_input (Run l))
 
--- .. and with its options a run within the limits that their texts spell
+-- .. and with its options a run within the limits that their texts spell, with as many cells of each class
 abbrev pub RunAsksForTheGiven : Type 0
-RunAsksForTheGiven = (workers limit cells : Text) (l : Limits) → Spells workers l.workers → Spells limit l.limit → Spells cells l.cells
+RunAsksForTheGiven = (workers limit cells : Text) (n : ℕ) (l : Limits) → Spells workers l.workers → Spells limit l.limit → Spells cells n → n ≤ most_cells → l.cells ≡ each n
     → AsksFor (codes "inet" ∷ codes "run" ∷ (codes "--workers=" ++ workers) ∷ (codes "--limit=" ++ limit) ∷ (codes "--cells=" ++ cells) ∷ []) (on_input (Run l))
+
+-- with an option for each class of cells it requests a run with exactly as many cells of each as their texts spell
+abbrev pub RunAsksForEachClass : Type 0
+RunAsksForEachClass = (small large wide : Text) (l : Limits) → l.workers ≡ 1 → l.limit ≡ 1000000 → Spells small l.cells.small_cells → Spells large l.cells.large_cells → Spells wide l.cells.wide_cells
+    → AsksFor (codes "inet" ∷ codes "run" ∷ (codes "--small-cells=" ++ small) ∷ (codes "--large-cells=" ++ large) ∷ (codes "--wide-cells=" ++ wide) ∷ []) (on_input (Run l))
+
+-- with one for small cells alone, there are as many of the others as `--cells` says
+abbrev pub RunAsksForTheOthers : Type 0
+RunAsksForTheOthers = (cells small : Text) (n : ℕ) (l : Limits) → l.workers ≡ 1 → l.limit ≡ 1000000 → Spells cells n → n ≤ most_cells → Spells small l.cells.small_cells → l.cells.large_cells ≡ n → l.cells.wide_cells ≡ n
+    → AsksFor (codes "inet" ∷ codes "run" ∷ (codes "--cells=" ++ cells) ∷ (codes "--small-cells=" ++ small) ∷ []) (on_input (Run l))
 
 -- with `--no-net` it requests a run without a printed net, and with `--stats` figures
 abbrev pub FlagsAreAsked : Type 0
@@ -70,3 +82,6 @@ NumbersOutOfRangeAreWrong = (text : Text) (n : ℕ) → Spells text n
     → ((n < 1) ⊎ (most_workers < n) → faults (codes "inet" ∷ codes "run" ∷ (codes "--workers=" ++ text) ∷ []) ≡ ValueValidation ∷ [])
     × (most_interactions < n → faults (codes "inet" ∷ codes "run" ∷ (codes "--limit=" ++ text) ∷ []) ≡ ValueValidation ∷ [])
     × ((n < least_cells) ⊎ (most_cells < n) → faults (codes "inet" ∷ codes "run" ∷ (codes "--cells=" ++ text) ∷ []) ≡ ValueValidation ∷ [])
+    × ((n < least_cells) ⊎ (most_small_cells < n) → faults (codes "inet" ∷ codes "run" ∷ (codes "--small-cells=" ++ text) ∷ []) ≡ ValueValidation ∷ [])
+    × ((n < least_cells) ⊎ (most_larger_cells < n) → faults (codes "inet" ∷ codes "run" ∷ (codes "--large-cells=" ++ text) ∷ []) ≡ ValueValidation ∷ [])
+    × ((n < least_cells) ⊎ (most_larger_cells < n) → faults (codes "inet" ∷ codes "run" ∷ (codes "--wide-cells=" ++ text) ∷ []) ≡ ValueValidation ∷ [])

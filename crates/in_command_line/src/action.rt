@@ -2,11 +2,12 @@ ghost use Rattle.std.specs.Prelude.{codes, ◌≡◌, IfErr, IfOk, false, option
 ghost use Rattle.clap.specs.Words.{app_of, found_of, kind_of, new_app, rows_of, rule_of, subcommand_rows_of, with_rule, with_subcommand};
 ghost use Rattle.clap.specs.Walk.{texts};
 ghost use Rattle.clap.specs.declared.builder.command.Command.TheViews.{out-Command};
-ghost use Rattle.in_command_line.specs.Asking.{AreGiven, AsksFor, IsOptionGiven, IsNamed, IsRequested, IsRunNamed, AreWordsRefused, IsErrorTold, asked_of, file_in, is_set};
-ghost use Rattle.in_command_line.specs.CommandLine.{cells_option, command_line, file_argument, limit_option, limits_command, needs_subcommand, no_net_flag, on_file, run_command, stats_flag, tells_version, workers_option};
+ghost use Rattle.in_command_line.specs.Asking.{AreCountsGiven, AreGiven, AsksFor, IsOptionGiven, IsNamed, IsRequested, IsRunNamed, AreWordsRefused, IsErrorTold, asked_of, file_in, is_set, option_for};
+ghost use Rattle.in_command_line.specs.CommandLine.{cells_command, cells_option, command_line, file_argument, large_cells_option, limit_option, limits_command, needs_subcommand, no_net_flag, on_file, run_command, small_cells_option, stats_flag, tells_version, wide_cells_option, workers_option};
 
 use clap::error::ErrorKind;
 use clap::{Arg, ArgAction, ArgMatches, Command, value_parser};
+use in_arena::CellCounts;
 use in_limits::{LEAST_CELLS, Limits, MOST_CELLS, MOST_INTERACTIONS, MOST_WORKERS};
 use std::alloc::{AllocError, Global};
 use thiserror::Error;
@@ -115,6 +116,51 @@ fn cells_option<'a>(alloc: Global) -> Arg<'a>
         .default_value("65536")
 }
 
+/// The option `--small-cells`: the number of small cells, by default that of `--cells`.
+fn small_cells_option<'a>(alloc: Global) -> Arg<'a>
+    ensures rule { rule_of result ≡ small_cells_option }
+    ensures local { result.global ≡ false }
+{
+    Arg::new(alloc, "small-cells")
+        .long("small-cells")
+        .value_name("N")
+        .help("The cells for agents of arity 0 to 2, 16 to 16777216 [default: that of --cells]")
+        .action(ArgAction::Set)
+        .value_parser(value_parser!(u64).range(
+            LEAST_CELLS as i64..=CellCounts::MOST.small_cells as i64,
+        ))
+}
+
+/// The option `--large-cells`: the number of large cells, by default that of `--cells`.
+fn large_cells_option<'a>(alloc: Global) -> Arg<'a>
+    ensures rule { rule_of result ≡ large_cells_option }
+    ensures local { result.global ≡ false }
+{
+    Arg::new(alloc, "large-cells")
+        .long("large-cells")
+        .value_name("N")
+        .help("The cells for agents of arity 3 to 8, 16 to 8388608 [default: that of --cells]")
+        .action(ArgAction::Set)
+        .value_parser(value_parser!(u64).range(
+            LEAST_CELLS as i64..=CellCounts::MOST.large_cells as i64,
+        ))
+}
+
+/// The option `--wide-cells`: the number of wide cells, by default that of `--cells`.
+fn wide_cells_option<'a>(alloc: Global) -> Arg<'a>
+    ensures rule { rule_of result ≡ wide_cells_option }
+    ensures local { result.global ≡ false }
+{
+    Arg::new(alloc, "wide-cells")
+        .long("wide-cells")
+        .value_name("N")
+        .help("The cells for agents of arity 9 to 16, 16 to 8388608 [default: that of --cells]")
+        .action(ArgAction::Set)
+        .value_parser(value_parser!(u64).range(
+            LEAST_CELLS as i64..=CellCounts::MOST.wide_cells as i64,
+        ))
+}
+
 /// The flag `--no-net`: whether the net isn't printed.
 fn no_net_flag<'a>(alloc: Global) -> Arg<'a>
     ensures rule { rule_of result ≡ no_net_flag }
@@ -137,9 +183,9 @@ fn stats_flag<'a>(alloc: Global) -> Arg<'a>
         .action(ArgAction::SetTrue)
 }
 
-/// `run` with its three numbers, whose bounds are those of `Limits`.
-fn limits_command<'a>(alloc: Global) -> Result<Command<'a>, AllocError>
-    ensures app { IfOk result (λ c. app_of c ≡ limits_command) }
+/// `run` with the numbers of its workers, its interactions and its cells, whose bounds are those of `Limits::new`.
+fn cells_command<'a>(alloc: Global) -> Result<Command<'a>, AllocError>
+    ensures app { IfOk result (λ c. app_of c ≡ cells_command) }
     ensures local { IfOk result (λ c. (out-Command c).has_globals ≡ false) }
 {
     Command::new(alloc, "run")
@@ -147,6 +193,17 @@ fn limits_command<'a>(alloc: Global) -> Result<Command<'a>, AllocError>
         .arg(workers_option(alloc))?
         .arg(limit_option(alloc))?
         .arg(cells_option(alloc))
+}
+
+/// .. with those of the cells of each class, whose bounds are those of `Limits::with_counts`.
+fn limits_command<'a>(alloc: Global) -> Result<Command<'a>, AllocError>
+    ensures app { IfOk result (λ c. app_of c ≡ limits_command) }
+    ensures local { IfOk result (λ c. (out-Command c).has_globals ≡ false) }
+{
+    cells_command(alloc)?
+        .arg(small_cells_option(alloc))?
+        .arg(large_cells_option(alloc))?
+        .arg(wide_cells_option(alloc))
 }
 
 /// `run` with its options and its file.
@@ -262,14 +319,40 @@ fn number_of(options: &ArgMatches, name: &str) -> Option<u32>
     }
 }
 
+/// The number of cells of the class with the option of this name: that of the option, and otherwise that of `--cells`; `None` if it has none of 32
+/// bits.
+fn count_of(options: &ArgMatches, name: &str) -> Option<u32>
+    ensures { IsOptionGiven (option_for name.now (rows_of (found_of options.now))) (rows_of (found_of options.now)) result }
+{
+    if options.contains_id(name) {
+        number_of(options, name)
+    } else {
+        number_of(options, "cells")
+    }
+}
+
+/// The number of cells of each class; `None` if one has none of 32 bits.
+fn counts_of(options: &ArgMatches) -> Option<CellCounts>
+    ensures { AreCountsGiven (rows_of (found_of options.now)) result }
+{
+    let small_cells = count_of(options, "small-cells")?;
+    let large_cells = count_of(options, "large-cells")?;
+    let wide_cells = count_of(options, "wide-cells")?;
+    Some(CellCounts {
+        small_cells,
+        large_cells,
+        wide_cells,
+    })
+}
+
 /// The limits of a run; `None` if they are no numbers within their bounds.
 fn limits_of(options: &ArgMatches) -> Option<Limits>
     ensures { AreGiven (rows_of (found_of options.now)) result }
 {
     let workers = number_of(options, "workers")?;
     let limit = options.get_one::<u64>("limit")?;
-    let cells = number_of(options, "cells")?;
-    Limits::new(workers, limit, cells)
+    let cells = counts_of(options)?;
+    Limits::with_counts(workers, limit, cells)
 }
 
 /// Whether a flag is among the words.
@@ -330,7 +413,8 @@ fn request_in<'a>(matches: &ArgMatches<'a>) -> Option<Request<'a>>
 }
 
 /// The request that the words make; the first word is the program's name. It has the subcommand that `clap` gives for them, with the numbers of the
-/// texts of its options, or the defaults of missing options; the file that is named, if it isn't `-`; and the flags that are set.
+/// texts of its options, or the defaults of missing options, which for the cells of a class is the number of `--cells`; the file that is named, if
+/// it isn't `-`; and the flags that are set.
 ///
 /// Refused with the text of `clap` if it finds an error in the words, and one line more if a file's name is in the place of the command: as
 /// `Help` for `-h`, `--help` or `help`, as `Version` for `-V` or `--version`, otherwise as `Wrong`, such as for no command, a word too many, or a

@@ -1,6 +1,6 @@
 //! Laws on the requests of command lines. No function here does anything.
 
-ghost use Rattle.in_command_line.specs.Laws.{FaultlessWordsAsk, FilesAreAsked, FlagsAreAsked, HelpIsAsked, NumbersOutOfRangeAreWrong, OtherWordsAreWrong, RunAsksForTheGiven, RunAsksForTheUsual, SubcommandsAsk, VersionIsAsked, WordsAskForOneAction};
+ghost use Rattle.in_command_line.specs.Laws.{FaultlessWordsAsk, FilesAreAsked, FlagsAreAsked, HelpIsAsked, NumbersOutOfRangeAreWrong, OtherWordsAreWrong, RunAsksForEachClass, RunAsksForTheGiven, RunAsksForTheOthers, RunAsksForTheUsual, SubcommandsAsk, VersionIsAsked, WordsAskForOneAction};
 
 /// Words make at most one request.
 pub fn words_ask_for_one_action()
@@ -13,11 +13,13 @@ pub fn faultless_words_ask()
 {}
 
 /// The request of each subcommand: `check` and `derive` by their names; `run` with the numbers of its options, or the defaults, and its flags;
-/// and the file of each.
+/// and the file of each. A class of cells without an option has as many as `--cells` says.
 pub fn subcommands_ask()
     ensures named { SubcommandsAsk }
     ensures usual { RunAsksForTheUsual }
     ensures given { RunAsksForTheGiven }
+    ensures classes { RunAsksForEachClass }
+    ensures others { RunAsksForTheOthers }
     ensures flags { FlagsAreAsked }
     ensures files { FilesAreAsked }
 {}

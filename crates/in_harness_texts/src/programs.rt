@@ -4,6 +4,7 @@ ghost use Rattle.in_cover.specs.Cover.{IsPair};
 
 use crate::sheet::Sheet;
 use crate::words::{small, word};
+use in_arena::CellCounts;
 use in_check::{Checked, Item};
 use in_command_line::{Action, Request, Usage, action_of};
 use in_cover::RuleNo;
@@ -170,20 +171,30 @@ pub fn add_verified(sheet: &mut Sheet, program: &Checked, words: &[String]) {
     }
 }
 
+/// The numbers of cells: one if each class has as many, and otherwise those of the classes.
+fn add_counts(sheet: &mut Sheet, cells: CellCounts) {
+    let CellCounts {
+        small_cells: small,
+        large_cells: large,
+        wide_cells: wide,
+    } = cells;
+    if cells == CellCounts::each(small) {
+        sheet.fill(" #", &[small as u64]);
+    } else {
+        sheet.fill(" # # #", &[small as u64, large as u64, wide as u64]);
+    }
+}
+
 /// An action, with the limits of a run.
 fn add_named(sheet: &mut Sheet, action: &Action) {
     let (name, limits) = match action {
         Action::Check => return sheet.say("check"),
         Action::Derive => return sheet.say("derive"),
-        Action::Run(limits) => ("run # # #", limits),
-        Action::Count(limits) => ("count # # #", limits),
+        Action::Run(limits) => ("run # #", limits),
+        Action::Count(limits) => ("count # #", limits),
     };
-    let numbers = [
-        limits.workers() as u64,
-        limits.limit(),
-        limits.cells() as u64,
-    ];
-    sheet.fill(name, &numbers);
+    sheet.fill(name, &[limits.workers() as u64, limits.limit()]);
+    add_counts(sheet, limits.cells());
 }
 
 /// Adds the request of words to `inet`: the action, the file, and whether figures are wanted.

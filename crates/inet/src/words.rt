@@ -1,3 +1,4 @@
+use in_arena::CellCounts;
 use in_check::check;
 use in_command_line::Action;
 use in_diagnosis::diagnosis;
@@ -143,6 +144,27 @@ fn limits_in(action: &Action) -> Option<Limits> {
     }
 }
 
+/// Help after a run with these cells that had too few of a size: if it had as many of each and more are allowed, the option for all, and otherwise
+/// those for each size.
+fn help_with_cells(alloc: Global, cells: CellCounts) -> Result<String, AllocError> {
+    let CellCounts {
+        small_cells: small,
+        large_cells: large,
+        wide_cells: wide,
+    } = CellCounts::MOST;
+    if cells == CellCounts::MOST {
+        format!(in alloc;
+            "help: no run may have more than {small} small, {large} large and {wide} wide cells\n"
+        )
+    } else if cells == CellCounts::each(cells.small_cells) && cells.small_cells < MOST_CELLS {
+        format!(in alloc; "help: `--cells N` gives more cells of each size, up to {MOST_CELLS}\n")
+    } else {
+        format!(in alloc;
+            "help: `--small-cells N`, `--large-cells N` and `--wide-cells N` give more cells of a size, up to {small}, {large} and {wide}\n"
+        )
+    }
+}
+
 /// Help after a run that stopped with this status.
 fn help(alloc: Global, status: Status, limits: Limits) -> Result<Option<String>, AllocError> {
     match status {
@@ -152,12 +174,7 @@ fn help(alloc: Global, status: Status, limits: Limits) -> Result<Option<String>,
         Status(3) => Ok(Some(format!(in alloc;
             "help: `--limit N` allows more interactions, up to {MOST_INTERACTIONS}\n"
         )?)),
-        Status(4) if limits.cells() == MOST_CELLS => Ok(Some(format!(in alloc;
-            "help: no run may have more cells of a size than {MOST_CELLS}\n"
-        )?)),
-        Status(4) => Ok(Some(format!(in alloc;
-            "help: `--cells N` gives more cells of each size, up to {MOST_CELLS}\n"
-        )?)),
+        Status(4) => Ok(Some(help_with_cells(alloc, limits.cells())?)),
         _ => Ok(None),
     }
 }

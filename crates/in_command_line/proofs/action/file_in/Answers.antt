@@ -1,7 +1,7 @@
 use Rattle.std.proofs.Common.{◌∙◌, ◌≡◌, Bool, true, false, cond, sym, ap}
-use Rattle.std.specs.Prelude.{codes, Option, None, Some, option_and_then, option_map}
+use Rattle.std.specs.Prelude.{codes, None, Some, option_and_then, option_map}
 use Rattle.std.specs.Str.{bytes_eq}
-use Rattle.clap.specs.Words.{Text, found_of}
+use Rattle.clap.specs.Words.{found_of}
 use Rattle.clap.proofs.WalkLemmas.{first_value-rows}
 use Rattle.in_command_line.specs.Asking.{unless_input}
 use Rattle.in_command_line.proofs.action.file_in.Goals as goal

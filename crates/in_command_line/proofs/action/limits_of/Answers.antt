@@ -14,11 +14,11 @@ returns-in_err-limit c = rw c.from_residual-in_err-limit.ensures
 
 pub returns-in_err-cells : goal.returns-in_err-cells
 returns-in_err-cells c = rw c.from_residual-in_err-cells.ensures
-    (λ l h. c.in_err-cells.ensures l.cells (omega (arith, l.most)) h.2)
+    (λ l h. c.in_err-cells.ensures l.cells l.most h.2)
 
 pub returns : goal.returns
 returns c =
     let found = found_of c.args.options.now in
     let limit = number_read found (codes "limit") c.in_ok-limit.limit c.in_ok-limit.ensures.none
     (λ t e. let h = c.in_ok-limit.ensures.value t e in (h.0.0.0, h.0.1)) in
-    limits_given (rows_of found) _ _ _ c.new.result c.new.ensures c.in_ok-workers.ensures limit c.in_ok-cells.ensures
+    limits_given (rows_of found) _ _ _ c.with_counts.result c.with_counts.ensures c.in_ok-workers.ensures limit c.in_ok-cells.ensures
