@@ -9,7 +9,10 @@ use in_machine::{MOST_CELLS, Machine, Need, Room, Sampled, Sharing, Worked};
 use std::alloc::Global;
 
 /// The number of interactions before a phase is tried: a shorter run is over before it could pay, and the pairs are spread far by then.
-pub(crate) const PHASES_FROM: u64 = 16_384;
+const PHASES_FROM: u64 = 16_384;
+
+/// The most interactions that are done before the next test whether the net is still small.
+const LONG_TURN: u64 = 8_192;
 
 /// The least number of pairs for a phase.
 const PHASE_PAIRS: u32 = 512;
@@ -21,6 +24,9 @@ const FEW_PAIRS_FROM: u64 = 524_288;
 
 /// The pairs for each part.
 const PART_PAIRS: u32 = 64;
+
+/// How many interactions an agent counts for where a first phase is put off: a large net gains most.
+const AGENT_COUNTS: u64 = 16;
 
 /// The most parts, with the rest.
 const MOST_PARTS: u32 = 16;
@@ -87,7 +93,16 @@ impl Pace {
         }
     }
 
-    /// Whether the run waits, after a phase that hasn't paid.
+    /// How many interactions are done as one worker does them before it is tested again what comes next: 0 if a phase is considered, or if the newest
+    /// pairs are taken.
+    pub(crate) fn alone(&self, machine: &Machine, interactions: u64) -> u64 {
+        if are_newest_first(machine) {
+            return 0;
+        }
+        self.phase_from.saturating_sub(interactions).min(LONG_TURN)
+    }
+
+    /// Whether the run waits, before the first phase or after one that hasn't paid.
     pub(crate) fn waits(&self, interactions: u64) -> bool {
         interactions < self.phase_from
     }
@@ -147,6 +162,12 @@ pub(crate) fn sampling(sharing: Sharing, left: u64) -> Sharing
 /// Half of the cells of the class that has the fewest.
 pub(crate) fn half_of_cells(limits: Limits) -> u32 {
     Need::of_counts(limits.cells()).least() / 2
+
+/// Whether the lists of a first phase, which have a place for each number up to the highest one of an agent, cost too much after so many interactions:
+/// where one agent has many ports, its number is beyond those of all small cells.
+fn is_dear(machine: &Machine, interactions: u64) -> bool {
+    let done = AGENT_COUNTS * u64::from(machine.agents());
+    u64::from(machine.reducer.bound()) > interactions.saturating_add(done)
 }
 
 /// The sharing of a machine's net among the workers, after `interactions` interactions, with `left` left; `None` if a phase can't pay. Half of the
@@ -166,7 +187,8 @@ pub(crate) fn sharing(
     let parts = limits.workers().min(MOST_PARTS).min(pairs / PART_PAIRS);
     let floor = half_of_cells(limits);
     let free = machine.least_free();
-    let is_early = pairs < MANY_PAIRS && interactions < FEW_PAIRS_FROM;
+    let has_few = pairs < MANY_PAIRS && interactions < FEW_PAIRS_FROM;
+    let is_early = has_few || is_dear(machine, interactions);
     if is_early || pairs < PHASE_PAIRS || parts < 2 || left < LEAST_LEFT || free < floor {
         return None;
     }
