@@ -162,6 +162,7 @@ pub(crate) fn sampling(sharing: Sharing, left: u64) -> Sharing
 /// Half of the cells of the class that has the fewest.
 pub(crate) fn half_of_cells(limits: Limits) -> u32 {
     Need::of_counts(limits.cells()).least() / 2
+}
 
 /// Whether the lists of a first phase, which have a place for each number up to the highest one of an agent, cost too much after so many interactions:
 /// where one agent has many ports, its number is beyond those of all small cells.

@@ -150,8 +150,8 @@ module _ (r : Body) (k : KeepsNet r) (agents : List CellNo) (own cuts : ℕ) (ca
       pub rest_vacant : (c : CellClass) → count_of (vacant_in (at_rest left)) c ≡ count_of (vacant_in (at_rest r.arena)) c + count_by (is_for r.arena c) agents
       rest_vacant c = let a = vacant_is left rest_none c in let b = vacant_is r.arena none c in let d = lost.free c in omega (arith, a, b, d)
 
-    pub rest_cells : (c : CellClass) → count_of (vacant_in (at_rest left)) c + agents_of t c (agents_in left) ≡ r.arena.cells
-    rest_cells c = cells_at_rest t left rest_net c ∙ lost.cells
+    pub rest_cells : (c : CellClass) → count_of (vacant_in (at_rest left)) c + agents_of t c (agents_in left) ≡ amount r.arena.cells c
+    rest_cells c = cells_at_rest t left rest_net c ∙ ap (λ (z : CellCounts). amount z c) lost.cells
 
     -- a cell that is still live isn't one of the agents, and one that is gone is one
     pub there_still : (y : ℕ) → IsLive (state_at r.arena y) → IsLive (state_at left y) ⊎ ((j : ℕ) × (slice_get agents j ≡ Some (record { 0 = y })))

@@ -6,7 +6,7 @@ use Rattle.std.proofs.lemmas.List.{length-map, length-take-le}
 use Rattle.std.proofs.lemmas.Option.{same_Some}
 use native.Mathlib.Decide.{ℕ_discrete}
 use Rattle.in_arena.specs.Arenas.{ArenaView, NoneLeased, state_at}
-use Rattle.in_arena.specs.Classes.{IsNumberOf, all_of, holds}
+use Rattle.in_arena.specs.Classes.{IsNumberOf, all_of, amount, holds}
 use Rattle.in_arena.specs.States.{Vacant, Leased, IsLeased, places, word_of}
 use Rattle.in_arena.specs.declared.content.CellClass.{CellClass}
 use Rattle.in_arena.specs.declared.content.CellCounts.{CellCounts}
@@ -289,7 +289,7 @@ module _ (r o : Body) (k : KeepsNet r) (l : KeepsNet o) (can : CanAppend (reduce
 
       -- .. and there are as many cells as before
       pub cells_after : (c : CellClass) → count_of (vacant_in (at_rest b)) c + agents_of t c (agents_in b) ≡ count_of (vacant_in (at_rest r.arena)) c + agents_of t c (agents_in r.arena)
-      cells_after c = cells_at_rest t b still_net c ∙ copied.cells ∙ anew.cells ∙ sym (cells_at_rest t r.arena k.net c)
+      cells_after c = cells_at_rest t b still_net c ∙ ap (λ (z : CellCounts). amount z c) (copied.cells ∙ anew.cells) ∙ sym (cells_at_rest t r.arena k.net c)
 
       -- if the nets are side by side in these cells, they are a reducer's
       module _ (ends : List (ℕ × ℕ)) (new : List OwnEnd) (list : List End) (queue : List (ℕ × ℕ)) (is_queue : queue ≡ r.queue.items ++ map (both (name_in names)) o.queue.items)

@@ -284,5 +284,5 @@ module _ (text : List ℕ) (p : Program) (accepted : IsAccepted text p) (m : Mem
         first = m.pairs;
         pairs = of.pairs;
         queue = is;
-        counted = λ c. cells_at_rest p.tables b net_in_cells c ∙ cells_after;
+        counted = λ c. cells_at_rest p.tables b net_in_cells c ∙ ap (λ (z : CellCounts). amount z c) cells_after;
       }

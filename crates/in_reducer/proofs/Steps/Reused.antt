@@ -3,10 +3,11 @@
 use Rattle.std.proofs.Common.{◌≡◌, ◌≢◌, ◌≤◌, ◌+◌, ℕ, suc, true, List, ◌++◌, map, take, remove, length, length-append, Option, Some, None, refl, sym, ap, subst, ◌∙◌, append_assoc, arith}
 use Rattle.std.proofs.lemmas.List.{length-map, length-set, take_all}
 use Rattle.std.specs.Prelude.{option_map, IsTrue}
+use Rattle.in_arena.specs.declared.content.CellCounts.{CellCounts}
 use Rattle.in_base.proofs.Places.{to_mapped, is_some as there}
 use Rattle.in_arena.specs.Arenas.{ArenaView, NoneLeased, changed, state_at}
 use Rattle.in_arena.specs.Changes.{HasAllCells}
-use Rattle.in_arena.specs.Classes.{IsNumberOf, all_of}
+use Rattle.in_arena.specs.Classes.{IsNumberOf, all_of, amount}
 use Rattle.in_arena.specs.States.{Vacant, word_of}
 use Rattle.in_arena.specs.declared.content.CellClass.{CellClass}
 use Rattle.in_arena.specs.declared.content.CellNo.{CellNo}
@@ -318,7 +319,7 @@ module _ (r : Body) (k : KeepsNet r) (i : ℕ) (p : TemplateParts) (at : IsTempl
         made = news;
         new = are_made;
         queue = ap (λ (z : List (ℕ × ℕ)). z ++ map numbers_of news) (sym left);
-        cells = λ d. cells_at_rest t c net d ∙ cells ∙ sym (cells_at_rest t r.arena k.net d) ∙ ap (λ (n : ℕ). count_of m.vacant d + n) (as_many_of t d f (parts_of m) (parts_of s) same.net);
+        cells = λ d. cells_at_rest t c net d ∙ ap (λ (z : CellCounts). amount z d) cells ∙ sym (cells_at_rest t r.arena k.net d) ∙ ap (λ (n : ℕ). count_of m.vacant d + n) (as_many_of t d f (parts_of m) (parts_of s) same.net);
       }
 
       reducer_after : IsReducer (after final)

@@ -5,8 +5,9 @@ use Rattle.std.proofs.lemmas.List.{length-map, length-reverse, map-append, rever
 use Rattle.std.proofs.lemmas.Option.{same_Some, slice_get_within}
 use Rattle.in_arena.proofs.Public.{counts_alike}
 use Rattle.in_arena.specs.Arenas.{ArenaView, NoneLeased, free_of}
-use Rattle.in_arena.specs.Classes.{all_of}
+use Rattle.in_arena.specs.Classes.{all_of, amount, classes}
 use Rattle.in_arena.specs.declared.content.CellClass.{CellClass}
+use Rattle.in_arena.specs.declared.content.CellCounts.{CellCounts}
 use Rattle.in_arena.specs.declared.content.CellNo.{CellNo}
 use Rattle.in_arena.specs.declared.content.End.{End}
 use Rattle.in_symbols.specs.declared.symbols.SymbolNo.{SymbolNo}
@@ -228,7 +229,7 @@ module _ (r : Body) (k : KeepsNet r) (i : ℕ) (p : TemplateParts) (at : IsTempl
       made = news;
       new = are_made;
       queue = refl;
-      cells = λ c. cells_at_rest t a net c ∙ cells ∙ sym (cells_at_rest t r.arena k.net c);
+      cells = λ c. cells_at_rest t a net c ∙ ap (λ (z : CellCounts). amount z c) cells ∙ sym (cells_at_rest t r.arena k.net c);
     }
 
     pub reducer_after : IsReducer (after final)

@@ -1,4 +1,8 @@
-use Rattle.std.proofs.Common.{count_by, is_some, sym, ap, ◌∙◌, arith}
+use Rattle.std.proofs.Common.{count_by, is_some, sym, ap, ◌∙◌, get_or, arith}
+use Rattle.in_arena.proofs.Public.{class_few}
+use Rattle.in_arena.specs.Classes.{amount, classes}
+use Rattle.in_arena.specs.declared.content.CellClass.TheVariants.{Small}
+use Rattle.in_arena.specs.declared.content.CellCounts.{CellCounts}
 use Rattle.in_reducer.specs.Machines.{MachineParts}
 use Rattle.in_reducer.specs.Standing.{agents_in}
 use Rattle.in_reducer.proofs.Starts.Accepted.{few_ports}
@@ -9,17 +13,17 @@ use Rattle.in_reducer.proofs.reducer.Reducer.agents.Goals as goal
 
 pub overflow_add-agents : goal.overflow_add-agents
 overflow_add-agents c =
-    let few = c.self.invariant.all.net.few in
     let r = c.self.inside.body in
+    let few = class_few r.arena.cells c.self.invariant.all.net.few Small in
     let net = net_rests r.checked.now.tables r.arena c.self.invariant.none c.self.invariant.all.net.net in
-    let room = no_more r.checked.now.tables r.arena net c.loop-class.class-index c.loop-class.agents c.cells.result c.free_count.result c.loop-class-test.true c.loop-class.invariant c.cells.ensures.0 c.free_count.ensures in
-    omega (arith, few, room)
+    let room = no_more r.checked.now.tables r.arena net c.loop-class.class-index c.loop-class.agents c.of.result c.free_count.result c.loop-class-test.true c.loop-class.invariant (c.of.ensures ∙ ap (λ (z : CellCounts). amount z (get_or classes c.loop-class.class-index Small)) c.cells.ensures.0) c.free_count.ensures in
+    omega (arith, few.1, room)
 
 pub loop-class-preserved : goal.loop-class-preserved
 loop-class-preserved c =
     let r = c.self.inside.body in
     let net = net_rests r.checked.now.tables r.arena c.self.invariant.none c.self.invariant.all.net.net in
-    one_more_class r.checked.now.tables r.arena net c.loop-class.class-index c.loop-class.agents c.cells.result c.free_count.result c.loop-class-test.true c.loop-class.invariant c.cells.ensures.0 c.free_count.ensures
+    one_more_class r.checked.now.tables r.arena net c.loop-class.class-index c.loop-class.agents c.of.result c.free_count.result c.loop-class-test.true c.loop-class.invariant (c.of.ensures ∙ ap (λ (z : CellCounts). amount z (get_or classes c.loop-class.class-index Small)) c.cells.ensures.0) c.free_count.ensures
 
 pub returns : goal.returns
 returns c =
