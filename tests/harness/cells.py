@@ -2,7 +2,10 @@
 long as a pair has room, so they do as many interactions as one at least. And the figures of `inet run --stats`, among them the most cells in
 use; and what helps where a run has stopped early."""
 import itertools
+import os
 import re
+import subprocess
+import tempfile
 from functools import partial
 
 from harness.generated import with_threads
@@ -181,8 +184,31 @@ def helps(program):
         yield f"told of {' '.join(['run', *words])}, status {status}", partial(wrong_help, program, words, text, status, told)
 
 
+def memory_of(program, words, text):
+    """The most memory of a run in KiB, without the script."""
+    with tempfile.TemporaryFile() as source:
+        source.write(text)
+        source.seek(0)
+        child = subprocess.Popen([program.path, "run", "--no-net", *words], stdin=source, stdout=subprocess.DEVNULL)
+        return os.wait4(child.pid, 0)[2].ru_maxrss
+
+
+def wrong_memory(program, text):
+    """What is wrong with the memory of a short run: with the most cells it takes no more than with the usual ones, but for a MiB."""
+    usual, most = (memory_of(program, words, text) for words in ([], MOST_OF_A_SIZE))
+    return None if most <= usual + 1024 else f"{most} KiB with the most cells, {usual} with the usual ones"
+
+
+def wrong_growth(program):
+    """What is wrong with a run that grows beyond the most cells of `--cells`: it ends if there are more small ones."""
+    answer = program.run(["run", "--no-net", "--small-cells", "4194304", "--limit", "100000000"], doubled_text(DOUBLINGS))
+    return None if (answer.status, answer.output[-13:]) == (ACCEPTED, b"stop: normal\n") else f"{answer}; wanted: a run that ends"
+
+
 def cells(program):
     yield from helps(program)
+    yield "memory of a short run with the most cells", partial(wrong_memory, program, text_of("sum"))
+    yield "more small cells than by `--cells`", partial(wrong_growth, program)
     yield from figures(program)
     for number in (11, 12, 13, 14):
         text = sum_text(number)
