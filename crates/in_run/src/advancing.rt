@@ -5,7 +5,7 @@ ghost use Rattle.in_run.specs.Advancing.{RunsAnyhow};
 ghost use Rattle.in_run.specs.Stops.{GoesOn};
 ghost use Rattle.in_reducer.specs.Same.{RunsUpToNumbers};
 
-use crate::pace::{PHASES_FROM, Pace, SAMPLE_PAIRS, are_newest_first, sampling, sharing};
+use crate::pace::{Pace, SAMPLE_PAIRS, are_newest_first, sampling, sharing};
 use in_limits::Limits;
 use in_machine::{Machine, phase, sample};
 use std::alloc::Global;
@@ -73,9 +73,9 @@ fn by_parts<R: Threads>(
     worked.interactions
 }
 
-/// With one worker, or at the beginning of a run of several, does interactions of the oldest pairs, up to the limit; one worker does at most `turn`.
-/// Later it does that of the oldest pair, which must have room, and some more after it, up to the limit: a phase if it pays, otherwise those of
-/// some pairs one after another. Returns their number.
+/// With one worker, or with several while no phase is considered and the net is small, does interactions of the oldest pairs, up to the limit; one
+/// worker does at most `turn`. Else it does that of the oldest pair, which must have room, and some more after it, up to the limit: a phase if it pays,
+/// otherwise those of some pairs one after another. Returns their number.
 #[inline(always)]
 pub(crate) fn advance<R: Threads>(
     rt: &R,
@@ -98,8 +98,9 @@ pub(crate) fn advance<R: Threads>(
     if limits.workers() == 1 {
         return machine.take_first(left.min(turn));
     }
-    if interactions < PHASES_FROM {
-        return machine.take_first(left.min(PHASES_FROM - interactions));
+    let alone = pace.alone(machine, interactions);
+    if alone != 0 {
+        return machine.take_first(left.min(alone));
     }
     machine.step(0);
     let left = left - 1;

@@ -9,7 +9,10 @@ use in_machine::{MOST_CELLS, Machine, Room, Sampled, Sharing, Worked};
 use std::alloc::Global;
 
 /// The number of interactions before a phase is tried: a shorter run is over before it could pay, and the pairs are spread far by then.
-pub(crate) const PHASES_FROM: u64 = 16_384;
+const PHASES_FROM: u64 = 16_384;
+
+/// The most interactions that are done before the next test whether the net is still small.
+const LONG_TURN: u64 = 8_192;
 
 /// The least number of pairs for a phase.
 const PHASE_PAIRS: u32 = 512;
@@ -21,6 +24,12 @@ const FEW_PAIRS_FROM: u64 = 524_288;
 
 /// The pairs for each part.
 const PART_PAIRS: u32 = 64;
+
+/// With so many pairs a first phase isn't put off for its lists.
+const MOST_PAIRS_PUT_OFF: u32 = 5_120;
+
+/// How many interactions an agent counts for where it is put off: a large net gains most.
+const AGENT_COUNTS: u64 = 8;
 
 /// The most parts, with the rest.
 const MOST_PARTS: u32 = 16;
@@ -87,7 +96,16 @@ impl Pace {
         }
     }
 
-    /// Whether the run waits, after a phase that hasn't paid.
+    /// How many interactions are done as one worker does them before it is tested again what comes next: 0 if a phase is considered, or if the newest
+    /// pairs are taken.
+    pub(crate) fn alone(&self, machine: &Machine, interactions: u64) -> u64 {
+        if are_newest_first(machine) {
+            return 0;
+        }
+        self.phase_from.saturating_sub(interactions).min(LONG_TURN)
+    }
+
+    /// Whether the run waits, before the first phase or after one that hasn't paid.
     pub(crate) fn waits(&self, interactions: u64) -> bool {
         interactions < self.phase_from
     }
@@ -144,6 +162,13 @@ pub(crate) fn sampling(sharing: Sharing, left: u64) -> Sharing
     }
 }
 
+/// Whether a phase is put off for its lists, which have a place for each number up to the highest one of an agent: where an agent has more than two
+/// auxiliary ports, that is above the numbers of all small cells, and to touch so much memory takes some milliseconds.
+fn is_put_off(machine: &Machine, interactions: u64) -> bool {
+    let done = interactions.saturating_add(AGENT_COUNTS * u64::from(machine.agents()));
+    machine.pairs() < MOST_PAIRS_PUT_OFF && u64::from(machine.reducer.bound()) > done
+}
+
 /// The sharing of a machine's net among the workers, after `interactions` interactions, with `left` left; `None` if a phase can't pay. Half of the
 /// cells are kept back, so the order in which pairs are taken is no reason to stop.
 pub(crate) fn sharing(
@@ -161,7 +186,8 @@ pub(crate) fn sharing(
     let parts = limits.workers().min(MOST_PARTS).min(pairs / PART_PAIRS);
     let floor = limits.cells() / 2;
     let free = machine.least_free();
-    let is_early = pairs < MANY_PAIRS && interactions < FEW_PAIRS_FROM;
+    let has_few = pairs < MANY_PAIRS && interactions < FEW_PAIRS_FROM;
+    let is_early = has_few || is_put_off(machine, interactions);
     if is_early || pairs < PHASE_PAIRS || parts < 2 || left < LEAST_LEFT || free < floor {
         return None;
     }

@@ -15,19 +15,19 @@ returns-then-workers-eq1-clause-some g c =
     let turn = c.requires.turn in
     takes_some c.args.machine.now c.take_first.new.self c.take_first.result c.min.result c.take_first.ensures.runs goes.0 goes.2 (omega (arith, limit, within, least, turn)) c.take_first.ensures.fewer
 
-pub returns-then-interactions-lt-PHASES_FROM-clause-goes : goal.returns-then-interactions-lt-PHASES_FROM-clause-goes
-returns-then-interactions-lt-PHASES_FROM-clause-goes g c =
-    let taken = c.take_first-then-interactions-lt-PHASES_FROM in up_to_numbers_anyhow c.args.machine.now taken.new.self taken.result taken.ensures.runs
+pub returns-then-alone-ne0-clause-goes : goal.returns-then-alone-ne0-clause-goes
+returns-then-alone-ne0-clause-goes g c =
+    let taken = c.take_first-then-alone-ne0 in up_to_numbers_anyhow c.args.machine.now taken.new.self taken.result taken.ensures.runs
 
-pub returns-then-interactions-lt-PHASES_FROM-clause-some : goal.returns-then-interactions-lt-PHASES_FROM-clause-some
-returns-then-interactions-lt-PHASES_FROM-clause-some g c =
-    let taken = c.take_first-then-interactions-lt-PHASES_FROM in
+pub returns-then-alone-ne0-clause-some : goal.returns-then-alone-ne0-clause-some
+returns-then-alone-ne0-clause-some g c =
+    let taken = c.take_first-then-alone-ne0 in
     let goes = c.requires.goes in
     let limit = c.limit.ensures.limit in
     let within = goes.1 in
-    let least = c.min-then-interactions-lt-PHASES_FROM.ensures in
-    let early = c.if-interactions-lt-PHASES_FROM.true in
-    takes_some c.args.machine.now taken.new.self taken.result c.min-then-interactions-lt-PHASES_FROM.result taken.ensures.runs goes.0 goes.2 (omega (arith, limit, within, least, early)) taken.ensures.fewer
+    let least = c.min-then-alone-ne0.ensures in
+    let early = c.if-alone-ne0.true in
+    takes_some c.args.machine.now taken.new.self taken.result c.min-then-alone-ne0.result taken.ensures.runs goes.0 goes.2 (omega (arith, limit, within, least, early)) taken.ensures.fewer
 
 pub returns-clause-goes : goal.returns-clause-goes
 returns-clause-goes g c =
