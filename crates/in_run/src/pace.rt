@@ -25,8 +25,11 @@ const FEW_PAIRS_FROM: u64 = 524_288;
 /// The pairs for each part.
 const PART_PAIRS: u32 = 64;
 
-/// How many interactions an agent counts for where a first phase is put off: a large net gains most.
-const AGENT_COUNTS: u64 = 16;
+/// With so many pairs a first phase isn't put off for its lists.
+const MOST_PAIRS_PUT_OFF: u32 = 5_120;
+
+/// How many interactions an agent counts for where it is put off: a large net gains most.
+const AGENT_COUNTS: u64 = 8;
 
 /// The most parts, with the rest.
 const MOST_PARTS: u32 = 16;
@@ -164,11 +167,11 @@ pub(crate) fn half_of_cells(limits: Limits) -> u32 {
     Need::of_counts(limits.cells()).least() / 2
 }
 
-/// Whether the lists of a first phase, which have a place for each number up to the highest one of an agent, cost too much after so many interactions:
-/// where one agent has many ports, its number is beyond those of all small cells.
-fn is_dear(machine: &Machine, interactions: u64) -> bool {
-    let done = AGENT_COUNTS * u64::from(machine.agents());
-    u64::from(machine.reducer.bound()) > interactions.saturating_add(done)
+/// Whether a phase is put off for its lists, which have a place for each number up to the highest one of an agent: where an agent has more than two
+/// auxiliary ports, that is above the numbers of all small cells, and to touch so much memory takes some milliseconds.
+fn is_put_off(machine: &Machine, interactions: u64) -> bool {
+    let done = interactions.saturating_add(AGENT_COUNTS * u64::from(machine.agents()));
+    machine.pairs() < MOST_PAIRS_PUT_OFF && u64::from(machine.reducer.bound()) > done
 }
 
 /// The sharing of a machine's net among the workers, after `interactions` interactions, with `left` left; `None` if a phase can't pay. Half of the
@@ -189,7 +192,7 @@ pub(crate) fn sharing(
     let floor = half_of_cells(limits);
     let free = machine.least_free();
     let has_few = pairs < MANY_PAIRS && interactions < FEW_PAIRS_FROM;
-    let is_early = has_few || is_dear(machine, interactions);
+    let is_early = has_few || is_put_off(machine, interactions);
     if is_early || pairs < PHASE_PAIRS || parts < 2 || left < LEAST_LEFT || free < floor {
         return None;
     }
