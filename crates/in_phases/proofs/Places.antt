@@ -14,7 +14,7 @@ use Rattle.in_net.proofs.Public.{has_partner}
 use Rattle.in_reducer.specs.Cutting.{net_in}
 use Rattle.in_reducer.specs.Machines.{MachineParts, parts_of, point_at}
 use Rattle.in_reducer.specs.Reducers.{IsReducer}
-use Rattle.in_phases.specs.Branches.{HasAgent, HasPlace, LeadsSomewhere}
+use Rattle.in_phases.specs.Branches.{HasAgent, AgentHasPlace, LeadsSomewhere}
 use Rattle.in_gluing.proofs.Public.{not_some}
 
 -- the point of an end, in the code's words and back
@@ -51,14 +51,14 @@ module _ (m : MachineParts) where
     net = h.net.sound.net
 
     -- an agent has a point at each of its places
-    pub place_there : (c i a : ℕ) → option_map (λ s. arity_of m.program.tables s.0) (symbol_in (parts_of m) c) ≡ Some a → i < a + 1 → HasPlace m c i
+    pub place_there : (c i a : ℕ) → option_map (λ s. arity_of m.program.tables s.0) (symbol_in (parts_of m) c) ≡ Some a → i < a + 1 → AgentHasPlace m c i
     place_there c i a e low = by (symbol_in (parts_of m) c) refl e
       where
-        there : (o : Option points.Point) → partner_in (parts_of m) (point.Port (record { 0 = c }) i) ≡ o → IsSome ((net_in m).partner (Port c i)) → HasPlace m c i
+        there : (o : Option points.Point) → partner_in (parts_of m) (point.Port (record { 0 = c }) i) ≡ o → IsSome ((net_in m).partner (Port c i)) → AgentHasPlace m c i
         there None k g = absurd (not_some ((net_in m).partner (Port c i)) (ap (option_map point_of) k) g)
         there (Some q) k g = has_partner (parts_of m) (point.Port (record { 0 = c }) i) q k
 
-        by : (o : Option SymbolNo) → symbol_in (parts_of m) c ≡ o → option_map (λ s. arity_of m.program.tables s.0) o ≡ Some a → HasPlace m c i
+        by : (o : Option SymbolNo) → symbol_in (parts_of m) c ≡ o → option_map (λ s. arity_of m.program.tables s.0) o ≡ Some a → AgentHasPlace m c i
         by None k f = cc
         by (Some s) k f =
             let same : arity_of m.program.tables s.0 ≡ a = same_Some (arity_of m.program.tables s.0) a f in

@@ -13,8 +13,8 @@ use Rattle.in_reducer.specs.Machines.{MachineParts, parts_of}
 abbrev pub HasAgent : MachineParts → ℕ → Type 0
 HasAgent m c = IsSome (symbol_in (parts_of m) c)
 
-abbrev pub HasPlace : MachineParts → ℕ → ℕ → Type 0
-HasPlace m c i = IsPointOf (parts_of m) (point.Port (record { 0 = c }) i)
+abbrev pub AgentHasPlace : MachineParts → ℕ → ℕ → Type 0
+AgentHasPlace m c i = IsPointOf (parts_of m) (point.Port (record { 0 = c }) i)
 
 -- if an end leads to an agent, the agent exists
 abbrev pub LeadsSomewhere : MachineParts → End → Type 0

@@ -1,6 +1,6 @@
 // The wires that lead out of a part are cut, and cuts are undone.
 ghost use Rattle.std.specs.Prelude.{◌≡◌, ◌<◌, ◌≤◌, ◌+◌, ℕ, true};
-ghost use Rattle.in_phases.specs.Branches.{HasAgent, IsBranch, HasPlace};
+ghost use Rattle.in_phases.specs.Branches.{HasAgent, IsBranch, AgentHasPlace};
 ghost use Rattle.in_reducer.specs.Cutting.{CanCut};
 ghost use Rattle.in_reducer.specs.Machines.{MachineParts};
 ghost use Rattle.in_reducer.specs.Parting.{ReducesTo};
@@ -15,7 +15,7 @@ use in_reducer::{CellNo, End, MOST_FREE_ENDS, Reducer};
 /// or neither.
 fn leads_out(reducer: &Reducer, branch: &Branch, cell: CellNo, place: u8) -> bool
     requires branch { IsBranch reducer.now branch.now }
-    requires there { HasPlace reducer.now cell.0 place }
+    requires there { AgentHasPlace reducer.now cell.0 place }
     ensures { result ≡ true → CanCut reducer.now cell.0 place }
 {
     use_promise!(reducer.pairs());
@@ -28,7 +28,7 @@ fn leads_out(reducer: &Reducer, branch: &Branch, cell: CellNo, place: u8) -> boo
 /// Cuts the wire at this place of an agent, if it leads out of the branch. Returns the number of cuts: 0 if memory or numbers of free ends run out.
 fn cut_place(reducer: &mut Reducer, branch: &Branch, cell: CellNo, place: u8) -> u32
     requires branch { IsBranch reducer.old branch.now }
-    requires there { HasPlace reducer.old cell.0 place }
+    requires there { AgentHasPlace reducer.old cell.0 place }
     ensures cuts { IsCutTimes reducer.old result reducer.new }
     ensures few { result ≤ 1 }
 {

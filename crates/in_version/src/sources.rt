@@ -1,2 +1,2 @@
 /// The first twelve digits of the sum of the code of both programs, without comments, tests and this file. `dist/keep stamp` writes it.
-pub const SOURCES: &str = "defd67dac453";
+pub const SOURCES: &str = "603a36f3a9a5";
