@@ -2,6 +2,7 @@
 -- of their rules, which no view shows.
 use Rattle.std.proofs.Common.{◌≡◌, ◌≢◌, inl, inr, ℕ, zero, suc, List, [], ◌∷◌, length, take, count_by, is_some, Option, Some, None, Ok, Err, slice_get, sym, ◌∙◌, ap, subst, arith}
 use Rattle.std.proofs.lemmas.List.{length-map}
+use Rattle.in_arena.specs.declared.content.CellCounts.{CellCounts}
 use Rattle.in_syntax.specs.declared.faults.Fault.TheVariants.{Refused}
 use Rattle.in_check.specs.Checking.{IsAccepted}
 use Rattle.in_check.specs.Laws.{AreOneProgram}
@@ -94,13 +95,13 @@ module _ (q : Program) where
     is_it : numbered p ≡ q
     is_it = λ i. record { tables = same.tables i; rules = same.rules i; net = same.net i; numbers = q.numbers; rule_certificates = same.rule_certificates i; net_certificate = same.net_certificate i }
 
-    start_kept : (cells : ℕ) (m : MachineParts) → IsStart p cells m → IsStart q cells (renumbered m)
+    start_kept : (cells : CellCounts) (m : MachineParts) → IsStart p cells m → IsStart q cells (renumbered m)
     start_kept cells m h =
         let start : IsStart (numbered p) cells (renumbered m) =
         record { program = ap numbered h.program; over = h.over; name = h.name; net = h.net; names = h.names; first = h.first; pairs = h.pairs; queue = h.queue; counted = h.counted } in
         subst (λ (z : Program). IsStart z cells (renumbered m)) is_it start
 
-    run_kept : (choices : List ℕ) (limit cells : ℕ) (o : Chosen) → IsAsChosen p choices limit cells o → IsAsChosen q choices limit cells (ended o)
+    run_kept : (choices : List ℕ) (limit : ℕ) (cells : CellCounts) (o : Chosen) → IsAsChosen p choices limit cells o → IsAsChosen q choices limit cells (ended o)
     run_kept choices limit cells o h = record {
       start = renumbered h.start;
       is_start = start_kept cells h.start h.is_start;
