@@ -8,7 +8,7 @@ ghost use Rattle.in_net.specs.Parts.{symbol_in};
 ghost use Rattle.in_reducer.specs.Machines.{parts_of};
 ghost use Rattle.in_reducer.specs.Parting.{ReducesTo};
 ghost use Rattle.in_reducer.specs.Same.{RunsUpToNumbers, StepsUpToNumbers};
-ghost use Rattle.in_reducer.specs.Steps.{HasRoomAt};
+ghost use Rattle.in_reducer.specs.Steps.{HasRoomAt, StepsAt};
 ghost use Rattle.in_reducer.specs.Taking.{AreAhead, AreBehind, HasRoomBesides, HasRoomOn, TakesNoLast, together};
 ghost use Rattle.in_reducer.specs.Templates.{HasHeadsAt, IsTemplateAt};
 
@@ -109,7 +109,7 @@ impl<'a> Reducer<'a> {
         let pair = self.pair(0);
         let heads = self.first_heads(pair, ahead);
         let template = self.template_by(templates, 0, heads);
-        self.step_here(template, 0, pair);
+        self.step_here(template, pair);
     }
 
     /// A number of interactions that have the cells that they need, for any of the templates: the number of times that the largest need is in
@@ -203,22 +203,21 @@ impl<'a> Reducer<'a> {
         Need::free_in(&self.body.arena).has_besides(template.need(), floor)
     }
 
-    /// Does the interaction of the last pair, up to numbers, if its cells are free and `floor` more of each class. Returns whether it was
+    /// Does the interaction of the last pair, as by `step`, if its cells are free and `floor` more of each class. Returns whether it was
     /// done. There must be a pair.
     #[inline(always)]
     fn step_last(&mut self, templates: &Templates, floor: u32) -> bool
         requires templates { AreTemplatesOf self.old.program templates.now }
         requires pair { 0 < length self.old.queue }
-        ensures done { result ≡ true → StepsUpToNumbers self.old (length self.old.queue - 1) self.new × HasRoomBesides self.old (length self.old.queue - 1) floor }
+        ensures done { result ≡ true → StepsAt self.old (length self.old.queue - 1) self.new × HasRoomBesides self.old (length self.old.queue - 1) floor }
         ensures none { result ≡ false → (self.new ≡ self.old) × (HasRoomBesides self.old (length self.old.queue - 1) floor → ⊥) }
     {
         let number = self.pairs() - 1;
-        let pair = self.pair(number);
         let template = self.template(templates, number);
         if !self.fits_besides(template, number, floor) {
             return false;
         }
-        self.step_here(template, number, pair);
+        self.step_by(template, number);
         true
     }
 
