@@ -143,7 +143,7 @@ def is_plain_run(words):
 
 
 def accepted_texts():
-    """The accepted examples that are run, and the rows that end normally, each with the words of its run."""
+    """The accepted examples that are run, and the rows that end normally, each with the words of a run that prints its net."""
     for file in sorted(os.listdir(EXAMPLES)):
         name, ending = os.path.splitext(file)
         if ending == ".run":
@@ -155,7 +155,7 @@ def accepted_texts():
         with open(os.path.join(ROWS, file), encoding="utf-8") as lines:
             runs = [words for session in sessions(lines) if session.status == ACCEPTED for words in filter(is_plain_run, session.commands)]
         if runs:
-            yield name, text_of(name, ROWS), runs[0]
+            yield name, text_of(name, ROWS), [word for word in runs[0] if word != "--no-net"]
 
 
 def generated_texts():
