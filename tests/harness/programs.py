@@ -9,7 +9,7 @@ EXAMPLES = os.path.join(HERE, "..", "..", "examples")
 ROWS = os.path.join(HERE, "..", "rows")
 
 # No answer may take longer, in seconds.
-LONGEST = 20
+LONGEST = 60
 # The most bytes that a text may have.
 MOST_BYTES = 1_048_576
 
