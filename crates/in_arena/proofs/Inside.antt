@@ -143,11 +143,11 @@ pub view_stays : (at at' : Ptr) (cells : CellCounts) (old new : List Word) → a
 view_stays at at' cells old new same stay = λ z. seen (λ c. same z) cells (λ c. stay c z)
 
 abbrev pub with_row : Inside → Cells End → FreeLists → Inside
-with_row a words lists = record { base = a.base; words = words; deed = a.deed; alloc = a.alloc; cells = a.cells; lists = lists }
+with_row a words lists = record { base = a.base; words = words; deed = a.deed; alloc = a.alloc; cells = a.cells; starts = a.starts; lists = lists }
 
 module _ (a : Inside) (h : IsArena a) where
   pub arena_with : (words : Cells End) (lists : FreeLists) → words.at ≡ a.words.at → AreWhole a.cells words.slots → EachListsFree a.cells words.slots lists → IsArena (with_row a words lists)
-  arena_with words lists same all free = record { few = h.few; block = (same ∙ h.block.0, h.block.1, h.block.2, h.block.3); whole = all; free = free }
+  arena_with words lists same all free = record { few = h.few; block = (same ∙ h.block.0, h.block.1, h.block.2, h.block.3); starts = h.starts; whole = all; free = free }
 
   pub few_ends : (n : ℕ) (l : LiveCell a.cells a.words.slots n) → l.content.count ≤ width l.class
   few_ends n l = subst (IsCell (width l.class)) (row_at a.cells a.words.slots l.class l.index l.place.0 ∙ l.is) ((h.free l.class).few l.index)

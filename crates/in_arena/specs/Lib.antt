@@ -11,5 +11,6 @@ pub mod Leases
 pub mod Lending
 pub mod Limiting
 pub mod Rows
+pub mod Starts
 pub mod States
 pub mod Words

@@ -17,7 +17,7 @@ use crate::free_list::{FreeList, FreeLists};
 use crate::head::HeadWord;
 use crate::lease::Lease;
 use crate::row::{head_of, is_ready, take_back};
-use crate::spot::{HEAD, Spot, near_word, place_word, spot_of, words_of};
+use crate::spot::{HEAD, Spot, Starts, near_word, place_word, spot_of, words_of};
 use crate::word::EndWord;
 use in_memory::{Base, Cells, Deed, allocate, deallocate};
 use std::alloc::{AllocError, Global};
@@ -32,6 +32,7 @@ pub struct Arena {
     deed: Deed<EndWord, Global>,
     alloc: Global,
     cells: CellCounts,
+    starts: Starts,
     lists: FreeLists,
 }
 
@@ -58,6 +59,7 @@ impl Drop for Arena {
             deed,
             alloc,
             cells,
+            starts: _,
             lists: _,
         } = self;
         deallocate(&alloc, base, words_of(cells), words, deed);
@@ -90,6 +92,7 @@ impl Arena {
             deed,
             alloc,
             cells,
+            starts: Starts::in_row(cells),
             lists: FreeLists::unused(cells),
         })
     }
@@ -265,9 +268,8 @@ impl Arena {
         requires { place < places (state_at self.now cell.0) }
         ensures { end_at (state_at self.now cell.0) place ≡ Some result }
     {
-        *self
-            .words
-            .get(self.base, place_word(self.cells, cell, place))
+        let at = place_word(self.cells, self.starts, cell, place);
+        *self.words.get(self.base, at)
     }
 
     /// Writes the other end of the wire at a place of a live cell. The end's number is below 33,554,432.
@@ -286,8 +288,8 @@ impl Arena {
         requires { place < places (state_at self.old cell.0) }
         ensures { self.new ≡ changed self.old cell.0 (with_end (state_at self.old cell.0) place end) }
     {
-        self.words
-            .write(self.base, place_word(self.cells, cell, place), end);
+        let at = place_word(self.cells, self.starts, cell, place);
+        self.words.write(self.base, at, end);
     }
 
     /// Writes the end at the place to which `at` leads, if that is one of a live cell, and returns true. If `at` is a free end, returns false.

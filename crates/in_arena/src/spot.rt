@@ -4,6 +4,7 @@ ghost use Rattle.in_arena.specs.ByClass.{HasPlace, IsPlace};
 ghost use Rattle.in_arena.specs.Classes.{all_of, amount, first_of, width};
 ghost use Rattle.in_arena.specs.Limiting.{AreAllowed};
 ghost use Rattle.in_arena.specs.Words.{far_start, middle_start, slot_of, spot, words_of};
+ghost use Rattle.in_arena.specs.Starts.{AreStarts};
 ghost use Rattle.in_arena.specs.declared.content.CellClass.{CellClass as Class};
 
 use crate::content::{CellClass, CellCounts, CellNo};
@@ -64,7 +65,6 @@ pub fn words_of(cells: CellCounts) -> usize
 }
 
 /// Where the second part of the row begins.
-#[inline(always)]
 fn middle_start(cells: CellCounts) -> usize
     requires { AreAllowed cells }
     ensures { result ≡ middle_start cells }
@@ -73,7 +73,6 @@ fn middle_start(cells: CellCounts) -> usize
 }
 
 /// Where its third part begins.
-#[inline(always)]
 fn far_start(cells: CellCounts) -> usize
     requires { AreAllowed cells }
     ensures { result ≡ far_start cells }
@@ -81,10 +80,31 @@ fn far_start(cells: CellCounts) -> usize
     middle_start(cells) + 6 * (cells.large_cells as usize + cells.wide_cells as usize)
 }
 
+/// Where the second and the third part of the row begin: kept, so that no sum is computed for each place.
+#[derive(Clone, Copy)]
+pub struct Starts {
+    middle: usize,
+    far: usize,
+}
+
+impl Starts {
+    /// Of the row where there are `cells` of each class.
+    pub fn in_row(cells: CellCounts) -> Starts
+        requires { AreAllowed cells }
+        ensures { AreStarts cells result }
+    {
+        Starts {
+            middle: middle_start(cells),
+            far: far_start(cells),
+        }
+    }
+}
+
 /// The word of a place that the cell has, where there are `cells` of each class.
 #[inline(always)]
-pub fn place_word(cells: CellCounts, cell: CellNo, place: u8) -> usize
-    requires { AreAllowed cells × HasPlace cells cell.0 place }
+pub fn place_word(cells: CellCounts, starts: Starts, cell: CellNo, place: u8) -> usize
+    requires cells { AreAllowed cells × HasPlace cells cell.0 place }
+    requires starts { AreStarts cells starts }
     ensures { (c : Class) (i : ℕ) → IsPlace cells cell.0 c i → result ≡ spot c cells i (slot_of place) }
 {
     if place < HEAD {
@@ -92,9 +112,9 @@ pub fn place_word(cells: CellCounts, cell: CellNo, place: u8) -> usize
     }
     let number = cell.0 as usize - cells.small_cells as usize;
     if place < 9 {
-        middle_start(cells) + 6 * number + (place as usize - 3)
+        starts.middle + 6 * number + (place as usize - 3)
     } else {
-        far_start(cells) + 8 * (number - cells.large_cells as usize) + (place as usize - 9)
+        starts.far + 8 * (number - cells.large_cells as usize) + (place as usize - 9)
     }
 }
 
@@ -123,6 +143,7 @@ impl Spot {
         requires { AreAllowed self.cells × (self.index < amount self.cells self.class) × (place < width self.class) }
         ensures { result ≡ spot self.class self.cells self.index (slot_of place) }
     {
-        place_word(self.cells, self.cell(), place)
+        let starts = Starts::in_row(self.cells);
+        place_word(self.cells, starts, self.cell(), place)
     }
 }

@@ -12,6 +12,6 @@ most_interactions = 1000000000000
 abbrev pub least_cells : ℕ
 least_cells = 16
 
--- of each class
+-- each class has at least this number of cells
 abbrev pub HasLeast : CellCounts → Type 0
 HasLeast cells = (least_cells ≤ cells.small_cells) × (least_cells ≤ cells.large_cells) × (least_cells ≤ cells.wide_cells)

@@ -13,6 +13,7 @@ use Rattle.in_reducer.specs.Machines.{MachineParts, parts_of}
 abbrev pub HasAgent : MachineParts → ℕ → Type 0
 HasAgent m c = IsSome (symbol_in (parts_of m) c)
 
+-- .. and has this place
 abbrev pub AgentHasPlace : MachineParts → ℕ → ℕ → Type 0
 AgentHasPlace m c i = IsPointOf (parts_of m) (point.Port (record { 0 = c }) i)
 

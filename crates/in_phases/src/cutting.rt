@@ -1,6 +1,6 @@
 // The wires that lead out of a part are cut, and cuts are undone.
 ghost use Rattle.std.specs.Prelude.{◌≡◌, ◌<◌, ◌≤◌, ◌+◌, ℕ, true};
-ghost use Rattle.in_phases.specs.Branches.{HasAgent, IsBranch, AgentHasPlace};
+ghost use Rattle.in_phases.specs.Branches.{AgentHasPlace, HasAgent, IsBranch};
 ghost use Rattle.in_reducer.specs.Cutting.{CanCut};
 ghost use Rattle.in_reducer.specs.Machines.{MachineParts};
 ghost use Rattle.in_reducer.specs.Parting.{ReducesTo};

@@ -1,2 +1,2 @@
 -- The cells that a reducer may have. This project's own choice.
-pub use Rattle.in_limits.specs.Limiting.{AreAllowed, HasLeast, least_cells, most_cells}
+pub use Rattle.in_limits.specs.Limiting.{AreAllowed, least_cells, most_cells}

@@ -109,6 +109,7 @@ impl PairQueue {
     }
 
     /// Removes the pair of that number.
+    #[inline(always)]
     pub(crate) fn remove(&mut self, number: usize)
         requires { number < length self.old.items }
         ensures items { self.new.items ≡ remove self.old.items number }

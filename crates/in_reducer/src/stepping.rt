@@ -207,24 +207,24 @@ impl<'a> Reducer<'a> {
         self.step_by(template, number);
     }
 
-    /// The interaction of the first pair, this one, up to numbers, if neither symbol of the pair is marked. The pair's cells are freed before the agents of
-    /// the right member are placed, which then reuse them if they can.
+    /// The interaction of the pair of that number, these agents, up to numbers, if neither symbol of the pair is marked. The pair's cells are freed before
+    /// the agents of the right member are placed, which then reuse them if they can.
     #[inline(always)]
-    fn step_anew(&mut self, template: &Template, first: (CellNo, CellNo))
-        requires first { slice_get self.old.queue 0 ≡ Some (first.0.0, first.1.0) }
-        requires at { IsTemplateAt self.old 0 template.now }
-        requires room { HasRoomAt self.old 0 }
+    fn step_anew(&mut self, template: &Template, number: u32, agents: (CellNo, CellNo))
+        requires there { slice_get self.old.queue number ≡ Some (agents.0.0, agents.1.0) }
+        requires at { IsTemplateAt self.old number template.now }
+        requires room { HasRoomAt self.old number }
         requires unmarked { IsTrue template.now.unmarked }
-        ensures { StepsUpToNumbers self.old 0 self.new }
+        ensures { StepsUpToNumbers self.old number self.new }
     {
         let body = &mut self.body;
         let pair = Pair {
-            one: first.0,
-            other: first.1,
+            one: agents.0,
+            other: agents.1,
             first_ends: template.first_ends(),
         };
         use_promise!(body.arena.cells());
-        take_out(&mut body.queue, 0);
+        take_out(&mut body.queue, number as usize);
         wire_anew(
             template,
             pair,
@@ -240,18 +240,18 @@ impl<'a> Reducer<'a> {
         );
     }
 
-    /// The interaction of the first pair, this one, up to numbers.
+    /// The interaction of the pair of that number, these agents, up to numbers.
     #[inline(always)]
-    pub(crate) fn step_here(&mut self, template: &Template, first: (CellNo, CellNo))
-        requires first { slice_get self.old.queue 0 ≡ Some (first.0.0, first.1.0) }
-        requires at { IsTemplateAt self.old 0 template.now }
-        requires room { HasRoomAt self.old 0 }
-        ensures { StepsUpToNumbers self.old 0 self.new }
+    pub(crate) fn step_here(&mut self, template: &Template, number: u32, agents: (CellNo, CellNo))
+        requires there { slice_get self.old.queue number ≡ Some (agents.0.0, agents.1.0) }
+        requires at { IsTemplateAt self.old number template.now }
+        requires room { HasRoomAt self.old number }
+        ensures { StepsUpToNumbers self.old number self.new }
     {
         if template.is_unmarked() {
-            self.step_anew(template, first);
+            self.step_anew(template, number, agents);
         } else {
-            self.step_beside(template, 0);
+            self.step_beside(template, number);
         }
     }
 }

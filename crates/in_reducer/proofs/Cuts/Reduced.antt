@@ -17,14 +17,18 @@ use Rattle.in_check.proofs.Public.{is_sound, renamed_self}
 use Rattle.in_order.specs.PartRuns.{Run, none, one_more}
 use Rattle.in_gluing.proofs.Public.{map_some}
 use Rattle.in_order.proofs.Public.{with_start}
+use Rattle.in_compile.specs.declared.cells.Need.{Need}
 use Rattle.in_compile.specs.Cells.{agents_of, count_of, is_of, takes}
 use Rattle.in_order.specs.Leading.{Leads}
 use Rattle.in_order.proofs.Public.{beside_leads, leads_go_on}
 use Rattle.in_reducer.specs.Cutting.{CanJoin, CutsAt, JoinsLast, net_in}
-use Rattle.in_reducer.specs.Machines.{MachineParts, KeepsCellCounts}
+use Rattle.in_reducer.specs.Machines.{MachineParts, KeepsCellCounts, parts_of}
 use Rattle.in_reducer.specs.Parting.{IsGluedButQueue, IsSplitButQueues, ReducesTo, ends_of_two, names_of, names_of_two}
 use Rattle.in_reducer.specs.PartingLaws.{CutsAreUndone, PartsReduceTheWhole, ReductionsGoOn, StaysReduce, StepsReduce}
 use Rattle.in_reducer.specs.Reducers.{IsReducer}
+use Rattle.in_reducer.specs.Same.{AreSame, StepsUpToNumbers}
+use Rattle.in_reducer.proofs.Cells.AsMany.{as_many_of}
+use Rattle.in_reducer.proofs.Numbers.OfSame.{reducer_same}
 use Rattle.in_reducer.proofs.Steps.StepsOn.{steps_keep_reducers}
 use Rattle.in_reducer.proofs.Cuts.Undone.{joints_undo_cuts}
 
@@ -45,6 +49,19 @@ steps_reduce m o i h s = record {
   cells = s.cells;
 }
 
+-- a machine that is the same up to numbers is reached by no interaction
+same_reduces : (m n : MachineParts) → AreSame m n → ReducesTo m 0 n
+same_reduces m n (f, same) = record {
+  program = same.program;
+  leads = at_start f (net_in n) same.net;
+  names = same.names;
+  cells = λ c. (
+      let as_many = as_many_of m.program.tables c f (parts_of m) (parts_of n) same.net in
+      let free : count_of n.vacant c ≡ count_of m.vacant c = ap (λ (z : Need). count_of z c) same.vacant in
+      omega (arith, as_many, free)
+      );
+}
+
 -- the same counts over an equal program
 counted_over : (p q : Program) (a b : MachineParts) (c : CellClass) → p ≡ q → count_of a.vacant c + agents_of p.tables c a.agents ≡ count_of b.vacant c + agents_of p.tables c b.agents
     → count_of a.vacant c + agents_of q.tables c a.agents ≡ count_of b.vacant c + agents_of q.tables c b.agents
@@ -60,6 +77,9 @@ reductions_go_on l m n j k first on = record {
   names = on.names ∙ first.names;
   cells = λ c. counted_over m.program l.program n m c first.program (on.cells c) ∙ first.cells c;
 }
+
+pub steps_up_to_numbers_reduce : (m o : MachineParts) (i : ℕ) → IsReducer m → StepsUpToNumbers m i o → ReducesTo m 1 o
+steps_up_to_numbers_reduce m o i h (s, same, step) = reductions_go_on m s o 0 1 (same_reduces m s same) (steps_reduce s o i (reducer_same m s h same.0 same.1) step)
 
 -- ---- parts
 

@@ -11,6 +11,7 @@ invariant_of-result c =
     record {
       few = c.requires;
       block = (made.0, made.2, made.3 ∙ c.words_of-len.ensures, made.4);
+      starts = c.in_row.ensures;
       whole = new_whole cells ws new;
       free = λ k. new_free cells ws k (list_in c.unused.result k) new (c.unused.ensures k);
     }

@@ -18,22 +18,22 @@ use Rattle.in_reducer.proofs.Steps.Stepped as stepped
 use Rattle.in_reducer.proofs.Steps.StillNet as still
 use Rattle.in_reducer.proofs.reducer.Reducer.step_anew.Goals as goal
 
-is_read : (xs : List (ℕ × ℕ)) (q : ℕ × ℕ) → slice_get xs 0 ≡ Some q → q ≡ get_or xs 0 q
-is_read xs q e = same_Some q (get_or xs 0 q) (sym e ∙ slice_get-get_or xs 0 q (slice_get_within xs 0 q e))
+is_read : (xs : List (ℕ × ℕ)) (i : ℕ) (q : ℕ × ℕ) → slice_get xs i ≡ Some q → q ≡ get_or xs i q
+is_read xs i q e = same_Some q (get_or xs i q) (sym e ∙ slice_get-get_or xs i q (slice_get_within xs i q e))
 
 pub wire_anew-requires-clause-ready : goal.wire_anew-requires-clause-ready
 wire_anew-requires-clause-ready c =
     let r = c.self.inside.body in
     let k = c.self.invariant.all.net in
     let p = c.args.template.now in
-    let i : ℕ = 0 in
-    let read = is_read r.queue.items (c.args.first.0.0, c.args.first.1.0) (ap (λ (m : MachineParts). slice_get m.queue 0) c.self.view_is ∙ c.requires.first) in
+    let i = c.args.number in
+    let read = is_read r.queue.items i (c.args.agents.0.0, c.args.agents.1.0) (ap (λ (m : MachineParts). slice_get m.queue i) c.self.view_is ∙ c.requires.there) in
     let at = subst (λ (m : MachineParts). IsTemplateAt m i p) (sym c.self.view_is) c.requires.at in
     let room = subst (λ (m : MachineParts). HasRoomAt m i) (sym c.self.view_is) c.requires.room in
     let ends = c.as_mut_slice.result.now in
     let own = place.own_ends r k i p at in
-    let pair = place.pair_read r k i p at (c.args.first.0.0, c.args.first.1.0) read c.first_ends.result c.first_ends.ensures ends c.as_mut_slice.ensures.value in
-    let about = place.about_in r k i p at (c.args.first.0.0, c.args.first.1.0) read c.first_ends.result c.first_ends.ensures ends c.as_mut_slice.ensures.value r.checked.now.tables refl in (
+    let pair = place.pair_read r k i p at (c.args.agents.0.0, c.args.agents.1.0) read c.first_ends.result c.first_ends.ensures ends c.as_mut_slice.ensures.value in
+    let about = place.about_in r k i p at (c.args.agents.0.0, c.args.agents.1.0) read c.first_ends.result c.first_ends.ensures ends c.as_mut_slice.ensures.value r.checked.now.tables refl in (
       r.checked.now.tables,
       reuse.can_wire_anew r k i p at room c.self.invariant.none c.cells.ensures.1 pair own ends r.checked.now.tables refl about c.requires.unmarked c.as_mut_slice-2.result.now
           (let l = c.self.invariant.all.tools.points in let v = ap length c.as_mut_slice-2.ensures.value in omega (arith, l, v)),
@@ -41,8 +41,8 @@ wire_anew-requires-clause-ready c =
 
 pub wire_anew-requires-clause-room : goal.wire_anew-requires-clause-room
 wire_anew-requires-clause-room c =
-    let at = subst (λ (m : MachineParts). IsTemplateAt m 0 c.args.template.now) (sym c.self.view_is) c.requires.at in
-    let few = place.over_room c.self.inside.body c.self.invariant.all.net 0 c.args.template.now at c.take_out.new.queue.items c.take_out.ensures.items in
+    let at = subst (λ (m : MachineParts). IsTemplateAt m c.args.number c.args.template.now) (sym c.self.view_is) c.requires.at in
+    let few = place.over_room c.self.inside.body c.self.invariant.all.net c.args.number c.args.template.now at c.take_out.new.queue.items c.take_out.ensures.items in
     let e = c.take_out.ensures.room in
     omega (arith, few, e)
 
@@ -51,8 +51,8 @@ queue_begun-requires-clause-there c =
     let r = c.self.inside.body in
     let k = c.self.invariant.all.net in
     let p = c.args.template.now in
-    let i : ℕ = 0 in
-    let read = is_read r.queue.items (c.args.first.0.0, c.args.first.1.0) (ap (λ (m : MachineParts). slice_get m.queue 0) c.self.view_is ∙ c.requires.first) in
+    let i = c.args.number in
+    let read = is_read r.queue.items i (c.args.agents.0.0, c.args.agents.1.0) (ap (λ (m : MachineParts). slice_get m.queue i) c.self.view_is ∙ c.requires.there) in
     let at = subst (λ (m : MachineParts). IsTemplateAt m i p) (sym c.self.view_is) c.requires.at in
     let room = subst (λ (m : MachineParts). HasRoomAt m i) (sym c.self.view_is) c.requires.room in
     let none = c.self.invariant.none in
@@ -63,8 +63,8 @@ queue_begun-requires-clause-there c =
     let points = c.wire_anew.new.points in
     let middle = c.wire_anew.new.queue.items in
     let own = place.own_ends r k i p at in
-    let pair = place.pair_read r k i p at (c.args.first.0.0, c.args.first.1.0) read c.first_ends.result c.first_ends.ensures ends c.as_mut_slice.ensures.value in
-    let about = place.about_in r k i p at (c.args.first.0.0, c.args.first.1.0) read c.first_ends.result c.first_ends.ensures ends c.as_mut_slice.ensures.value r.checked.now.tables refl in
+    let pair = place.pair_read r k i p at (c.args.agents.0.0, c.args.agents.1.0) read c.first_ends.result c.first_ends.ensures ends c.as_mut_slice.ensures.value in
+    let about = place.about_in r k i p at (c.args.agents.0.0, c.args.agents.1.0) read c.first_ends.result c.first_ends.ensures ends c.as_mut_slice.ensures.value r.checked.now.tables refl in
     let up = c.wire_anew.ensures.wired r.checked.now.tables
     (reuse.can_wire_anew r k i p at room none c.cells.ensures.1 pair own ends r.checked.now.tables refl about c.requires.unmarked
     c.as_mut_slice-2.result.now (let l = c.self.invariant.all.tools.points in let v = ap length c.as_mut_slice-2.ensures.value in omega (arith, l, v))) in
@@ -81,8 +81,8 @@ queue_begun-requires-clause-room c =
     let r = c.self.inside.body in
     let k = c.self.invariant.all.net in
     let p = c.args.template.now in
-    let i : ℕ = 0 in
-    let read = is_read r.queue.items (c.args.first.0.0, c.args.first.1.0) (ap (λ (m : MachineParts). slice_get m.queue 0) c.self.view_is ∙ c.requires.first) in
+    let i = c.args.number in
+    let read = is_read r.queue.items i (c.args.agents.0.0, c.args.agents.1.0) (ap (λ (m : MachineParts). slice_get m.queue i) c.self.view_is ∙ c.requires.there) in
     let at = subst (λ (m : MachineParts). IsTemplateAt m i p) (sym c.self.view_is) c.requires.at in
     let room = subst (λ (m : MachineParts). HasRoomAt m i) (sym c.self.view_is) c.requires.room in
     let none = c.self.invariant.none in
@@ -93,8 +93,8 @@ queue_begun-requires-clause-room c =
     let points = c.wire_anew.new.points in
     let middle = c.wire_anew.new.queue.items in
     let own = place.own_ends r k i p at in
-    let pair = place.pair_read r k i p at (c.args.first.0.0, c.args.first.1.0) read c.first_ends.result c.first_ends.ensures ends c.as_mut_slice.ensures.value in
-    let about = place.about_in r k i p at (c.args.first.0.0, c.args.first.1.0) read c.first_ends.result c.first_ends.ensures ends c.as_mut_slice.ensures.value r.checked.now.tables refl in
+    let pair = place.pair_read r k i p at (c.args.agents.0.0, c.args.agents.1.0) read c.first_ends.result c.first_ends.ensures ends c.as_mut_slice.ensures.value in
+    let about = place.about_in r k i p at (c.args.agents.0.0, c.args.agents.1.0) read c.first_ends.result c.first_ends.ensures ends c.as_mut_slice.ensures.value r.checked.now.tables refl in
     let up = c.wire_anew.ensures.wired r.checked.now.tables
     (reuse.can_wire_anew r k i p at room none c.cells.ensures.1 pair own ends r.checked.now.tables refl about c.requires.unmarked
     c.as_mut_slice-2.result.now (let l = c.self.invariant.all.tools.points in let v = ap length c.as_mut_slice-2.ensures.value in omega (arith, l, v))) in
@@ -110,8 +110,8 @@ invariant_of-self c =
     let r = c.self.inside.body in
     let k = c.self.invariant.all.net in
     let p = c.args.template.now in
-    let i : ℕ = 0 in
-    let read = is_read r.queue.items (c.args.first.0.0, c.args.first.1.0) (ap (λ (m : MachineParts). slice_get m.queue 0) c.self.view_is ∙ c.requires.first) in
+    let i = c.args.number in
+    let read = is_read r.queue.items i (c.args.agents.0.0, c.args.agents.1.0) (ap (λ (m : MachineParts). slice_get m.queue i) c.self.view_is ∙ c.requires.there) in
     let at = subst (λ (m : MachineParts). IsTemplateAt m i p) (sym c.self.view_is) c.requires.at in
     let room = subst (λ (m : MachineParts). HasRoomAt m i) (sym c.self.view_is) c.requires.room in
     let none = c.self.invariant.none in
@@ -122,8 +122,8 @@ invariant_of-self c =
     let points = c.wire_anew.new.points in
     let middle = c.wire_anew.new.queue.items in
     let own = place.own_ends r k i p at in
-    let pair = place.pair_read r k i p at (c.args.first.0.0, c.args.first.1.0) read c.first_ends.result c.first_ends.ensures ends c.as_mut_slice.ensures.value in
-    let about = place.about_in r k i p at (c.args.first.0.0, c.args.first.1.0) read c.first_ends.result c.first_ends.ensures ends c.as_mut_slice.ensures.value r.checked.now.tables refl in
+    let pair = place.pair_read r k i p at (c.args.agents.0.0, c.args.agents.1.0) read c.first_ends.result c.first_ends.ensures ends c.as_mut_slice.ensures.value in
+    let about = place.about_in r k i p at (c.args.agents.0.0, c.args.agents.1.0) read c.first_ends.result c.first_ends.ensures ends c.as_mut_slice.ensures.value r.checked.now.tables refl in
     let up = c.wire_anew.ensures.wired r.checked.now.tables
     (reuse.can_wire_anew r k i p at room none c.cells.ensures.1 pair own ends r.checked.now.tables refl about c.requires.unmarked
     c.as_mut_slice-2.result.now (let l = c.self.invariant.all.tools.points in let v = ap length c.as_mut_slice-2.ensures.value in omega (arith, l, v))) in
@@ -170,8 +170,8 @@ returns c =
     let r = c.self.inside.body in
     let k = c.self.invariant.all.net in
     let p = c.args.template.now in
-    let i : ℕ = 0 in
-    let read = is_read r.queue.items (c.args.first.0.0, c.args.first.1.0) (ap (λ (m : MachineParts). slice_get m.queue 0) c.self.view_is ∙ c.requires.first) in
+    let i = c.args.number in
+    let read = is_read r.queue.items i (c.args.agents.0.0, c.args.agents.1.0) (ap (λ (m : MachineParts). slice_get m.queue i) c.self.view_is ∙ c.requires.there) in
     let at = subst (λ (m : MachineParts). IsTemplateAt m i p) (sym c.self.view_is) c.requires.at in
     let room = subst (λ (m : MachineParts). HasRoomAt m i) (sym c.self.view_is) c.requires.room in
     let none = c.self.invariant.none in
@@ -182,8 +182,8 @@ returns c =
     let points = c.wire_anew.new.points in
     let middle = c.wire_anew.new.queue.items in
     let own = place.own_ends r k i p at in
-    let pair = place.pair_read r k i p at (c.args.first.0.0, c.args.first.1.0) read c.first_ends.result c.first_ends.ensures ends c.as_mut_slice.ensures.value in
-    let about = place.about_in r k i p at (c.args.first.0.0, c.args.first.1.0) read c.first_ends.result c.first_ends.ensures ends c.as_mut_slice.ensures.value r.checked.now.tables refl in
+    let pair = place.pair_read r k i p at (c.args.agents.0.0, c.args.agents.1.0) read c.first_ends.result c.first_ends.ensures ends c.as_mut_slice.ensures.value in
+    let about = place.about_in r k i p at (c.args.agents.0.0, c.args.agents.1.0) read c.first_ends.result c.first_ends.ensures ends c.as_mut_slice.ensures.value r.checked.now.tables refl in
     let up = c.wire_anew.ensures.wired r.checked.now.tables
     (reuse.can_wire_anew r k i p at room none c.cells.ensures.1 pair own ends r.checked.now.tables refl about c.requires.unmarked
     c.as_mut_slice-2.result.now (let l = c.self.invariant.all.tools.points in let v = ap length c.as_mut_slice-2.ensures.value in omega (arith, l, v))) in
