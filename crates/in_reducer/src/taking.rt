@@ -202,7 +202,12 @@ impl<'a> Reducer<'a> {
     /// The pair that is next in this order, if it is taken. There must be a pair, and the cells of the first one must be free where it is taken. The
     /// templates are those of the program.
     #[inline(always)]
-    fn next<'b>(&self, templates: &'b Templates, order: Order, ahead: &mut Ahead) -> Option<Next<'b>>
+    fn next<'b>(
+        &self,
+        templates: &'b Templates,
+        order: Order,
+        ahead: &mut Ahead,
+    ) -> Option<Next<'b>>
         requires templates { AreTemplatesOf self.now.program templates.now }
         requires pair { 0 < length self.now.queue }
         requires oldest { order ≡ Oldest → AreAhead self.now ahead.old × HasRoomAt self.now 0 }
