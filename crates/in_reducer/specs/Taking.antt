@@ -1,15 +1,14 @@
 -- Symbols of pairs that are read ahead, and cells that are left free or are known to be free. Both are this project's own choice.
-use Rattle.std.specs.Prelude.{◌≡◌, ◌⊎◌, ◌+◌, ◌-◌, ◌≤◌, ◌<◌, ℕ, [], length, Option, Some, MatchOption, slice_get}
+use Rattle.std.specs.Prelude.{◌≡◌, ◌⊎◌, ◌+◌, ◌-◌, ◌≤◌, ◌<◌, ℕ, [], length, Some, slice_get}
 use Rattle.in_arena.specs.declared.content.CellClass.{CellClass}
 use Rattle.in_symbols.specs.declared.symbols.SymbolNo.{SymbolNo}
 use Rattle.in_reducer.specs.declared.taking.Ahead.{Ahead}
-use Rattle.in_reducer.specs.declared.taking.Next.{Next}
 use Rattle.in_compile.specs.declared.cells.Need.{Need}
 use Rattle.in_compile.specs.Cells.{count_of}
 use Rattle.in_reducer.specs.Machines.{MachineParts}
 use Rattle.in_reducer.specs.Same.{RunsUpToNumbers}
 use Rattle.in_reducer.specs.Steps.{HasRoomAt, NeedsAt}
-use Rattle.in_reducer.specs.Templates.{HasHeadsAt, IsTemplateAt}
+use Rattle.in_reducer.specs.Templates.{HasHeadsAt}
 
 -- the number of pairs that are read together
 abbrev pub together : ℕ
@@ -38,17 +37,3 @@ TakesNoLast floor m = (m.queue ≡ []) ⊎ (HasRoomBesides m (length m.queue - 1
 -- each of the next `many` interactions of the first pair, up to numbers, finds the cells that it needs free
 abbrev pub HasRoomOn : ℕ → MachineParts → Type 0
 HasRoomOn many m = (k : ℕ) (n : MachineParts) → k < many → RunsUpToNumbers m k n → 0 < length n.queue → HasRoomAt n 0
-
--- the pair of that number, with its agents and the template of its symbols. Its cells are free
-pub record IsNext (m : MachineParts) (n : Next) : Type 0 where
-  pub pair : slice_get m.queue n.number ≡ Some (n.pair.0.0, n.pair.1.0)
-  pub template : IsTemplateAt m n.number n.template.now
-  pub room : HasRoomAt m n.number
-
--- the first pair is taken
-abbrev pub IsOldest : Option Next → Type 0
-IsOldest r = (n : Next) × (r ≡ Some n) × (n.number ≡ 0)
-
--- the last pair is taken, if its cells are free and `floor` cells of each class besides
-abbrev pub IsNewest : MachineParts → ℕ → Option Next → Type 0
-IsNewest m floor r = MatchOption r (HasRoomBesides m (length m.queue - 1) floor → ⊥) (λ n. (n.number ≡ length m.queue - 1) × HasRoomBesides m n.number floor)

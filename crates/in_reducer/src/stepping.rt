@@ -210,7 +210,12 @@ impl<'a> Reducer<'a> {
     /// The interaction of the pair of that number, these agents, up to numbers, if neither symbol of the pair is marked. The pair's cells are freed before
     /// the agents of the right member are placed, which then reuse them if they can.
     #[inline(always)]
-    fn step_anew(&mut self, template: &Template, number: u32, agents: (CellNo, CellNo))
+    fn step_anew<const ORDER: u8>(
+        &mut self,
+        template: &Template,
+        number: u32,
+        agents: (CellNo, CellNo),
+    )
         requires there { slice_get self.old.queue number ≡ Some (agents.0.0, agents.1.0) }
         requires at { IsTemplateAt self.old number template.now }
         requires room { HasRoomAt self.old number }
@@ -225,7 +230,7 @@ impl<'a> Reducer<'a> {
         };
         use_promise!(body.arena.cells());
         take_out(&mut body.queue, number as usize);
-        wire_anew(
+        wire_anew::<ORDER>(
             template,
             pair,
             &mut body.arena,
@@ -240,16 +245,22 @@ impl<'a> Reducer<'a> {
         );
     }
 
-    /// The interaction of the pair of that number, these agents, up to numbers.
+    /// The interaction of the pair of that number, these agents, up to numbers. `ORDER` changes nothing: it makes a copy of the code for each order in
+    /// which pairs are taken, since a copy with one caller is compiled into that caller's loop.
     #[inline(always)]
-    pub(crate) fn step_here(&mut self, template: &Template, number: u32, agents: (CellNo, CellNo))
+    pub(crate) fn step_here<const ORDER: u8>(
+        &mut self,
+        template: &Template,
+        number: u32,
+        agents: (CellNo, CellNo),
+    )
         requires there { slice_get self.old.queue number ≡ Some (agents.0.0, agents.1.0) }
         requires at { IsTemplateAt self.old number template.now }
         requires room { HasRoomAt self.old number }
         ensures { StepsUpToNumbers self.old number self.new }
     {
         if template.is_unmarked() {
-            self.step_anew(template, number, agents);
+            self.step_anew::<ORDER>(template, number, agents);
         } else {
             self.step_beside(template, number);
         }

@@ -1,5 +1,5 @@
 // Interactions of the first pairs, or of the last ones, one after another.
-ghost use Rattle.std.specs.Prelude.{◌≡◌, ◌⊎◌, ◌↔◌, ◌≤◌, ◌<◌, ◌+◌, ◌-◌, ◌*◌, ℕ, IsTrue, [], length, Some, IsSome, IfSome, slice_get};
+ghost use Rattle.std.specs.Prelude.{◌≡◌, ◌⊎◌, ◌↔◌, ◌≤◌, ◌<◌, ◌+◌, ◌-◌, ◌*◌, ℕ, IsTrue, true, false, [], length, Some, IsSome, slice_get};
 ghost use Rattle.in_arena.specs.declared.content.CellClass.{CellClass};
 ghost use Rattle.in_symbols.specs.declared.symbols.SymbolNo.{SymbolNo as Symbol};
 ghost use Rattle.in_compile.specs.Cells.{count_of};
@@ -7,11 +7,10 @@ ghost use Rattle.in_compile.specs.Templates.{AreTemplatesOf};
 ghost use Rattle.in_net.specs.Parts.{symbol_in};
 ghost use Rattle.in_reducer.specs.Machines.{parts_of};
 ghost use Rattle.in_reducer.specs.Parting.{ReducesTo};
-ghost use Rattle.in_reducer.specs.Same.{RunsUpToNumbers};
+ghost use Rattle.in_reducer.specs.Same.{RunsUpToNumbers, StepsUpToNumbers};
 ghost use Rattle.in_reducer.specs.Steps.{HasRoomAt};
-ghost use Rattle.in_reducer.specs.Taking.{AreAhead, AreBehind, HasRoomBesides, HasRoomOn, IsNewest, IsNext, IsOldest, TakesNoLast, together};
+ghost use Rattle.in_reducer.specs.Taking.{AreAhead, AreBehind, HasRoomBesides, HasRoomOn, TakesNoLast, together};
 ghost use Rattle.in_reducer.specs.Templates.{HasHeadsAt, IsTemplateAt};
-ghost use Rattle.in_reducer.specs.declared.taking.Order.TheVariants.{Oldest, Newest};
 
 use crate::reducer::Reducer;
 use in_arena::{CellClass, CellNo};
@@ -22,6 +21,11 @@ use in_symbols::SymbolNo;
 /// The number of pairs whose symbols are read together, so that their cells are fetched at once: more than eight gain nothing. This project's own
 /// choice.
 const TOGETHER: usize = 8;
+
+/// The orders in which pairs are taken.
+const OLDEST: u8 = 0;
+
+const NEWEST: u8 = 1;
 
 /// The number of times that `need` cells are in `free` ones: `u64::MAX` if none is needed.
 fn times_in(need: u32, free: u32) -> u64
@@ -64,21 +68,6 @@ impl Ahead {
     }
 }
 
-/// The order in which pairs are taken: the first one each time, or the last one, if its cells are free and that many more of each class.
-#[derive(Clone, Copy)]
-enum Order {
-    Oldest,
-    Newest(u32),
-}
-
-/// A pair of the queue that is taken next: its number, its agents, and the template of its symbols.
-#[derive(Clone, Copy)]
-struct Next<'b> {
-    number: u32,
-    pair: (CellNo, CellNo),
-    template: &'b Template,
-}
-
 impl<'a> Reducer<'a> {
     /// Reads the symbols of the first `TOGETHER` pairs. There must be at least as many.
     #[inline(always)]
@@ -110,6 +99,22 @@ impl<'a> Reducer<'a> {
             return ahead.take();
         }
         (self.symbol(pair.0), self.symbol(pair.1))
+    }
+
+    /// The interaction of the first pair, up to numbers. There must be a pair, and its cells must be free. The templates are those of the program.
+    /// It takes no memory.
+    #[inline(always)]
+    fn step_first(&mut self, templates: &Templates, ahead: &mut Ahead)
+        requires ahead { AreTemplatesOf self.old.program templates.now × AreAhead self.old ahead.old }
+        requires pair { 0 < length self.old.queue }
+        requires room { HasRoomAt self.old 0 }
+        ensures { StepsUpToNumbers self.old 0 self.new × AreAhead self.new ahead.new }
+    {
+        use_promise!(self.pairs());
+        let pair = self.pair(0);
+        let heads = self.first_heads(pair, ahead);
+        let template = self.template_by(templates, 0, heads);
+        self.step_here::<OLDEST>(template, 0, pair);
     }
 
     /// A number of interactions that have the cells that they need, for any of the templates: the number of times that the largest need is in
@@ -147,108 +152,25 @@ impl<'a> Reducer<'a> {
         1
     }
 
-    /// Whether the cells for the template of the pair of that number are free, and `floor` more of each class.
-    #[inline(always)]
-    fn fits_besides(&self, template: &Template, number: u32, floor: u32) -> bool
-        requires { IsTemplateAt self.now number template.now }
-        ensures { IsTrue result ↔ HasRoomBesides self.now number floor }
-    {
-        let _ = number;
-        Need::free_in(&self.body.arena).has_besides(template.need(), floor)
-    }
-
-    /// The first pair, whose cells must be free. There must be a pair. The templates are those of the program.
-    #[inline(always)]
-    fn oldest<'b>(&self, templates: &'b Templates, ahead: &mut Ahead) -> Next<'b>
-        requires templates { AreTemplatesOf self.now.program templates.now }
-        requires ahead { AreAhead self.now ahead.old }
-        requires pair { 0 < length self.now.queue }
-        requires room { HasRoomAt self.now 0 }
-        ensures next { IsNext self.now result × (result.number ≡ 0) }
-        ensures behind { AreBehind self.now ahead.new }
-    {
-        use_promise!(self.pairs());
-        let pair = self.pair(0);
-        let heads = self.first_heads(pair, ahead);
-        let template = self.template_by(templates, 0, heads);
-        Next {
-            number: 0,
-            pair,
-            template,
-        }
-    }
-
-    /// The last pair, if its cells are free and `floor` more of each class. There must be a pair. The templates are those of the program.
-    #[inline(always)]
-    fn newest<'b>(&self, templates: &'b Templates, floor: u32) -> Option<Next<'b>>
-        requires templates { AreTemplatesOf self.now.program templates.now }
-        requires pair { 0 < length self.now.queue }
-        ensures next { IfSome result (IsNext self.now) }
-        ensures newest { IsNewest self.now floor result }
-    {
-        let number = self.pairs() - 1;
-        let pair = self.pair(number);
-        let template = self.template(templates, number);
-        if !self.fits_besides(template, number, floor) {
-            return None;
-        }
-        Some(Next {
-            number,
-            pair,
-            template,
-        })
-    }
-
-    /// The pair that is next in this order, if it is taken. There must be a pair, and the cells of the first one must be free where it is taken. The
-    /// templates are those of the program.
-    #[inline(always)]
-    fn next<'b>(
-        &self,
-        templates: &'b Templates,
-        order: Order,
-        ahead: &mut Ahead,
-    ) -> Option<Next<'b>>
-        requires templates { AreTemplatesOf self.now.program templates.now }
-        requires pair { 0 < length self.now.queue }
-        requires oldest { order ≡ Oldest → AreAhead self.now ahead.old × HasRoomAt self.now 0 }
-        ensures next { IfSome result (IsNext self.now) }
-        ensures oldest { order ≡ Oldest → IsOldest result × AreBehind self.now ahead.new }
-        ensures newest { (floor : ℕ) → order ≡ Newest floor → IsNewest self.now floor result }
-    {
-        match order {
-            Order::Oldest => Some(self.oldest(templates, ahead)),
-            Order::Newest(floor) => self.newest(templates, floor),
-        }
-    }
-
-    /// Does interactions in this order, one after another, at most `most`. It does fewer only if no pair is left, or the last one isn't taken. The
-    /// cells for that many interactions of the first pair must be free where that is taken. Returns their number. The templates are those of the
-    /// program. It takes no memory.
-    #[inline(never)]
-    fn take(&mut self, templates: &Templates, order: Order, most: u64) -> u64
-        requires templates { AreTemplatesOf self.old.program templates.now }
-        requires room { order ≡ Oldest → HasRoomOn most self.old }
-        ensures most { result ≤ most }
-        ensures oldest { order ≡ Oldest → RunsUpToNumbers self.old result self.new }
-        ensures over { order ≡ Oldest → result < most → self.new.queue ≡ [] }
-        ensures reduces { ReducesTo self.old result self.new }
-        ensures floor { (floor : ℕ) → order ≡ Newest floor → ((c : CellClass) → floor ≤ count_of self.old.vacant c) → (c : CellClass) → floor ≤ count_of self.new.vacant c }
-        ensures newest { (floor : ℕ) → order ≡ Newest floor → result < most → TakesNoLast floor self.new }
+    /// Does `sure` interactions of the first pair of the queue, one after another, up to numbers. Their cells must be free. It does fewer only if no
+    /// pair is left. Returns their number. The templates are those of the program. It takes no memory.
+    fn take_sure(&mut self, templates: &Templates, sure: u64) -> u64
+        requires { AreTemplatesOf self.old.program templates.now × HasRoomOn sure self.old }
+        ensures runs { RunsUpToNumbers self.old result self.new }
+        ensures most { result ≤ sure }
+        ensures fewer { result < sure → self.new.queue ≡ [] }
     {
         use_promise!(self.pairs());
         let mut ahead = Ahead::none();
-        let mut left = most;
+        let mut left = sure;
         while left > 0 {
             if self.pairs() == 0 {
-                return most - left;
+                return sure - left;
             }
-            let Some(next) = self.next(templates, order, &mut ahead) else {
-                return most - left;
-            };
-            self.step_here(next.template, next.number, next.pair);
+            self.step_first(templates, &mut ahead);
             left -= 1;
         }
-        most
+        sure
     }
 
     /// Does interactions of the first pair of the queue, one after another, at most `most`, first in, first out. It does fewer only if no pair is
@@ -267,13 +189,42 @@ impl<'a> Reducer<'a> {
             if sure == 0 {
                 return count;
             }
-            let more = self.take(templates, Order::Oldest, sure);
+            let more = self.take_sure(templates, sure);
             count += more;
             if more < sure {
                 return count;
             }
         }
         count
+    }
+
+    /// Whether the cells for the template of the pair of that number are free, and `floor` more of each class.
+    #[inline(always)]
+    fn fits_besides(&self, template: &Template, number: u32, floor: u32) -> bool
+        requires { IsTemplateAt self.now number template.now }
+        ensures { IsTrue result ↔ HasRoomBesides self.now number floor }
+    {
+        let _ = number;
+        Need::free_in(&self.body.arena).has_besides(template.need(), floor)
+    }
+
+    /// Does the interaction of the last pair, up to numbers, if its cells are free and `floor` more of each class. Returns whether it was
+    /// done. There must be a pair.
+    #[inline(always)]
+    fn step_last(&mut self, templates: &Templates, floor: u32) -> bool
+        requires templates { AreTemplatesOf self.old.program templates.now }
+        requires pair { 0 < length self.old.queue }
+        ensures done { result ≡ true → StepsUpToNumbers self.old (length self.old.queue - 1) self.new × HasRoomBesides self.old (length self.old.queue - 1) floor }
+        ensures none { result ≡ false → (self.new ≡ self.old) × (HasRoomBesides self.old (length self.old.queue - 1) floor → ⊥) }
+    {
+        let number = self.pairs() - 1;
+        let pair = self.pair(number);
+        let template = self.template(templates, number);
+        if !self.fits_besides(template, number, floor) {
+            return false;
+        }
+        self.step_here::<NEWEST>(template, number, pair);
+        true
     }
 
     /// Does interactions of the last pair of the queue, one after another, at most `most`, the newest pair first: the newest agents are still in the
@@ -286,6 +237,13 @@ impl<'a> Reducer<'a> {
         ensures floor { ((c : CellClass) → floor ≤ count_of self.old.vacant c) → (c : CellClass) → floor ≤ count_of self.new.vacant c }
         ensures fewer { result < most → TakesNoLast floor self.new }
     {
-        self.take(templates, Order::Newest(floor), most)
+        let mut count = 0;
+        while count < most {
+            if self.pairs() == 0 || !self.step_last(templates, floor) {
+                return count;
+            }
+            count += 1;
+        }
+        count
     }
 }

@@ -252,7 +252,7 @@ fn own_cells(template: &Template, pair: Pair) -> (Pair, (CellClass, CellClass))
 /// Retires a pair to which no wire leads back, places the right member's agents, which reuse its cells if they can, and writes the wires, as
 /// `wire_up` does.
 #[inline(always)]
-pub(crate) fn wire_anew(
+pub(crate) fn wire_anew<const ORDER: u8>(
     template: &Template,
     pair: Pair,
     arena: &mut Arena,

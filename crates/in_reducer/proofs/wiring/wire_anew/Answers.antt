@@ -24,7 +24,7 @@ read_still : (a : ArenaView) (p : Pair) (many joints : ℕ) (middle points : Lis
 read_still a p many joints middle points is few read stay e low = stay e (let l : e < most_ends = omega (arith, low, few) in l) ∙ read e (let l : e < many = omega (arith, low, is) in l)
 
 pub read_ports-requires : goal.read_ports-requires
-read_ports-requires c =
+read_ports-requires g c =
     let t = c.requires.ready.0 in
     let h = c.requires.ready.1 in
     let many = c.boundary_ends.ensures in
@@ -32,7 +32,7 @@ read_ports-requires c =
     (let f = h.few in omega (arith, f, many)) h.begin.long
 
 pub begin_in-requires : goal.begin_in-requires
-begin_in-requires c =
+begin_in-requires g c =
     let t = c.requires.ready.0 in
     let h = c.requires.ready.1 in
     let begin = subst (λ (m : MemberParts). CanBegin m c.args.arena.now c.args.points.now) (sym c.member.ensures) h.begin in
@@ -44,7 +44,7 @@ begin_in-requires c =
     )
 
 pub write_over-requires-clause-ready : goal.write_over-requires-clause-ready
-write_over-requires-clause-ready c =
+write_over-requires-clause-ready g c =
     let t = c.requires.ready.0 in
     let h = c.requires.ready.1 in
     let p = c.args.template.now in
@@ -59,14 +59,14 @@ write_over-requires-clause-ready c =
     )
 
 pub write_over-requires-clause-room : goal.write_over-requires-clause-room
-write_over-requires-clause-room c =
+write_over-requires-clause-room g c =
     let few = c.requires.ready.1.few in
     let over = over_few c.args.template.now.member in
     let room = c.requires.room in
     omega (arith, few, over, room)
 
 pub write_within-requires : goal.write_within-requires
-write_within-requires c =
+write_within-requires g c =
     let t = c.requires.ready.0 in
     let h = c.requires.ready.1 in
     let p = c.args.template.now in
@@ -77,7 +77,7 @@ write_within-requires c =
     record { ready = (t, aside_of h.setting h.aside.0 h.aside.1, h.own, b.0, c.write_over.ensures.written t (aside_of h.setting h.aside.0 h.aside.1) h.own b.0 start) }
 
 pub returns-clause-wired : goal.returns-clause-wired
-returns-clause-wired c = λ t h. (
+returns-clause-wired g c = λ t h. (
     let p = c.args.template.now in
     let b = c.begin_in.ensures.begun in
     let middle = c.begin_in.new.arena in

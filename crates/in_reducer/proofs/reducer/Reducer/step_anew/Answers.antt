@@ -22,7 +22,7 @@ is_read : (xs : List (ℕ × ℕ)) (i : ℕ) (q : ℕ × ℕ) → slice_get xs i
 is_read xs i q e = same_Some q (get_or xs i q) (sym e ∙ slice_get-get_or xs i q (slice_get_within xs i q e))
 
 pub wire_anew-requires-clause-ready : goal.wire_anew-requires-clause-ready
-wire_anew-requires-clause-ready c =
+wire_anew-requires-clause-ready g c =
     let r = c.self.inside.body in
     let k = c.self.invariant.all.net in
     let p = c.args.template.now in
@@ -40,14 +40,14 @@ wire_anew-requires-clause-ready c =
     )
 
 pub wire_anew-requires-clause-room : goal.wire_anew-requires-clause-room
-wire_anew-requires-clause-room c =
+wire_anew-requires-clause-room g c =
     let at = subst (λ (m : MachineParts). IsTemplateAt m c.args.number c.args.template.now) (sym c.self.view_is) c.requires.at in
     let few = place.over_room c.self.inside.body c.self.invariant.all.net c.args.number c.args.template.now at c.take_out.new.queue.items c.take_out.ensures.items in
     let e = c.take_out.ensures.room in
     omega (arith, few, e)
 
 pub queue_begun-requires-clause-there : goal.queue_begun-requires-clause-there
-queue_begun-requires-clause-there c =
+queue_begun-requires-clause-there g c =
     let r = c.self.inside.body in
     let k = c.self.invariant.all.net in
     let p = c.args.template.now in
@@ -77,7 +77,7 @@ queue_begun-requires-clause-there c =
     )
 
 pub queue_begun-requires-clause-room : goal.queue_begun-requires-clause-room
-queue_begun-requires-clause-room c =
+queue_begun-requires-clause-room g c =
     let r = c.self.inside.body in
     let k = c.self.invariant.all.net in
     let p = c.args.template.now in
@@ -106,7 +106,7 @@ queue_begun-requires-clause-room c =
     omega (arith, few, pairs, e, f)
 
 pub invariant_of-self : goal.invariant_of-self
-invariant_of-self c =
+invariant_of-self g c =
     let r = c.self.inside.body in
     let k = c.self.invariant.all.net in
     let p = c.args.template.now in
@@ -166,7 +166,7 @@ steps_there : (m n o : MachineParts) (i : ℕ) → m ≡ n → StepsUpToNumbers 
 steps_there m n o i same h = subst (λ (z : MachineParts). StepsUpToNumbers z i o) same h
 
 pub returns : goal.returns
-returns c =
+returns g c =
     let r = c.self.inside.body in
     let k = c.self.invariant.all.net in
     let p = c.args.template.now in

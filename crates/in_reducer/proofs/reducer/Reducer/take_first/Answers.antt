@@ -14,26 +14,26 @@ loop-count-init c = record { few = omega arith; runs = (c.args.self.now, same_se
 pub sure_steps-sure-requires : goal.sure_steps-sure-requires
 sure_steps-sure-requires c = subst (λ (p : Program). AreTemplatesOf p c.args.templates.now) (sym c.loop-count.invariant.program) c.requires
 
-pub take-more-requires-clause-templates : goal.take-more-requires-clause-templates
-take-more-requires-clause-templates c = subst (λ (p : Program). AreTemplatesOf p c.args.templates.now) (sym c.loop-count.invariant.program) c.requires
+pub take_sure-more-requires : goal.take_sure-more-requires
+take_sure-more-requires c = (subst (λ (p : Program). AreTemplatesOf p c.args.templates.now) (sym c.loop-count.invariant.program) c.requires, c.sure_steps-sure.ensures.room)
 
 pub loop-count-preserved : goal.loop-count-preserved
 loop-count-preserved c =
     let m = c.args.self.now in
     let i = c.loop-count.invariant in
     let k = c.loop-count.count in
-    let more = c.take-more.result in
-    let now = c.take-more.new.self in
+    let more = c.take_sure-more.result in
+    let now = c.take_sure-more.new.self in
     record {
-      few = (let low = c.loop-count-test.true in let a = c.take-more.ensures.most in let b = c.sure_steps-sure.ensures.most in omega (arith, low, a, b));
-      runs = subst (λ (n : ℕ). RunsUpToNumbers m n now) (let z : more + k ≡ k + more = omega arith in z) (runs_on m c.loop-count.self now k more c.pairs.ensures.reducer i.runs (c.take-more.ensures.oldest refl));
-      program = program_stays c.loop-count.self now more (c.take-more.ensures.oldest refl) ∙ i.program;
+      few = (let low = c.loop-count-test.true in let a = c.take_sure-more.ensures.most in let b = c.sure_steps-sure.ensures.most in omega (arith, low, a, b));
+      runs = subst (λ (n : ℕ). RunsUpToNumbers m n now) (let z : more + k ≡ k + more = omega arith in z) (runs_on m c.loop-count.self now k more c.pairs.ensures.reducer i.runs c.take_sure-more.ensures.runs);
+      program = program_stays c.loop-count.self now more c.take_sure-more.ensures.runs ∙ i.program;
     }
 
 pub returns-then-more-sure-clause-runs : goal.returns-then-more-sure-clause-runs
 returns-then-more-sure-clause-runs c =
     let m = c.args.self.now in
     let k = c.loop-count.count in
-    let more = c.take-more.result in
-    let now = c.take-more.new.self in
-    subst (λ (n : ℕ). RunsUpToNumbers m n now) (let z : more + k ≡ k + more = omega arith in z) (runs_on m c.loop-count.self now k more c.pairs.ensures.reducer c.loop-count.invariant.runs (c.take-more.ensures.oldest refl))
+    let more = c.take_sure-more.result in
+    let now = c.take_sure-more.new.self in
+    subst (λ (n : ℕ). RunsUpToNumbers m n now) (let z : more + k ≡ k + more = omega arith in z) (runs_on m c.loop-count.self now k more c.pairs.ensures.reducer c.loop-count.invariant.runs c.take_sure-more.ensures.runs)
