@@ -6,9 +6,14 @@ To list the crates below a crate, and to sum up their sources, `rt` goes from a 
 compiles the sources of all crates at once, so that an error shows early: here that is left out, since each crate is checked by itself anyway.
 And `rt ci` begins a proof with the processors that are idle at that moment, so that the crates for which all others wait are proved by one
 processor while mutants have the rest: here mutants only fill what proofs leave, with less priority, and the longest chain comes first.
+And it checks a mutant's whole crate anew, where mostly the changed function is refused: here that function is tried alone, and the
+crate only if it is proved.
 Where the kit's command is not one that this knows, it is called as it is.
 """
+import difflib
+import inspect
 import os
+import re
 import shutil
 import sys
 import threading
@@ -99,6 +104,58 @@ def in_lanes(rt):
     return run
 
 
+# The head of a function, with its name; the last line of a check of some functions alone.
+HEAD = re.compile(r"^ *(?:pub(?:\([a-z]+\))? )?(?:const |unsafe |extern \"C\" )*fn (\w+)")
+ENDED = re.compile(r"only=(\d+) proved=(\d+)\b")
+
+
+# The kit's functions that try mutants, with their parameters.
+MUTANTS = {
+    "checked": ["crate", "texts", "flags", "kept"],
+    "must_fail": ["crate", "edit", "flags", "kept"],
+    "must_fail_all": ["crate", "edits", "flags"],
+}
+
+
+def has_parameters(function, names):
+    """Whether this is a function with parameters of these names."""
+    return callable(function) and [*inspect.signature(function).parameters] == names
+
+
+def changed_functions(folder, texts):
+    """The words `--only` for the functions of `src/` in which these texts of files differ from those of the folder, or none where another
+    part differs."""
+    words = []
+    for path, text in texts.items():
+        if not path.startswith("src/"):
+            return []
+        with open(os.path.join(folder, path), encoding="utf-8") as file:
+            before = file.read().split("\n")
+        for kind, first, last, _, _ in difflib.SequenceMatcher(None, before, text.split("\n"), autojunk=False).get_opcodes():
+            if kind != "equal":
+                heads = [found for found in map(HEAD.match, before[: max(last, first + 1)]) if found]
+                if not heads:
+                    return []
+                words += ["--only", heads[-1][1]]
+    return words
+
+
+def changed_first(checked):
+    """The kit's function of that name, which checks a crate with other texts of some files, but that it tries the changed functions alone first.
+    If one of them isn't proved, neither is the crate; else the whole crate is checked."""
+    def tried(crate, texts, flags, kept):
+        only = changed_functions(crate.folder, texts)
+        if only:
+            ran = checked(crate, texts, [*flags, *only], kept)
+            ended = ENDED.match(ran.stdout.rstrip("\n").rpartition("\n")[2])
+            if ran.returncode == 1 and ended and int(ended[2]) < int(ended[1]):
+                ran.stdout = f"{ran.stdout.rstrip()}\nlogic=not-proved {ended[0]}\n"
+                return ran
+        return checked(crate, texts, flags, kept)
+
+    return tried
+
+
 def loaded(command):
     """The kit's command as a module, which asks once."""
     source = os.path.realpath(command)
@@ -113,6 +170,9 @@ def loaded(command):
         crates.front_end = lambda crate: 0
     if all(hasattr(rt, name) for name in ("in_lanes", "processors", "free", "ending")) and "RT_JOBS" not in os.environ:
         rt.in_lanes = in_lanes(rt)
+    if all(has_parameters(getattr(rt, name, None), names) for name, names in MUTANTS.items()):
+        rt.checked = changed_first(rt.checked)
+        rt.must_fail_all = lambda crate, edits, flags: [rt.must_fail(crate, edit, flags) for edit in edits]
     return rt
 
 

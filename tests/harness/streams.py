@@ -183,11 +183,11 @@ def wrong_progress(program):
     return None if is_so_far and got == lines and lasted >= 2 else f"{got!r} in {lasted:.1f} seconds"
 
 
-def told_at_terminal(program, words, text, environment):
+def told_at_terminal(program, words, text, environment, **streams):
     """What a terminal for standard error gets of a run, in the lines of a text."""
     terminal, writer = os.openpty()
     try:
-        answer = program.run(words, text, environment, stderr=writer)
+        answer = program.run(words, text, environment, stderr=writer, **streams)
     finally:
         os.close(writer)
     got = b""
@@ -211,25 +211,34 @@ def wrong_colours(program, text, environment, has_colours):
     return differing(answer, usual.status, usual.output) or (None if is_right else f"told: {told!r}")
 
 
-def wrong_from_terminal(program, text):
-    """What is wrong where the program's text comes from a terminal: it is said how it ends, and the rest is as usual."""
+def wrong_from_terminal(program, text, tells):
+    """What is wrong where the program's text comes from a terminal: it is said how it ends, and the rest is as usual. Where standard error is a
+    terminal too (`tells`), the diagnosis after it is in colours."""
     usual = program.run(["check"], text)
     terminal, reader = os.openpty()
     try:
         # The end is told on a line of its own.
         os.write(terminal, text + b"\n\x04")
-        answer = program.run(["check"], stdin=reader)
+        if tells:
+            answer, told = told_at_terminal(program, ["check"], b"", {"NO_COLOR": ""}, stdin=reader)
+        else:
+            answer = program.run(["check"], stdin=reader)
+            told = answer.errors
     finally:
         os.close(reader)
         os.close(terminal)
-    return differing(answer, usual.status, usual.output) or (None if answer.errors == AT_TERMINAL + usual.errors else f"told: {answer.errors!r}")
+    is_right = COLOUR.sub(b"", told) == AT_TERMINAL + usual.errors and (told.find(b"\x1b[1;31merror:") == len(AT_TERMINAL)) == tells
+    return differing(answer, usual.status, usual.output) or (None if is_right else f"told: {told!r}")
 
 
 def terminals(program):
     for environment, has_colours in (({"NO_COLOR": ""}, True), ({"NO_COLOR": "1"}, False)):
         name = "in colours" if has_colours else "without colours"
         yield f"a diagnosis at a terminal {name}", partial(wrong_colours, program, text_of(EXAMPLES[1]), environment, has_colours)
-    yield "a text from a terminal", partial(wrong_from_terminal, program, b"type nat;\nsymbol Z : nat+;\nnet (r : nat+) { r ~ Z; }\n")
+    accepted, refused = (b"type nat;\nsymbol Z : nat+;\nnet (r : nat+) { r ~ Z; }\n", b"net net")
+    yield "a text from a terminal", partial(wrong_from_terminal, program, accepted, False)
+    yield "a refused text from a terminal", partial(wrong_from_terminal, program, refused, False)
+    yield "a refused text from a terminal, told at one", partial(wrong_from_terminal, program, refused, True)
     yield "a long run at a terminal shows how far it is", partial(wrong_progress, program)
 
 
@@ -322,6 +331,28 @@ def inputs(program):
             )
 
 
+def wrong_message(run, status, told, is_whole=True):
+    """What is wrong with the status, and with what standard error has: these bytes, or more after them."""
+    answer = run()
+    is_right = answer.errors == told if is_whole else answer.errors.startswith(told)
+    return (None if answer.status == status else str(answer)) or (None if is_right else f"told: {answer.errors!r}")
+
+
+def messages(program):
+    """The message on a stream that fails, by the system's reason; on a text that is too long; and on a word that is no text."""
+    unread, unwritten = (b"error: standard input can't be read: %s\n", b"error: standard output can't be written: %s\n")
+    folder, closed, full = (b"Is a directory (os error 21)", b"Bad file descriptor (os error 9)", b"No space left on device (os error 28)")
+    yield "message: a folder", partial(wrong_message, partial(from_folder, program, ["check"]), STREAM, unread % folder)
+    yield "message: closed input", partial(wrong_message, partial(from_closed, program, ["check"]), STREAM, unread % closed)
+    for words in (["check"], ["--help"], ["--version"]):
+        run = partial(with_device, program, words, text_of(EXAMPLES[0]))
+        yield f"message: a full device: {words[0]}", partial(wrong_message, run, STREAM, unwritten % full)
+    long, told = b"#" * 1_500_000, b"error: the text has more than 1048576 bytes\n"
+    yield "message: too long", partial(wrong_message, partial(program.run, ["check"], long), REFUSED, told, is_whole=False)
+    told = b"error: a word of the command line is not UTF-8\n"
+    yield "message: a word that is no text", partial(wrong_message, partial(program.run, [b"\xff"]), WRONG_WORDS, told)
+
+
 def errors(program):
     """Standard error that takes nothing changes no answer; with all streams closed the status still says so."""
     for name, words in itertools.product(EXAMPLES, [*COMMANDS, ["walk"], ["--help"]]):
@@ -335,5 +366,5 @@ def errors(program):
 
 
 def streams(program):
-    for group in (outputs, early_ends, inputs, errors, terminals):
+    for group in (outputs, early_ends, inputs, messages, errors, terminals):
         yield from group(program)

@@ -12,8 +12,6 @@ ghost use Rattle.in_program.specs.Lines.{memory_line};
 ghost use Rattle.in_syntax.specs.Streams.{Reader};
 
 mod keeping;
-#[cfg(test)]
-mod tests;
 mod watching;
 mod words;
 
