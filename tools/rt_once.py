@@ -16,6 +16,7 @@ import os
 import re
 import shutil
 import sys
+import tempfile
 import threading
 from concurrent.futures import FIRST_COMPLETED, ThreadPoolExecutor, wait
 from functools import wraps
@@ -114,6 +115,7 @@ MUTANTS = {
     "checked": ["crate", "texts", "flags", "kept"],
     "must_fail": ["crate", "edit", "flags", "kept"],
     "must_fail_all": ["crate", "edits", "flags"],
+    "read_edit": ["edit", "folder"],
 }
 
 
@@ -141,8 +143,8 @@ def changed_functions(folder, texts):
 
 
 def changed_first(checked):
-    """The kit's function of that name, which checks a crate with other texts of some files, but that it tries the changed functions alone first.
-    If one of them isn't proved, neither is the crate; else the whole crate is checked."""
+    """The kit's function of that name, which checks a crate with other texts of some files, but that it tries the changed functions alone first, with
+    those that they call. If one of them isn't proved, neither is the crate; else the whole crate is checked."""
     def tried(crate, texts, flags, kept):
         only = changed_functions(crate.folder, texts)
         if only:
@@ -152,6 +154,22 @@ def changed_first(checked):
                 ran.stdout = f"{ran.stdout.rstrip()}\nlogic=not-proved {ended[0]}\n"
                 return ran
         return checked(crate, texts, flags, kept)
+
+    return tried
+
+
+def each_over_the_others(rt, checked):
+    """The kit's function that tries a crate's mutants, each over the work of those before it. It counts what was refused so if the functions that
+    they change are proved over that work as they are: the kit's function asks that of the whole crate."""
+    def tried(crate, edits, flags):
+        if len(edits) < 2:
+            return [rt.must_fail(crate, edit, flags) for edit in edits]
+        with tempfile.TemporaryDirectory(prefix="rt-edits-") as kept:
+            found = [rt.must_fail(crate, edit, flags, kept) for edit in edits]
+            only = [changed_functions(crate.folder, rt.read_edit(edit, crate.folder)[0] or {}) for edit in edits]
+            words = [word for words in only for word in words] if all(only) else []
+            is_sound = not checked(crate, {}, [*flags, *words], kept).returncode
+        return [it if is_sound and it[0] else rt.must_fail(crate, edit, flags) for edit, it in zip(edits, found)]
 
     return tried
 
@@ -171,8 +189,8 @@ def loaded(command):
     if all(hasattr(rt, name) for name in ("in_lanes", "processors", "free", "ending")) and "RT_JOBS" not in os.environ:
         rt.in_lanes = in_lanes(rt)
     if all(has_parameters(getattr(rt, name, None), names) for name, names in MUTANTS.items()):
+        rt.must_fail_all = each_over_the_others(rt, rt.checked)
         rt.checked = changed_first(rt.checked)
-        rt.must_fail_all = lambda crate, edits, flags: [rt.must_fail(crate, edit, flags) for edit in edits]
     return rt
 
 
