@@ -6,6 +6,7 @@ ghost use Rattle.in_open_nets.specs.Parts.{AreReachedNodes, IsRest};
 ghost use Rattle.in_open_nets.specs.Stuck.{IsListed};
 
 use crate::scratch::Scratch;
+use in_syntax::with_room;
 use sqlite_items::Items;
 use std::alloc::{AllocError, Global};
 use std::marker::Model;
@@ -46,7 +47,7 @@ impl NodeList {
         ensures size { IfOk result (λ set. length set ≡ count) }
         ensures all { IfOk result (λ set. (n : ℕ) → n < count → nodes_in set n ≡ true) }
     {
-        let mut members = Items::new(alloc);
+        let mut members = with_room(alloc, count as usize)?;
         for node in 0..count {
             members.push(node)?;
         }
@@ -94,7 +95,7 @@ impl NodeList {
         requires within { (n : ℕ) → IsIn n (nodes_in tests.now) → IsIn n (nodes_in self.now) }
         ensures { IfOk result (λ set. set ≡ tests.now) }
     {
-        let mut members = Items::new(alloc);
+        let mut members = with_room(alloc, tests.count())?;
         for node in self.members() {
             if tests.has(*node as usize) {
                 members.push(*node)?;
