@@ -107,6 +107,26 @@ impl NodeList {
         })
     }
 
+    /// The nodes of a set, which are these but for one node. All are copied at once, and the one is taken out.
+    fn without(&self, alloc: Global, tests: &Scratch, node: usize) -> Result<NodeList, AllocError>
+        requires size { length tests.now ≡ length self.now }
+        requires rest { IsRest node self.now tests.now }
+        ensures { IfOk result (λ set. set ≡ tests.now) }
+    {
+        let these = self.members();
+        for (place, member) in these.iter().enumerate() {
+            if *member as usize == node {
+                let mut members = Items::from_slice(alloc, these)?;
+                members.remove(place);
+                return Ok(NodeList {
+                    members,
+                    count: tests.len(),
+                });
+            }
+        }
+        self.narrowed(alloc, tests)
+    }
+
     /// Also makes these nodes members of a set of the same size.
     pub(crate) fn add_to(&self, set: &mut Scratch)
         requires { length self.now ≡ length set.old }
@@ -231,7 +251,7 @@ impl NodeSet {
             mut tests,
         } = self;
         tests.take(node);
-        let list = whole.narrowed(alloc, &tests)?;
+        let list = whole.without(alloc, &tests, node)?;
         Ok((NodeSet { list, tests }, whole))
     }
 }
