@@ -129,7 +129,7 @@ fn component(
 }
 
 /// The nodes that are derived, whether short searches were tried for them, and two sets to search with.
-pub struct DoneNodes {
+struct DoneSets {
     nodes: Scratch,
     reached: Scratch,
     near: Scratch,
@@ -137,14 +137,26 @@ pub struct DoneNodes {
 }
 
 // By hand, so that each drop is a call: a derived one is written out in each proof, at each way out.
-impl Drop for DoneNodes {
+impl Drop for DoneSets {
     fn drop(self) {
-        let DoneNodes {
+        let DoneSets {
             nodes: _,
             reached: _,
             near: _,
             tried: _,
         } = self;
+    }
+}
+
+/// The nodes that are derived, in one word: a plan that has them is moved by value at each of its steps.
+pub struct DoneNodes {
+    sets: Box<DoneSets>,
+}
+
+// By hand, as with `DoneSets`.
+impl Drop for DoneNodes {
+    fn drop(self) {
+        let DoneNodes { sets: _ } = self;
     }
 }
 
@@ -154,9 +166,9 @@ impl Model for DoneNodes {
 
     ghost Value = { List Bool };
 
-    ghost view = { λ d. d.nodes };
+    ghost view = { λ d. d.sets.value.nodes };
 
-    ghost invariant = { λ d. (length d.reached ≡ length d.nodes) × (length d.near ≡ length d.nodes) };
+    ghost invariant = { λ d. (length d.sets.value.reached ≡ length d.sets.value.nodes) × (length d.sets.value.near ≡ length d.sets.value.nodes) };
 }
 
 impl DoneNodes {
@@ -165,11 +177,14 @@ impl DoneNodes {
         ensures size { IfOk result (λ done. length done ≡ count) }
         ensures none { IfOk result (λ done. (n : ℕ) → nodes_in done n ≡ false) }
     {
-        Ok(DoneNodes {
+        let sets = DoneSets {
             nodes: Scratch::new(alloc, count)?,
             reached: Scratch::new(alloc, count)?,
             near: Scratch::new(alloc, count)?,
             tried: false,
+        };
+        Ok(DoneNodes {
+            sets: Box::new(alloc, sets)?,
         })
     }
 
@@ -179,22 +194,22 @@ impl DoneNodes {
         ensures none { OnOk result ((n : ℕ) → nodes_in self.new n ≡ false) }
         ensures refused { OnErr result (self.new ≡ self.old) }
     {
-        self.tried = false;
-        self.nodes.clear()
+        self.sets.tried = false;
+        self.sets.nodes.clear()
     }
 
     /// Whether the node is derived.
     pub fn has(&self, node: usize) -> bool
         ensures { result ≡ nodes_in self.now node }
     {
-        self.nodes.has(node)
+        self.sets.nodes.has(node)
     }
 
     /// How many nodes are not derived.
     pub fn absent(&self) -> usize
         ensures { result ≡ missing self.now }
     {
-        self.nodes.absent()
+        self.sets.nodes.absent()
     }
 
     /// Whether the part, which a node left, is in one piece, if short searches find that. They are tried once: if they find it, the whole part is
@@ -207,11 +222,12 @@ impl DoneNodes {
         ensures same { self.new ≡ self.old }
         ensures piece { IfOk result (λ is_piece. IsTrue is_piece → IsOnePiece part.now.wired.now part.now.nodes.now) }
     {
-        if self.tried || part.nodes.absent() <= 1 {
+        let sets: &mut DoneSets = &mut self.sets;
+        if sets.tried || part.nodes.absent() <= 1 {
             return Ok(false);
         }
-        self.tried = true;
-        joins_neighbours(alloc, part, node, &mut self.near, &mut self.reached)
+        sets.tried = true;
+        joins_neighbours(alloc, part, node, &mut sets.near, &mut sets.reached)
     }
 
     /// The component of the node `from` of the part, whose nodes count as derived then. The part is a set without the node `node`.
@@ -233,8 +249,8 @@ impl DoneNodes {
         ensures refused { OnErr result (self.new ≡ self.old) }
     {
         let is_piece = self.is_piece(alloc, part, node)?;
-        let component = component(alloc, part, is_piece, &mut self.reached, from)?;
-        component.add_to(&mut self.nodes);
+        let component = component(alloc, part, is_piece, &mut self.sets.reached, from)?;
+        component.add_to(&mut self.sets.nodes);
         Ok(component)
     }
 }

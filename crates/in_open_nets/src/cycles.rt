@@ -4,6 +4,7 @@ ghost use Rattle.in_open_nets.specs.Tries.{AreIn, AreNone, KeepsWhole};
 use crate::open_nets::OpenPoint;
 use crate::parts::Part;
 use crate::wired::Wired;
+use in_syntax::with_room;
 use sqlite_items::Items;
 use std::alloc::{AllocError, Global};
 use std::marker::Model;
@@ -82,7 +83,7 @@ pub(crate) fn are_in(part: &Part, nodes: &Items<u32>) -> bool
 fn no_cycles(alloc: Global, count: usize) -> Result<Items<Option<Items<u32>>>, AllocError>
     ensures { IfOk result AreNone }
 {
-    let mut found = Items::new(alloc);
+    let mut found = with_room(alloc, count)?;
     for node in 0..count {
         found.push(None)?;
     }

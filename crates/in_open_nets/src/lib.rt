@@ -18,8 +18,9 @@
 //! none of whose hub edges is on a cycle splits the part.
 //!
 //! Each part that is derived, except the whole net, is a component, and so connected. The rest of such a part without a node is connected too if the
-//! node's neighbours are joined without it: `pieces` tries that by short searches, from each neighbour until it meets the nodes gathered about the
-//! first one. If all meet, the component is all that is left; otherwise `components` searches for it, until it has all of the part.
+//! node's neighbours are joined without it. One neighbour is, and if there are several, `pieces` tries it by short searches, from each until it
+//! meets the nodes gathered about the first one. If all meet, the component is all that is left; otherwise `components` searches for it, until it
+//! has all of the part.
 //!
 //! `nodes` has the nodes of a part: on the stack as a list of their numbers (`NodeList`), and, while the part is in use, also as a set with a
 //! membership test in constant time (`NodeSet`). Such a set (`scratch`: `Scratch`, a mark for each node of the net; the members are those with the

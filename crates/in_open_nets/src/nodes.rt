@@ -6,6 +6,7 @@ ghost use Rattle.in_open_nets.specs.Parts.{AreReachedNodes, IsRest};
 ghost use Rattle.in_open_nets.specs.Stuck.{IsListed};
 
 use crate::scratch::Scratch;
+use in_syntax::with_room;
 use sqlite_items::Items;
 use std::alloc::{AllocError, Global};
 use std::marker::Model;
@@ -46,7 +47,7 @@ impl NodeList {
         ensures size { IfOk result (λ set. length set ≡ count) }
         ensures all { IfOk result (λ set. (n : ℕ) → n < count → nodes_in set n ≡ true) }
     {
-        let mut members = Items::new(alloc);
+        let mut members = with_room(alloc, count as usize)?;
         for node in 0..count {
             members.push(node)?;
         }
@@ -94,7 +95,7 @@ impl NodeList {
         requires within { (n : ℕ) → IsIn n (nodes_in tests.now) → IsIn n (nodes_in self.now) }
         ensures { IfOk result (λ set. set ≡ tests.now) }
     {
-        let mut members = Items::new(alloc);
+        let mut members = with_room(alloc, tests.count())?;
         for node in self.members() {
             if tests.has(*node as usize) {
                 members.push(*node)?;
@@ -104,6 +105,26 @@ impl NodeList {
             members,
             count: tests.len(),
         })
+    }
+
+    /// The nodes of a set, which are these but for one node. All are copied at once, and the one is taken out.
+    fn without(&self, alloc: Global, tests: &Scratch, node: usize) -> Result<NodeList, AllocError>
+        requires size { length tests.now ≡ length self.now }
+        requires rest { IsRest node self.now tests.now }
+        ensures { IfOk result (λ set. set ≡ tests.now) }
+    {
+        let these = self.members();
+        for (place, member) in these.iter().enumerate() {
+            if *member as usize == node {
+                let mut members = Items::from_slice(alloc, these)?;
+                members.remove(place);
+                return Ok(NodeList {
+                    members,
+                    count: tests.len(),
+                });
+            }
+        }
+        self.narrowed(alloc, tests)
     }
 
     /// Also makes these nodes members of a set of the same size.
@@ -230,7 +251,7 @@ impl NodeSet {
             mut tests,
         } = self;
         tests.take(node);
-        let list = whole.narrowed(alloc, &tests)?;
+        let list = whole.without(alloc, &tests, node)?;
         Ok((NodeSet { list, tests }, whole))
     }
 }

@@ -170,7 +170,27 @@ fn joins_all(
     Ok(true)
 }
 
-/// Whether the neighbours of a node, which is not in the part, are joined in the part, if short searches find that.
+/// Whether no neighbour of a node is another one than this.
+fn has_no_other(part: &Part, node: usize, first: u32) -> bool
+    requires node { node < length part.now.wired.now.nodes }
+    requires first { IsIn first (nodes_in part.now.nodes.now) }
+    ensures { IsTrue result → AreNeighboursJoined part.now.wired.now part.now.nodes.now node }
+{
+    use_promise!(part.wired.nodes());
+    for port in 0..part.wired.ports(node) {
+        match neighbour(part, node, port) {
+            Some(near) => {
+                if near != first {
+                    return false;
+                }
+            }
+            None => {}
+        }
+    }
+    true
+}
+
+/// Whether the neighbours of a node, which is not in the part, are joined in the part, if short searches find that. Mostly there is one of them.
 pub(crate) fn joins_neighbours(
     alloc: Global,
     part: &Part,
@@ -186,7 +206,13 @@ pub(crate) fn joins_neighbours(
     ensures joined { IfOk result (λ joined. IsTrue joined → AreNeighboursJoined part.now.wired.now part.now.nodes.now node) }
 {
     match first_neighbour(part, node) {
-        Some(first) => joins_all(alloc, part, node, first, these, reached),
+        Some(first) => {
+            if has_no_other(part, node, first) {
+                Ok(true)
+            } else {
+                joins_all(alloc, part, node, first, these, reached)
+            }
+        }
         None => Ok(false),
     }
 }

@@ -76,6 +76,11 @@ impl Scratch {
         self.absent
     }
 
+    /// How many members there are.
+    pub(crate) fn count(&self) -> usize {
+        self.marks.len().saturating_sub(self.absent)
+    }
+
     /// Makes the number a member.
     pub(crate) fn insert(&mut self, number: usize)
         requires { number < length self.old }

@@ -10,6 +10,7 @@ use crate::nodes::NodeSet;
 use crate::open_nets::OpenPoint;
 use crate::parts::Candidate;
 use crate::wired::Wired;
+use in_syntax::with_room;
 use sqlite_items::Items;
 use std::alloc::{AllocError, Global};
 
@@ -85,7 +86,7 @@ impl<'a> Drop for Trials<'a> {
 
 /// A mark of no trial for each node.
 fn no_marks(alloc: Global, count: usize) -> Result<Items<Mark>, AllocError> {
-    let mut marks = Items::new(alloc);
+    let mut marks = with_room(alloc, count)?;
     for node in 0..count {
         marks.push(Mark {
             trial: 0,

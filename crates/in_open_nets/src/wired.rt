@@ -8,7 +8,7 @@ ghost use Rattle.in_open_nets.specs.declared.open_nets.OpenPoint.TheVariants.{Po
 
 use crate::open_nets::{OpenNet, OpenPoint};
 use in_base::use_invariant;
-use in_syntax::MAX_PORTS;
+use in_syntax::{MAX_PORTS, with_room};
 use sqlite_items::Items;
 use std::alloc::{AllocError, Global};
 use std::marker::Model;
@@ -123,8 +123,9 @@ impl<'a> Model for Wired<'a> {
 fn ports(alloc: Global, open: &OpenNet) -> Result<Items<u8>, AllocError>
     ensures { IfOk result (ArePorts «open».now (length «open».now.nodes)) }
 {
-    let mut ports = Items::new(alloc);
-    for node in 0..open.nodes() as usize {
+    let count = open.nodes() as usize;
+    let mut ports = with_room(alloc, count)?;
+    for node in 0..count {
         ports.push(open.ports(node) as u8)?;
     }
     Ok(ports)
@@ -135,7 +136,7 @@ fn empty(alloc: Global, count: usize) -> Result<Items<Slot>, AllocError>
     ensures count { IfOk result (λ slots. length slots ≡ count) }
     ensures empty { IfOk result (λ slots. (i : ℕ) → slice_index_or slots i None ≡ None) }
 {
-    let mut slots = Items::new(alloc);
+    let mut slots = with_room(alloc, count)?;
     for slot in 0..count {
         slots.push(Slot::empty())?;
     }

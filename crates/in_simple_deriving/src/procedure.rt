@@ -29,8 +29,9 @@ pub(crate) struct Work {
 fn last_of(alloc: Global, roots: &Items<u32>, count: usize) -> Result<Items<u32>, AllocError>
     ensures { IfOk result (λ last. last ≡ drop (length roots.now - count) roots.now) }
 {
-    let mut last = Items::new(alloc);
-    let first = roots.len() - count.min(roots.len());
+    let count = count.min(roots.len());
+    let first = roots.len() - count;
+    let mut last = with_room(alloc, count)?;
     for root in first..roots.len() {
         last.push(roots.as_slice()[root])?;
     }

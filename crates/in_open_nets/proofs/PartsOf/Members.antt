@@ -1,10 +1,12 @@
 -- Members in rising order, one after another.
 use Rattle.std.proofs.Common.{◌≡◌, ◌⊎◌, ◌↔◌, ◌<◌, ◌≤◌, ◌+◌, ◌∙◌, ℕ, zero, suc, List, [], ◌∷◌, ◌++◌, length, replicate, get_or, add-one, Bool, true, false, ◌||◌, refl, sym, subst, ap, inl, inr, arith}
 use Rattle.std.proofs.Math.ListN.{set}
+use Rattle.std.specs.List.{remove}
 use Rattle.std.proofs.lemmas.Bool.{or_left, false_from_ne_true}
 use Rattle.std.proofs.lemmas.List.{length-replicate, length-set}
 use Rattle.in_open_nets.specs.Members.{IsUnion, nodes_in, tests_of}
 use Rattle.in_open_nets.specs.Constructions.{IsIn}
+use Rattle.in_open_nets.specs.Parts.{IsRest}
 use Rattle.in_open_nets.specs.Stuck.{Among, IsListed, RisesThrough}
 use Rattle.in_open_nets.proofs.Reached.Links.{same_nat, at_most}
 use Rattle.in_open_nets.proofs.Reached.Reaching.{in_length, among_left, among_last, among_cases}
@@ -47,6 +49,28 @@ last low (n ∷ []) m r (inr h) = absurd h
 last low (n ∷ k ∷ ns) m r (inl e) = let a = last (suc n) (k ∷ ns) k r.1 (inl refl) in let b = r.1.0 in omega arith
 last low (n ∷ k ∷ ns) m r (inr h) = last (suc n) (k ∷ ns) m r.1 h
 
+rises_from : (low high : ℕ) (ns : List ℕ) → low ≤ high → RisesThrough high ns → RisesThrough low ns
+rises_from low high [] l r = tt
+rises_from low high (n ∷ ns) l r = let a = r.0 in (omega arith, r.1)
+
+rises_removed : (low : ℕ) (ns : List ℕ) (i : ℕ) → i < length ns → RisesThrough low ns → RisesThrough low (remove ns i)
+rises_removed low [] i l r = absurd (omega arith)
+rises_removed low (n ∷ ns) zero l r = let a = r.0 in rises_from low (suc n) ns (omega arith) r.1
+rises_removed low (n ∷ ns) (suc i) l r = (r.0, rises_removed (suc n) ns i (omega arith) r.1)
+
+among_others : (low : ℕ) (ns : List ℕ) (i m : ℕ) → i < length ns → RisesThrough low ns → Among m (remove ns i) ↔ (Among m ns × (m ≡ get_or ns i 0 → ⊥))
+among_others low [] i m l r = absurd (omega arith)
+among_others low (n ∷ ns) zero m l r = (
+  (λ h. (inr h, λ e. let a = among_from (suc n) ns m r.1 h in absurd (omega arith))),
+  λ h. elim h.0 [ inl e ↦ absurd (h.1 e) | inr g ↦ g ],
+)
+among_others low (n ∷ ns) (suc i) m l r =
+    let others = among_others (suc n) ns i m (omega arith) r.1 in
+    let next = among_from (suc n) ns (get_or ns i 0) r.1 (among_get ns i (omega arith)) in (
+      (λ h. elim h [ inl e ↦ (inl e, λ f. absurd (omega arith)) | inr g ↦ (inr (others.0 g).0, (others.0 g).1) ]),
+      λ h. elim h.0 [ inl e ↦ inl e | inr g ↦ inr (others.1 (g, h.1)) ],
+    )
+
 -- the numbers rise, and are those with this property
 pub record Lists (P : ℕ → Type 0) (ns : List ℕ) : Type 0 where
   pub rises : RisesThrough 0 ns
@@ -71,6 +95,16 @@ lists_more P Q ns k h below same = record {
 -- .. and of each set that has these members
 pub listed_same : (nodes tests : ℕ → Bool) (ns : List ℕ) → IsListed nodes ns → ((n : ℕ) → IsIn n nodes ↔ IsIn n tests) → IsListed tests ns
 listed_same nodes tests ns l same = record { rises = l.rises; all = λ n. ((λ h. (l.all n).0 ((same n).1 h)), λ a. (same n).0 ((l.all n).1 a)) }
+
+-- the members without one of them
+pub listed_without : (nodes tests : List Bool) (ns : List ℕ) (i n : ℕ) → i < length ns → n ≡ get_or ns i 0 → IsListed (nodes_in nodes) ns → IsRest n nodes tests → IsListed (nodes_in tests) (remove ns i)
+listed_without nodes tests ns i n l e h left = record {
+  rises = rises_removed 0 ns i l h.rises;
+  all = λ m. let others = among_others 0 ns i m l h.rises in (
+    (λ x. others.1 ((h.all m).0 ((left m).0 x).0, λ f. ((left m).0 x).1 (f ∙ sym e))),
+    λ a. (left m).1 ((h.all m).1 (others.0 a).0, λ f. (others.0 a).1 (f ∙ e)),
+  );
+}
 
 -- ---- the members of a set, one after another
 

@@ -62,6 +62,30 @@ module _ (o : OpenNet) (within : List Bool) (n i : ℕ) (these : List Bool) wher
       let e = port_place l m h.1 j (net.once h.0 w (Port n i) (Port l h.1) (Port m j) h.2 g).1 in
       subst (λ z. IsIn z (nodes_in these)) e.0 here
 
+module _ (o : OpenNet) (within : List Bool) (n first : ℕ) where
+  -- the neighbour of n in the set, at port i, is no other node than this
+  abbrev pub IsNoOther : ℕ → Type 0
+  IsNoOther i = (w l j : ℕ) → IsWire o w (Port n i) (Port l j) → IsIn l (nodes_in within) → l ≡ first
+
+  -- .. at each port below b
+  abbrev pub AreNoOthers : ℕ → Type 0
+  AreNoOthers b = (i : ℕ) → i < b → IsNoOther i
+
+  pub other_none : (i : ℕ) → IsNeighbour o within n i None → IsNoOther i
+  other_none i h w l j g m = absurd (h w l j g m)
+
+  pub other_first : IsOpenNet o → (i near : ℕ) → near ≡ first → IsNeighbour o within n i (Some near) → IsNoOther i
+  other_first net i near e h w l j g m = sym (port_place near l h.1 j (net.once h.0 w (Port n i) (Port near h.1) (Port l j) h.2 g).1).0 ∙ e
+
+  pub no_other_more : (b : ℕ) → AreNoOthers b → IsNoOther b → AreNoOthers (b + 1)
+  no_other_more b all last i l = elim (same_nat i b) [ inl e ↦ subst IsNoOther (sym e) last | inr d ↦ all i (omega arith) ]
+
+  pub no_other_joined : IsOpenNet o → IsIn first (nodes_in within) → AreNoOthers (ports_of o n) → AreNeighboursJoined o within n
+  no_other_joined net here all k l x y = subst (λ z. AreJoinedWithin o within z l) (sym (same k x)) (subst (AreJoinedWithin o within first) (sym (same l y)) (alone first here))
+    where
+      same : (m : ℕ) → IsNeighbourOf o within n m → m ≡ first
+      same m z = all z.0 (in_ports o net z.1 n z.0 (Port m z.2) z.3) z.1 m z.2 z.3 z.4
+
 -- a search leads to one of these
 pub joined_to : (o : OpenNet) (within these : List Bool) (from k l i j w : ℕ) → AreJoinedWithin o within from k → IsWire o w (Port k i) (Port l j) → IsIn l (nodes_in within) → IsIn l (nodes_in these) → IsJoinedTo o within from these
 joined_to o within these from k l i j w h g inside here = (l, here, link_snoc o (λ m. IsIn m (nodes_in within)) from k l i j w h g inside)
