@@ -6,14 +6,10 @@ use Rattle.in_arena.specs.States.{Vacant}
 use Rattle.in_arena.proofs.Public.{same_class}
 use Rattle.std.specs.Prelude.{option_map}
 use Rattle.std.proofs.lemmas.Option.{same_Some}
-use Rattle.in_base.proofs.Each.{at_index}
 use Rattle.in_arena.specs.Classes.{IsNumberOf}
 use Rattle.in_arena.specs.declared.content.CellClass.{CellClass}
 use Rattle.in_compile.specs.Members.{AgentParts}
 use Rattle.in_compile.specs.Putting.{BeginsAgent}
-use Rattle.in_compile.proofs.Placements.EndByEnd.{places_are, symbol_is}
-use Rattle.in_compile.proofs.Placements.Put.{begins}
-use Rattle.in_arena.specs.declared.content.CellNo.{CellNo}
 use Rattle.in_compile.proofs.member.Member.begin_in.Goals as goal
 
 all_stay : (a : ArenaView) (n : ℕ) → HasAllCells a → HasAllCells (changed a n Vacant)
