@@ -28,7 +28,7 @@ begin_both-requires-clause-taken c =
     let order = c.own_order-order.result.turned in (
       own.1,
       subst (λ (m : MemberParts). AreTaken m own.1) (sym c.member.ensures)
-          (subst (AreTaken c.args.template.now.member) (sym c.own_cells.ensures.1) (c.own_order-order.ensures (subst IsTrue (sym c.if-order.true) tt))),
+          (subst (AreTaken c.args.template.now.member) (sym c.own_cells.ensures.1) (c.own_order-order.ensures c.if-order.true)),
       turned.own_classed c.args.pair c.args.arena.now c.requires.0 order c.args.template.now.classes own.1 own.0 c.own_cells.ensures c.requires.2,
     )
 
@@ -37,6 +37,18 @@ begin_in-requires c =
     let own = c.own_cells.result in
     let order = c.own_order-order.result.turned in (
       turned.own_live c.args.pair c.args.arena.now c.requires.0 order c.args.template.now.classes own.1 own.0 c.own_cells.ensures,
-      subst (λ (m : MemberParts). CanBegin m c.args.arena.now c.args.points.now) (sym c.member-2.ensures) c.requires.1,
+      subst (λ (m : MemberParts). CanBegin m c.args.arena.now c.args.points.now) (sym c.member-else-order.ensures) c.requires.1,
       turned.own_classed c.args.pair c.args.arena.now c.requires.0 order c.args.template.now.classes own.1 own.0 c.own_cells.ensures c.requires.2,
     )
+
+pub returns-then-order-clause-begun : goal.returns-then-order-clause-begun
+returns-then-order-clause-begun c =
+    let own = c.own_cells.result in
+    begun_there c.member.result.now c.args.template.now.member (retired c.args.pair c.args.arena.now) (retired own.0 c.args.arena.now) c.begin_both.new.arena c.begin_both.new.points c.member.ensures
+    (turned.own_retired c.args.pair c.args.arena.now c.requires.0 c.own_order-order.result.turned c.args.template.now.classes own.1 own.0 c.own_cells.ensures) c.begin_both.ensures.begun
+
+pub returns-else-order-clause-begun : goal.returns-else-order-clause-begun
+returns-else-order-clause-begun c =
+    let own = c.own_cells.result in
+    begun_there c.member-else-order.result.now c.args.template.now.member (retired c.args.pair c.args.arena.now) (retired own.0 c.args.arena.now) c.begin_in.new.arena c.begin_in.new.points c.member-else-order.ensures
+    (turned.own_retired c.args.pair c.args.arena.now c.requires.0 c.own_order-order.result.turned c.args.template.now.classes own.1 own.0 c.own_cells.ensures) c.begin_in.ensures.begun

@@ -30,7 +30,7 @@ renew-first-requires-clause-own c = λ a at.
     subst (λ (d : CellClass). IsNumberOf c.args.arena.now.cells d c.args.pair.one.0) (sym (class_taken c.args.member.now 0 c.requires.taken.0.0 c.requires.taken.1.0 a at)) c.requires.taken.2.0
 
 pub renew-first-requires-clause-row : goal.renew-first-requires-clause-row
-renew-first-requires-clause-row c = c.row.ensures
+renew-first-requires-clause-row c = c.row-row.ensures
 
 pub renew-first-requires-clause-all : goal.renew-first-requires-clause-all
 renew-first-requires-clause-all c = c.requires.pair.1.all
@@ -55,7 +55,7 @@ pub renew-second-requires-clause-row : goal.renew-second-requires-clause-row
 renew-second-requires-clause-row c =
     let m = c.args.member.now in
     let x = at_index m.agents 0 c.requires.taken.1.0.0 in
-    row_still c.row.result c.args.arena.now c.renew-first.new.arena (ap (λ (v : ArenaView). v.memory) (c.renew-first.ensures x.0 x.1).arena) c.row.ensures
+    row_still c.row-row.result c.args.arena.now c.renew-first.new.arena (ap (λ (v : ArenaView). v.memory) (c.renew-first.ensures x.0 x.1).arena) c.row-row.ensures
 
 pub renew-second-requires-clause-all : goal.renew-second-requires-clause-all
 renew-second-requires-clause-all c =

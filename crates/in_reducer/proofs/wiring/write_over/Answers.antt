@@ -35,7 +35,7 @@ side-inner-requires c =
     c.slot.result c.step.result c.slot.ensures.slot c.step.ensures.place
 
 pub exchange_in-requires-clause-row : goal.exchange_in-requires-clause-row
-exchange_in-requires-clause-row c = row_still c.row.result c.args.arena.now c.loop-number.arena c.loop-number.invariant.kept.memory c.row.ensures
+exchange_in-requires-clause-row c = row_still c.row-row.result c.args.arena.now c.loop-number.arena c.loop-number.invariant.kept.memory c.row-row.ensures
 
 pub exchange_in-requires-clause-one : goal.exchange_in-requires-clause-one
 exchange_in-requires-clause-one c =

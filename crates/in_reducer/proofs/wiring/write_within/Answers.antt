@@ -24,7 +24,7 @@ side-other-requires c =
     c.slot-in-loop-number.result c.step-in-loop-number.result (c.slot-in-loop-number.ensures.slot ∙ ap slot_of c.other.ensures) (c.step-in-loop-number.ensures.place ∙ ap place_in c.other-in-loop-number.ensures)
 
 pub exchange_in-requires-clause-row : goal.exchange_in-requires-clause-row
-exchange_in-requires-clause-row c = row_still c.row.result c.args.arena.now c.loop-number.arena c.loop-number.invariant.kept.memory c.row.ensures
+exchange_in-requires-clause-row c = row_still c.row-row.result c.args.arena.now c.loop-number.arena c.loop-number.invariant.kept.memory c.row-row.ensures
 
 pub exchange_in-requires-clause-one : goal.exchange_in-requires-clause-one
 exchange_in-requires-clause-one c =
