@@ -1,7 +1,5 @@
 use Rattle.std.proofs.Common.{◌≡◌, List, sym, subst}
-use Rattle.std.specs.Prelude.{IsTrue}
 use Rattle.in_arena.specs.Arenas.{ArenaView}
-use Rattle.in_arena.specs.declared.content.CellClass.{CellClass}
 use Rattle.in_arena.specs.declared.content.CellNo.{CellNo}
 use Rattle.in_arena.specs.declared.content.End.{End}
 use Rattle.in_compile.specs.Members.{MemberParts}

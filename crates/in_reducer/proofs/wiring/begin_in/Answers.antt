@@ -1,18 +1,16 @@
-use Rattle.std.proofs.Common.{◌≡◌, ◌≤◌, List, [], ◌∷◌, length, set, refl, sym, ap, subst, ◌∙◌, arith}
+use Rattle.std.proofs.Common.{◌≡◌, List, [], ◌∷◌, set, sym, ap, subst, ◌∙◌, arith}
 use Rattle.std.proofs.lemmas.List.{length-set}
 use Rattle.in_base.proofs.Each.{at_index}
 use Rattle.in_base.proofs.Places.{set_there}
 use Rattle.in_arena.specs.Arenas.{ArenaView, changed}
 use Rattle.in_arena.specs.Classes.{IsNumberOf}
 use Rattle.in_arena.specs.States.{Vacant}
-use Rattle.in_arena.specs.declared.content.CellNo.{CellNo}
 use Rattle.in_arena.specs.declared.content.End.{End}
-use Rattle.in_arena.specs.declared.content.End.TheVariants.{Cell}
 use Rattle.in_compile.specs.Members.{MemberParts}
 use Rattle.in_compile.specs.Putting.{AreBegunBelow}
 use Rattle.in_compile.proofs.Public.{none_begun}
 use Rattle.in_reducer.specs.declared.sides.Pair.{Pair}
-use Rattle.in_reducer.specs.Wiring.{CanBegin, HasBegunBelow, retired}
+use Rattle.in_reducer.specs.Wiring.{HasBegunBelow, retired}
 use Rattle.in_reducer.proofs.Steps.Points.{none_at, one_below, still_begin, two_below}
 use Rattle.in_reducer.proofs.Steps.Taken as taken
 use Rattle.in_reducer.proofs.wiring.begin_in.Goals as goal
