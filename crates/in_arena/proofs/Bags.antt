@@ -1,5 +1,5 @@
 -- Bags as contracts see them, beside an arena and other bags, after a cell is taken out of one or put in.
-use Rattle.std.proofs.Common.{◌≡◌, ℕ, zero, suc, List, take, drop, count_by, cond, ◌*◌, ◌<◌, ◌⊎◌, inl, inr, length, get_or, set, replicate, refl, sym, ap, ◌∙◌, subst, ⊎_elim, arith, get_or-set_other}
+use Rattle.std.proofs.Common.{◌≡◌, ℕ, zero, suc, List, take, drop, count_by, cond, ◌<◌, ◌⊎◌, inl, inr, get_or, set, replicate, refl, sym, ap, ◌∙◌, subst, ⊎_elim, arith, get_or-set_other}
 use Rattle.std.proofs.lemmas.Bool.{cases_eq}
 use Rattle.std.proofs.lemmas.List.{set-set, length-replicate}
 use Rattle.std.proofs.lemmas.List.Sums.{sum_by-cons, sum_by-take-drop, sum_by-take-le}

@@ -1,11 +1,11 @@
 -- An arena's counts and leases after a change of one cell.
-use Rattle.std.proofs.Common.{◌≡◌, ℕ, zero, suc, ◌+◌, ◌*◌, ◌-◌, ◌<◌, ◌≤◌, List, take, drop, length, set, get_or, count_by, sym, ap, ◌∙◌, subst, ⊎_elim, arith, get_or-set_other}
+use Rattle.std.proofs.Common.{◌≡◌, ℕ, ◌+◌, ◌-◌, ◌<◌, ◌≤◌, List, take, drop, length, set, get_or, count_by, sym, ap, ◌∙◌, subst, ⊎_elim, arith, get_or-set_other}
 use Rattle.std.proofs.lemmas.Bool.{cases_lt}
 use Rattle.std.proofs.lemmas.List.{drop-set-add, drop-set-lt, take-set-le, get_or-take, get_or-drop, length-take, length-drop, set-get_or}
 use Rattle.std.proofs.lemmas.List.Sums.{sum_by-set}
 use Rattle.in_arena.specs.Arenas.{ArenaView, BeginsCell, IsOf, changed, free_of, part_of, state_at}
 use Rattle.in_arena.specs.Changes.{AllButOneStay, HasAllCells, OneFewerIsFree, one_if_free, FreeCountsChange, LeaseTakesOne, LeasesStay, LeasesDiffer}
-use Rattle.in_arena.specs.Classes.{IsNumberOf, all_of, amount, first_of}
+use Rattle.in_arena.specs.Classes.{IsNumberOf, amount, first_of}
 use Rattle.in_arena.specs.States.{State, Leased, IsLeased, is_vacant}
 use Rattle.in_arena.specs.declared.content.CellClass.{CellClass}
 use Rattle.in_arena.proofs.Classes.{class_within, numbers_apart}

@@ -12,6 +12,7 @@ pub mod Owners
 pub mod Parts
 pub mod Public
 pub mod Rewriting
+pub mod RowStarts
 pub mod Rows
 pub mod Seen
 pub mod Words

@@ -1,5 +1,5 @@
 -- The words of one cell, taken out of a row and put back.
-use Rattle.std.proofs.Common.{◌≡◌, ◌≢◌, ℕ, zero, suc, ◌*◌, ◌<◌, ◌⊎◌, List, [], length, get_or, replicate, Some, None, refl, sym, ap, ◌∙◌, ⊎_elim, inl, inr, arith, eq-eqb}
+use Rattle.std.proofs.Common.{◌≡◌, ◌≢◌, ℕ, zero, suc, ◌<◌, ◌⊎◌, List, [], length, get_or, replicate, Some, None, refl, sym, ap, ◌∙◌, ⊎_elim, inl, inr, arith, eq-eqb}
 use Rattle.std.specs.Prelude.{Option, Bool, true, false, not, ◌||◌, eqb}
 use Rattle.std.proofs.lemmas.Bool.{cases_eq, cases_lt, eqb-true, true≢false}
 use Rattle.std.proofs.lemmas.List.{length-replicate}

@@ -1,12 +1,12 @@
 -- A row after a change of the words of one cell.
-use Rattle.std.proofs.Common.{◌≡◌, ◌≢◌, ℕ, zero, suc, ◌*◌, ◌<◌, ◌⊎◌, List, [], ◌∷◌, length, set, get_or, count_by, Some, None, refl, sym, ap, ◌∙◌, subst, ⊎_elim, inl, inr, arith, length-set, get_or-set_same, get_or-set_other}
+use Rattle.std.proofs.Common.{◌≡◌, ◌≢◌, ℕ, zero, suc, ◌<◌, ◌⊎◌, List, [], ◌∷◌, length, set, get_or, count_by, Some, None, refl, sym, ap, ◌∙◌, subst, ⊎_elim, inl, inr, arith, length-set, get_or-set_same, get_or-set_other}
 use Rattle.std.proofs.lemmas.Bool.{cases_eq}
 use Rattle.std.proofs.lemmas.List.{ext_get_or, length-map, map-set}
 use Rattle.std.proofs.Math.ListN.{get_or-map}
 use denote.RawPtr.{Ptr}
 use Rattle.in_arena.specs.Arenas.{changed, free_of, state_at}
 use Rattle.in_arena.specs.ByClass.{IsPlace, RowsChange, view_of}
-use Rattle.in_arena.specs.Classes.{all_of, amount, class_no, classes, width}
+use Rattle.in_arena.specs.Classes.{all_of, amount, class_no, width}
 use Rattle.in_arena.specs.FreeLists.{state_of, states}
 use Rattle.in_arena.specs.Rows.{RowsBecome}
 use Rattle.in_arena.specs.States.{State, is_vacant}

@@ -1,5 +1,5 @@
 -- Cells that lie class by class, and a change of one of them, as contracts see them.
-use Rattle.std.proofs.Common.{◌≡◌, ℕ, ◌+◌, ◌<◌, List, [], ◌∷◌, ◌++◌, map, flat_map, take, drop, length, set, get_or, replicate, count_by, refl, sym, ap, ◌∙◌, arith, length-append}
+use Rattle.std.proofs.Common.{◌≡◌, ℕ, ◌+◌, ◌<◌, List, [], ◌++◌, map, flat_map, take, drop, length, set, get_or, replicate, count_by, refl, sym, ap, ◌∙◌, arith, length-append}
 use Rattle.std.proofs.lemmas.List.{replicate-append-replicate}
 use denote.RawPtr.{Ptr, null_ptr}
 use Rattle.in_arena.specs.Arenas.{memory_of, state_at, changed, free_of}

@@ -10,6 +10,7 @@ pub mod Inside
 pub mod Leases
 pub mod Lending
 pub mod Limiting
+pub mod RowStarts
 pub mod Rows
 pub mod Starts
 pub mod States

@@ -9,6 +9,7 @@ ghost use Rattle.in_arena.specs.declared.content.CellClass.{CellClass as Class};
 ghost use Rattle.in_arena.specs.declared.content.CellNo.{CellNo as Number};
 ghost use Rattle.in_arena.specs.declared.content.End.TheVariants.{Cell};
 ghost use Rattle.in_arena.specs.Changes.{HasAllCells};
+ghost use Rattle.in_arena.specs.RowStarts.{IsRowStart};
 ghost use Rattle.in_arena.specs.Limiting.{AreAllowed, most_cells};
 
 use crate::bag::Bag;
@@ -17,7 +18,7 @@ use crate::free_list::{FreeList, FreeLists};
 use crate::head::HeadWord;
 use crate::lease::Lease;
 use crate::row::{head_of, is_ready, take_back};
-use crate::spot::{HEAD, Spot, Starts, near_word, place_word, spot_of, words_of};
+use crate::spot::{HEAD, Spot, Starts, far_word, near_word, place_word, spot_of, words_of};
 use crate::word::EndWord;
 use in_memory::{Base, Cells, Deed, allocate, deallocate};
 use std::alloc::{AllocError, Global};
@@ -46,6 +47,13 @@ impl Model for Arena {
     ghost view = { arena_view };
 
     ghost invariant = { IsArena };
+}
+
+/// Where the row of an arena begins. It owns nothing. Who writes many words takes it once: the compiler would load it from the arena again after each
+/// of them.
+#[derive(Clone, Copy)]
+pub struct RowStart {
+    base: Base<EndWord>,
 }
 
 // By hand, since an arena may be dropped only while none of its cells is on lease.
@@ -149,6 +157,7 @@ impl Arena {
             &mut self.words,
             self.base,
             self.cells,
+            &self.starts,
             class,
             &mut self.lists,
         ) {
@@ -253,6 +262,14 @@ impl Arena {
         EndWord::port(cell, place)
     }
 
+    /// Where its row begins.
+    #[inline(always)]
+    pub fn row(&self) -> RowStart
+        ensures { IsRowStart result self.now }
+    {
+        RowStart { base: self.base }
+    }
+
     /// The other end of the wire at a place of a live cell. The principal port is place 0.
     #[inline(always)]
     pub fn port(&self, cell: CellNo, place: u8) -> End
@@ -268,8 +285,18 @@ impl Arena {
         requires { place < places (state_at self.now cell.0) }
         ensures { end_at (state_at self.now cell.0) place ≡ Some result }
     {
+        self.word_in(self.row(), cell, place)
+    }
+
+    /// The same for a row that begins there.
+    #[inline(always)]
+    pub fn word_in(&self, row: RowStart, cell: CellNo, place: u8) -> EndWord
+        requires row { IsRowStart row self.now }
+        requires place { place < places (state_at self.now cell.0) }
+        ensures { end_at (state_at self.now cell.0) place ≡ Some result }
+    {
         let at = place_word(self.cells, self.starts, cell, place);
-        *self.words.get(self.base, at)
+        *self.words.get(row.base, at)
     }
 
     /// Writes the other end of the wire at a place of a live cell. The end's number is below 33,554,432.
@@ -299,13 +326,25 @@ impl Arena {
         ensures cell { result ≡ true → (c : Number) × (p : ℕ) × (at ≡ Cell c p) × (self.new ≡ changed self.old c.0 (with_end (state_at self.old c.0) p end)) }
         ensures free { result ≡ false → (self.new ≡ self.old) × ((c : Number) (p : ℕ) → at ≡ Cell c p → ⊥) }
     {
+        self.set_at_in(self.row(), at, end)
+    }
+
+    /// The same for a row that begins there.
+    #[inline(always)]
+    pub fn set_at_in(&mut self, row: RowStart, at: EndWord, end: EndWord) -> bool
+        requires row { IsRowStart row self.old }
+        requires place { (c : Number) (p : ℕ) → at ≡ Cell c p → p < places (state_at self.old c.0) }
+        ensures cell { result ≡ true → (c : Number) × (p : ℕ) × (at ≡ Cell c p) × (self.new ≡ changed self.old c.0 (with_end (state_at self.old c.0) p end)) }
+        ensures free { result ≡ false → (self.new ≡ self.old) × ((c : Number) (p : ℕ) → at ≡ Cell c p → ⊥) }
+    {
         if let Some(word) = at.near() {
-            self.words.write(self.base, word, end);
+            self.words.write(row.base, word, end);
             return true;
         }
         match at.end() {
             End::Cell(cell, place) => {
-                self.set_word(cell, place, end);
+                let word = far_word(self.cells, self.starts, cell, place);
+                self.words.write(row.base, word, end);
                 true
             }
             End::Free(_) => false,
@@ -323,18 +362,14 @@ impl Arena {
             &mut self.words,
             self.base,
             self.cells,
+            &self.starts,
             class,
             &mut self.lists,
         ) {
             return None;
         }
         let list = self.lists.of(class);
-        let spot = Spot {
-            class,
-            index: list.next,
-            cells: self.cells,
-        };
-        let cell = spot.cell();
+        let cell = CellNo(self.starts.first(class) + list.next);
         let at = near_word(cell, HEAD);
         let next = self.words.get(self.base, at).number();
         self.words.write(self.base, at, head.word());
@@ -357,8 +392,20 @@ impl Arena {
         ensures cell { result ≡ cell }
         ensures renewed { (x : State) × IsBegun head.word head.count x × (self.new ≡ changed self.old cell.0 x) }
     {
+        self.renew_in(self.row(), cell, head)
+    }
+
+    /// The same for a row that begins there.
+    #[inline(always)]
+    pub fn renew_in(&mut self, row: RowStart, cell: CellNo, head: HeadWord) -> CellIndex
+        requires row { IsRowStart row self.old }
+        requires live { IsLive (state_at self.old cell.0) }
+        requires many { IsFor self.old.cells cell.0 head.count }
+        ensures cell { result ≡ cell }
+        ensures renewed { (x : State) × IsBegun head.word head.count x × (self.new ≡ changed self.old cell.0 x) }
+    {
         self.words
-            .write(self.base, near_word(cell, HEAD), head.word());
+            .write(row.base, near_word(cell, HEAD), head.word());
         CellIndex::of(cell)
     }
 

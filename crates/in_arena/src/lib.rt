@@ -23,7 +23,7 @@ mod row;
 mod spot;
 mod word;
 
-pub use arena::Arena;
+pub use arena::{Arena, RowStart};
 pub use bag::Bag;
 pub use content::{CellClass, CellCounts, CellIndex, CellNo, End, SymbolWord};
 pub use head::HeadWord;

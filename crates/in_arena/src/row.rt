@@ -6,12 +6,13 @@ ghost use Rattle.in_arena.specs.EndWords.{HaveWords, numbers};
 ghost use Rattle.in_arena.specs.FreeLists.{ListsFree, list_in};
 ghost use Rattle.in_arena.specs.Limiting.{AreAllowed};
 ghost use Rattle.in_arena.specs.Rows.{EachListsFree, HasContent, MakesReady, IsTakenBack, IsWrittenAt, OwnsOne, Rewrites};
+ghost use Rattle.in_arena.specs.Starts.{AreStarts};
 ghost use Rattle.in_arena.specs.Words.{AreWhole, Content, cell_in};
 
 use crate::content::{CellClass, CellCounts, CellNo, End, SymbolWord};
 use crate::free_list::{FreeList, FreeLists};
 use crate::head::HeadWord;
-use crate::spot::{HEAD, Spot, near_word};
+use crate::spot::{HEAD, Spot, Starts, near_word, place_word};
 use crate::word::EndWord;
 use in_memory::{Base, Cells};
 
@@ -30,17 +31,19 @@ pub fn is_ready(
     words: &mut Cells<EndWord>,
     base: Base<EndWord>,
     cells: CellCounts,
+    starts: &Starts,
     class: CellClass,
     lists: &mut FreeLists,
 ) -> bool
     requires words { (base.ptr ≡ words.old.at) × AreAllowed cells × AreWhole cells words.old.slots }
+    requires starts { AreStarts cells starts.now }
     requires lists { EachListsFree cells words.old.slots lists.old }
     ensures { MakesReady cells class words.old lists.old result words.new lists.new }
 {
-    if lists.of(class).next != cells.of(class) {
+    if lists.of(class).next != starts.amount(class) {
         return true;
     }
-    list_new(words, base, cells, class, lists)
+    list_new(words, base, cells, starts, class, lists)
 }
 
 /// Puts the first cell of the class that was never used on the list, which is empty. Returns `false` if all were used.
@@ -49,28 +52,27 @@ fn list_new(
     words: &mut Cells<EndWord>,
     base: Base<EndWord>,
     cells: CellCounts,
+    starts: &Starts,
     class: CellClass,
     lists: &mut FreeLists,
 ) -> bool
     requires words { (base.ptr ≡ words.old.at) × AreAllowed cells × AreWhole cells words.old.slots }
+    requires starts { AreStarts cells starts.now }
     requires lists { EachListsFree cells words.old.slots lists.old }
     requires empty { (list_in lists.old class).next ≡ amount cells class }
     ensures { MakesReady cells class words.old lists.old result words.new lists.new }
 {
     let list = lists.of(class);
-    let end = cells.of(class);
+    let end = starts.amount(class);
     if list.fresh == end {
         return false;
     }
-    let spot = Spot {
-        class,
-        index: list.fresh,
-        cells,
-    };
+    let cell = CellNo(starts.first(class) + list.fresh);
     for place in 0..class.width() {
-        words.write(base, spot.word(place), EndWord::free(0));
+        let at = place_word(cells, *starts, cell, place);
+        words.write(base, at, EndWord::free(0));
     }
-    words.write(base, spot.head(), EndWord::port(CellNo(end), 0));
+    words.write(base, near_word(cell, HEAD), EndWord::port(CellNo(end), 0));
     lists.set(
         class,
         FreeList {

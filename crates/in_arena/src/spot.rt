@@ -80,11 +80,14 @@ fn far_start(cells: CellCounts) -> usize
     middle_start(cells) + 6 * (cells.large_cells as usize + cells.wide_cells as usize)
 }
 
-/// Where the second and the third part of the row begin: kept, so that no sum is computed for each place.
+/// Where the second and the third part of the row begin, and how many cells of each class there are, with the number of its first one, by the numbers
+/// of the classes: kept, so that none is computed for each place or cell.
 #[derive(Clone, Copy)]
 pub struct Starts {
     middle: usize,
     far: usize,
+    amounts: [u32; 3],
+    firsts: [u32; 3],
 }
 
 impl Starts {
@@ -96,7 +99,25 @@ impl Starts {
         Starts {
             middle: middle_start(cells),
             far: far_start(cells),
+            amounts: [cells.small_cells, cells.large_cells, cells.wide_cells],
+            firsts: [0, cells.small_cells, cells.small_cells + cells.large_cells],
         }
+    }
+
+    /// The number of cells of a class.
+    #[inline(always)]
+    pub fn amount(&self, class: CellClass) -> u32
+        ensures { (cells : CellCounts) → AreStarts cells self.now → result ≡ amount cells class }
+    {
+        self.amounts[class.number() as usize]
+    }
+
+    /// The number of the first cell of a class.
+    #[inline(always)]
+    pub fn first(&self, class: CellClass) -> u32
+        ensures { (cells : CellCounts) → AreStarts cells self.now → result ≡ first_of cells class }
+    {
+        self.firsts[class.number() as usize]
     }
 }
 
@@ -110,6 +131,17 @@ pub fn place_word(cells: CellCounts, starts: Starts, cell: CellNo, place: u8) ->
     if place < HEAD {
         return near_word(cell, place);
     }
+    far_word(cells, starts, cell, place)
+}
+
+/// The same for a place behind the first three.
+#[inline(always)]
+pub fn far_word(cells: CellCounts, starts: Starts, cell: CellNo, place: u8) -> usize
+    requires cells { AreAllowed cells × HasPlace cells cell.0 place }
+    requires starts { AreStarts cells starts }
+    requires place { 3 ≤ place }
+    ensures { (c : Class) (i : ℕ) → IsPlace cells cell.0 c i → result ≡ spot c cells i (slot_of place) }
+{
     let number = cell.0 as usize - cells.small_cells as usize;
     if place < 9 {
         starts.middle + 6 * number + (place as usize - 3)

@@ -1,15 +1,17 @@
 // Writing the partner of a point.
+ghost use Rattle.in_arena.specs.RowStarts.{IsRowStart};
 ghost use Rattle.in_cells.specs.Shown.{IsPlaceAt, IsWritten, AreExchanged};
 
-use in_arena::{Arena, End, EndWord};
+use in_arena::{Arena, End, EndWord, RowStart};
 
-/// Writes an end at a place of a live cell, or at a free end's number in the list.
+/// Writes an end at a place of a live cell, or at a free end's number in the list. The row begins there.
 #[inline(always)]
-fn write(arena: &mut Arena, ends: &mut [EndWord], at: EndWord, end: EndWord)
-    requires { IsPlaceAt arena.old ends.old at }
+fn write(arena: &mut Arena, row: RowStart, ends: &mut [EndWord], at: EndWord, end: EndWord)
+    requires row { IsRowStart row arena.old }
+    requires place { IsPlaceAt arena.old ends.old at }
     ensures { IsWritten at end arena.old ends.old arena.new ends.new }
 {
-    if !arena.set_at(at, end) {
+    if !arena.set_at_in(row, at, end) {
         if let End::Free(number) = at.end() {
             ends[number as usize] = end;
         }
@@ -23,6 +25,23 @@ pub fn exchange(arena: &mut Arena, ends: &mut [EndWord], one: EndWord, other: En
     requires other { IsPlaceAt arena.old ends.old other }
     ensures { AreExchanged one other arena.old ends.old arena.new ends.new }
 {
-    write(arena, ends, one, other);
-    write(arena, ends, other, one);
+    exchange_in(arena, arena.row(), ends, one, other);
+}
+
+/// The same for a row that begins there.
+#[inline(always)]
+pub fn exchange_in(
+    arena: &mut Arena,
+    row: RowStart,
+    ends: &mut [EndWord],
+    one: EndWord,
+    other: EndWord,
+)
+    requires row { IsRowStart row arena.old }
+    requires one { IsPlaceAt arena.old ends.old one }
+    requires other { IsPlaceAt arena.old ends.old other }
+    ensures { AreExchanged one other arena.old ends.old arena.new ends.new }
+{
+    write(arena, row, ends, one, other);
+    write(arena, row, ends, other, one);
 }

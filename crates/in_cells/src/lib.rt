@@ -28,7 +28,7 @@ mod writing;
 pub use copying::copy;
 pub use cutting::cut;
 pub use ends::moved_end;
-pub use exchanging::exchange;
+pub use exchanging::{exchange, exchange_in};
 pub use joining::join_all;
 pub use numbering::number_anew;
 pub use pairing::{add_pair, pair_of};

@@ -3,6 +3,7 @@ pub mod Laws
 pub mod Listing
 pub mod MemberInside
 pub mod Members
+pub mod OwnOrders
 pub mod PlacedInside
 pub mod PlacedTemplates
 pub mod Placing

@@ -35,6 +35,6 @@ pub use placed::Placed;
 pub use placed_template::{PlacedTemplate, place};
 pub use placing::place_into;
 pub use stock::Stock;
-pub use template::Template;
+pub use template::{OwnOrder, Template};
 pub use templates::Templates;
 pub use wires::{FIRST_AGENT_SLOT, OverWire, SmallJoint, WithinWire};

@@ -11,12 +11,13 @@ ghost use Rattle.in_open_nets_of_programs.specs.Opening.{AreAllThere};
 ghost use Rattle.in_open_nets_of_programs.specs.OpeningRules.{IsRuleWhole};
 ghost use Rattle.in_compile.specs.Storing.{AreNarrow, AddsAgent, AreLaidBelow};
 ghost use Rattle.in_compile.specs.Members.{joint_of, IsMemberOf};
+ghost use Rattle.in_compile.specs.OwnOrders.{AreTaken, FitsOrder, Takes};
 ghost use Rattle.in_compile.specs.Templates.{AreUnmarked, IsTemplateOf};
 
 use crate::cells::{class_of, need_of_net};
 use crate::joints::{Joint, StoredJoint};
 use crate::member::{Member, MemberAgent};
-use crate::template::Template;
+use crate::template::{OwnOrder, Template};
 use crate::wires::{over_wires, within_wires};
 use in_arena::{CellClass, HeadWord};
 use in_base::use_promise;
@@ -153,18 +154,41 @@ fn are_unmarked(symbols: &Symbols, first: SymbolNo, second: SymbolNo) -> bool
     !is_marked(symbols, first) && !is_marked(symbols, second)
 }
 
-/// 1 if there is an agent of this number, and it takes a cell of this class, else 0.
-fn one_if_of(member: &Member, agent: u32, class: CellClass) -> u8
-    ensures { result ≤ 1 }
+/// Whether there is an agent of this number, and it takes a cell of this class.
+fn takes(member: &Member, agent: u32, class: CellClass) -> bool
+    ensures { IsTrue result → Takes member.now agent class }
 {
-    u8::from(agent < member.agents() && member.class(agent) == class)
+    agent < member.agents() && member.class(agent).number() == class.number()
+}
+
+/// Whether the first two agents take cells of these classes.
+fn take_both(member: &Member, classes: (CellClass, CellClass)) -> bool
+    ensures { IsTrue result → AreTaken member.now classes }
+{
+    takes(member, 0, classes.0) && takes(member, 1, classes.1)
 }
 
 /// Whether the first two agents fit cells of these classes better if the first one has the second cell.
 fn are_turned(member: &Member, classes: (CellClass, CellClass)) -> bool {
-    let straight = one_if_of(member, 0, classes.0) + one_if_of(member, 1, classes.1);
-    let turned = one_if_of(member, 0, classes.1) + one_if_of(member, 1, classes.0);
+    let straight = u8::from(takes(member, 0, classes.0)) + u8::from(takes(member, 1, classes.1));
+    let turned = u8::from(takes(member, 0, classes.1)) + u8::from(takes(member, 1, classes.0));
     straight < turned
+}
+
+/// How the first two agents take cells of these classes.
+fn own_order(member: &Member, classes: (CellClass, CellClass)) -> OwnOrder
+    ensures { FitsOrder result member.now classes }
+{
+    if are_turned(member, classes) {
+        return OwnOrder {
+            turned: true,
+            both: take_both(member, (classes.1, classes.0)),
+        };
+    }
+    OwnOrder {
+        turned: false,
+        both: take_both(member, classes),
+    }
 }
 
 /// The template of a rule that is over these tables and as it was built.
@@ -187,14 +211,14 @@ pub(crate) fn template(
     let over = over_wires(alloc, &member)?;
     let within = within_wires(alloc, &member)?;
     let outputs = outputs_of(alloc, rule.member())?;
-    let turned = are_turned(&member, classes);
+    let own = own_order(&member, classes);
     Ok(Template {
         member,
         first_ends,
         unmarked,
         heads: (first, second),
         classes,
-        turned,
+        own,
         over,
         within,
         outputs,

@@ -3,6 +3,7 @@ ghost use Rattle.std.specs.Prelude.{◌≡◌, ◌≤◌, ◌<◌, ℕ, [], leng
 ghost use Rattle.in_arena.specs.Arenas.{ArenaView, changed, free_of, state_at};
 ghost use Rattle.in_arena.specs.Changes.{HasAllCells};
 ghost use Rattle.in_arena.specs.Classes.{IsNumberOf};
+ghost use Rattle.in_arena.specs.RowStarts.{IsRowStart};
 ghost use Rattle.in_arena.specs.States.{Vacant, IsBegun, IsLive};
 ghost use Rattle.in_arena.specs.declared.content.CellNo.{CellNo as Number};
 ghost use Rattle.in_compile.specs.Cells.{count_of, IsEnough};
@@ -13,7 +14,7 @@ ghost use Rattle.in_compile.specs.Putting.{AreBegunBelow, BeginsAgent, IsPut};
 use crate::member::Member;
 use crate::placed::Placed;
 use crate::placing::end_of;
-use in_arena::{Arena, CellClass, CellIndex, CellNo};
+use in_arena::{Arena, CellClass, CellIndex, CellNo, RowStart};
 use in_base::use_promise;
 
 impl Member {
@@ -35,6 +36,20 @@ impl Member {
         cell
     }
 
+    /// The same once this live cell is free, which is of the agent's class and begins in that row. The agent then has it.
+    #[inline(always)]
+    pub fn renew(&self, agent: u32, cell: CellNo, row: RowStart, arena: &mut Arena) -> CellIndex
+        requires there { agent < length self.now.agents }
+        requires live { IsLive (state_at arena.old cell.0) }
+        requires own { (a : AgentParts) → slice_get self.now.agents agent ≡ Some a → IsNumberOf arena.old.cells a.class cell.0 }
+        requires row { IsRowStart row arena.old }
+        requires all { HasAllCells arena.old }
+        ensures { (a : AgentParts) → slice_get self.now.agents agent ≡ Some a → BeginsAgent a (changed arena.old cell.0 Vacant) result.0 arena.new }
+    {
+        use_promise!(self.is_sound());
+        arena.renew_in(row, cell, self.head(agent))
+    }
+
     /// The same once a live cell, which is of the class `own`, is free. That agent then has it where it takes a cell of this class.
     #[inline(always)]
     pub fn begin_in(&self, agent: u32, cell: CellNo, own: CellClass, arena: &mut Arena) -> CellIndex
@@ -45,9 +60,9 @@ impl Member {
         requires free { (a : AgentParts) → slice_get self.now.agents agent ≡ Some a → 0 < free_of (changed arena.old cell.0 Vacant) a.class }
         ensures { (a : AgentParts) → slice_get self.now.agents agent ≡ Some a → BeginsAgent a (changed arena.old cell.0 Vacant) result.0 arena.new }
     {
-        use_promise!(self.is_sound());
         if self.class(agent).number() == own.number() {
-            return arena.renew(cell, self.head(agent));
+            let row = arena.row();
+            return self.renew(agent, cell, row, arena);
         }
         arena.retire(cell);
         self.begin(agent, arena)

@@ -3,6 +3,7 @@ ghost use Rattle.std.specs.Prelude.{◌≡◌, ◌≤◌, ◌<◌, length, Some,
 ghost use Rattle.in_net.specs.NetFaults.{max_member_agents};
 ghost use Rattle.in_compile.specs.declared.joints.Joint.TheVariants.{ToAgent, ToBoundary};
 ghost use Rattle.in_compile.specs.Members.{symbol_at, class_at, places_at, joint_at, IsPlaceOf};
+ghost use Rattle.in_compile.specs.OwnOrders.{FitsOrder};
 ghost use Rattle.in_compile.specs.Wires.{first_agent_slot, over_of, within_of};
 
 use crate::cells::Need;
@@ -15,6 +16,15 @@ use in_symbols::SymbolNo;
 use sqlite_items::Items;
 use std::marker::Model;
 
+/// How the first two agents of a right member take the cells of the rule's pair.
+#[derive(Clone, Copy)]
+pub struct OwnOrder {
+    /// The first one has the second cell, and the second one the first: so more of them have a cell of their class.
+    pub turned: bool,
+    /// Both have a cell of their class.
+    pub both: bool,
+}
+
 /// The right member of a rule, with the data that join it in the place of the rule's active pair: its boundary ends are the auxiliary ports of the
 /// rule's two symbols, those of the first one first.
 #[derive(Drop)]
@@ -24,7 +34,7 @@ pub struct Template {
     pub(crate) unmarked: bool,
     pub(crate) heads: (SymbolNo, SymbolNo),
     pub(crate) classes: (CellClass, CellClass),
-    pub(crate) turned: bool,
+    pub(crate) own: OwnOrder,
     pub(crate) over: Items<OverWire>,
     pub(crate) within: Items<WithinWire>,
     pub(crate) outputs: Items<bool>,
@@ -58,10 +68,12 @@ impl Template {
         self.classes
     }
 
-    /// Whether more of its first two agents take a cell of the class of one of the pair's cells if the first one has the second cell. For speed alone.
+    /// How its first two agents take the pair's cells.
     #[inline(always)]
-    pub fn is_turned(&self) -> bool {
-        self.turned
+    pub fn own_order(&self) -> OwnOrder
+        ensures { FitsOrder result self.now.member self.now.classes }
+    {
+        self.own
     }
 
     /// Its boundary ends and its agents are few enough that each has its own slot, for proofs. The call does nothing.

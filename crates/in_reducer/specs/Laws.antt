@@ -1,5 +1,5 @@
 -- Laws over reducers.
-use Rattle.std.specs.Prelude.{◌≤◌, ℕ, suc, List}
+use Rattle.std.specs.Prelude.{ℕ, suc, List}
 use Rattle.in_arena.specs.declared.content.CellCounts.{CellCounts}
 use Rattle.in_net.specs.Nets.{Net, net_of}
 use Rattle.in_check.specs.Checking.{IsAccepted}

@@ -1,6 +1,6 @@
 -- The invariant of a reducer: its net is sound. It need not be one that the program reaches, so a part of a net can be reduced by itself. A step
 -- needs no more than soundness: each active pair has one rule, and each interaction ends.
-use Rattle.std.specs.Prelude.{◌≤◌, ℕ, List}
+use Rattle.std.specs.Prelude.{ℕ, List}
 use Rattle.in_arena.specs.declared.content.CellCounts.{CellCounts}
 use Rattle.in_check.specs.Checking.{IsAccepted}
 use Rattle.in_order.specs.Reducible.{IsReducible}

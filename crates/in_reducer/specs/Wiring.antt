@@ -1,7 +1,7 @@
 -- An interaction in place, over cells: new agents are begun in free cells, beside the pair, and the wires of the right member are
 -- written one after another, each at its two sides. Lafont 1990: the right member takes the place of the active pair on the same boundary
 -- ends. That an interaction is done in this way, if no wire leads back to its pair, is this project's own choice.
-use Rattle.std.specs.Prelude.{◌≡◌, ◌≢◌, ◌⊎◌, IsTrue, ◌↔◌, ◌≤◌, ◌<◌, ◌+◌, ◌-◌, ◌++◌, ℕ, suc, Bool, cond, List, [], ◌∷◌, length, map, take, slice_get, slice_index_or, Some, None}
+use Rattle.std.specs.Prelude.{◌≡◌, ◌≢◌, ◌⊎◌, IsTrue, ◌↔◌, ◌≤◌, ◌<◌, ◌+◌, ◌-◌, ◌++◌, ℕ, suc, Bool, false, true, cond, List, [], ◌∷◌, length, map, take, slice_get, slice_index_or, Some, None}
 use Rattle.in_arena.specs.Arenas.{ArenaView, changed, free_of, state_at}
 use Rattle.in_arena.specs.Changes.{AreListedOnce, HasAllCells, UnlistedStay}
 use Rattle.in_arena.specs.Classes.{IsNumberOf}
@@ -24,6 +24,7 @@ use Rattle.in_cells.specs.Pairs.{IsNoPair, IsPrincipal}
 use Rattle.in_cells.specs.Shown.{end_of, stands_at}
 use Rattle.in_compile.specs.Cells.{count_of, IsEnough}
 use Rattle.in_compile.specs.Members.{AgentParts, MemberParts}
+use Rattle.in_compile.specs.OwnOrders.{in_order}
 use Rattle.in_compile.specs.Putting.{AreBegunBelow}
 use Rattle.in_compile.specs.Templates.{TemplateParts, IsTemplateOf}
 use Rattle.in_compile.specs.Wires.{both_points, over_of, over_point, within_of}
@@ -174,9 +175,14 @@ AreOfClasses classes p a = IsNumberOf a.cells classes.0 p.one.0 × IsNumberOf a.
 abbrev pub turned : Pair → Pair
 turned p = record { one = p.other; other = p.one; first_ends = p.first_ends }
 
--- these are the pair and the classes of its cells, both as they are or both exchanged
-abbrev pub AreOwnCells : Pair → CellClass × CellClass → Pair → CellClass × CellClass → Type 0
-AreOwnCells p classes q own = ((q ≡ p) × (own ≡ classes)) ⊎ ((q ≡ turned p) × (own ≡ (classes.1, classes.0)))
+-- .. as they are, or exchanged
+abbrev pub pair_in_order : Bool → Pair → Pair
+pair_in_order false p = p
+pair_in_order true p = turned p
+
+-- these are the pair and the classes of its cells in this order
+abbrev pub AreOwnCells : Bool → Pair → CellClass × CellClass → Pair → CellClass × CellClass → Type 0
+AreOwnCells order p classes q own = (q ≡ pair_in_order order p) × (own ≡ in_order order classes)
 
 -- the agents were begun beside the pair, the pair was retired, and all wires are written, for any net
 pub record IsWiredUp (t : Tables) (p : TemplateParts) (pair : Pair) (old : ArenaView) (old_ends : List End) (old_queue : List (ℕ × ℕ)) (new : ArenaView) (new_ends points : List End) (new_queue : List (ℕ × ℕ)) : Type 0 where

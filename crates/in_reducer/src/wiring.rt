@@ -8,6 +8,7 @@ ghost use Rattle.in_arena.specs.declared.content.End.TheVariants.{Cell};
 ghost use Rattle.in_symbols.specs.Tables.{Tables};
 ghost use Rattle.in_interaction.specs.Queues.{both};
 ghost use Rattle.in_cells.specs.Cells.{KeepsCells};
+ghost use Rattle.in_compile.specs.OwnOrders.{AreTaken};
 ghost use Rattle.in_compile.specs.Wires.{over_of, over_point};
 ghost use Rattle.in_reducer.specs.Inside.{most_ends};
 ghost use Rattle.in_reducer.specs.Interacting.{PairSetting, interaction_of, named};
@@ -19,7 +20,7 @@ use crate::pair_queue::PairQueue;
 use crate::sides::Pair;
 use in_arena::{Arena, CellClass, CellNo, EndWord, PlaceStep};
 use in_base::use_promise;
-use in_cells::exchange;
+use in_cells::exchange_in;
 use in_compile::{Member, Template};
 use in_net::MAX_MEMBER_AGENTS;
 
@@ -74,16 +75,21 @@ fn read_agent(arena: &Arena, cell: CellNo, first: u8, to: u8, points: &mut [EndW
     requires { HasPortsFor arena.now cell first to (length points.old) }
     ensures { HasPortsIn arena.now cell first to points.old points.new }
 {
-    // Most agents have at most two auxiliary ports: these are read without a loop.
+    // Most agents have at most three auxiliary ports: these are read without a loop.
+    let row = arena.row();
     if first == to {
         return;
     }
-    points[first as usize] = arena.word(cell, 1);
+    points[first as usize] = arena.word_in(row, cell, 1);
     if first + 1 == to {
         return;
     }
-    points[first as usize + 1] = arena.word(cell, 2);
-    for number in first + 2..to {
+    points[first as usize + 1] = arena.word_in(row, cell, 2);
+    if first + 2 == to {
+        return;
+    }
+    points[first as usize + 2] = arena.word_in(row, cell, 3);
+    for number in first + 3..to {
         points[number as usize] = arena.word(cell, number - first + 1);
     }
 }
@@ -145,12 +151,13 @@ fn write_over(
     ensures long { length ends.new ≡ length ends.old }
     ensures capacity { queue.new.room ≡ queue.old.room }
 {
+    let row = arena.row();
     let wires = template.over();
     for number in 0..wires.len() {
         let wire = &wires[number];
         let outer = points[wire.end() as usize];
         let inner = side(points, wire.slot(), wire.step());
-        exchange(arena, ends, outer, inner);
+        exchange_in(arena, row, ends, outer, inner);
         queue_pair(template, wire.end(), outer, inner, queue);
     }
 }
@@ -163,12 +170,13 @@ fn write_within(template: &Template, points: &[EndWord], arena: &mut Arena, ends
     ensures kept { KeepsCells arena.old arena.new }
     ensures long { length ends.new ≡ length ends.old }
 {
+    let row = arena.row();
     let wires = template.within();
     for number in 0..wires.len() {
         let wire = &wires[number];
         let one = side(points, wire.one().slot(), wire.one().step());
         let other = side(points, wire.other().slot(), wire.other().step());
-        exchange(arena, ends, one, other);
+        exchange_in(arena, row, ends, one, other);
     }
 }
 
@@ -196,6 +204,24 @@ pub(crate) fn wire_up(
     arena.retire(pair.other);
     write_over(template, points, arena, ends, queue);
     write_within(template, points, arena, ends);
+}
+
+/// Begins a cell for each agent once the pair's cells are free, which the first two agents get: they are of theirs.
+#[inline(always)]
+fn begin_both(member: &Member, pair: Pair, arena: &mut Arena, points: &mut [EndWord])
+    requires pair { AreLive pair arena.old × CanBegin member.now arena.old points.old }
+    requires taken { (classes : CellClass × CellClass) × AreTaken member.now classes × AreOfClasses classes pair arena.old }
+    ensures begun { (ns : List Number) × HasBegun member.now ns (retired pair arena.old) arena.new × AreAtAgents ns points.new }
+    ensures ends { (e : ℕ) → e < most_ends → slice_get points.new e ≡ slice_get points.old e }
+    ensures long { length points.new ≡ length points.old }
+{
+    use_promise!(member.is_sound());
+    let row = arena.row();
+    let first = member.renew(0, pair.one, row, arena);
+    points[MOST_ENDS] = EndWord::place_of(first, 0);
+    let second = member.renew(1, pair.other, row, arena);
+    points[MOST_ENDS + 1] = EndWord::place_of(second, 0);
+    begin_rest(member, 2, arena, points);
 }
 
 /// Begins a cell for each agent once the pair's cells, which are of these classes, are free: the first two agents get these if they are of theirs.
@@ -234,11 +260,11 @@ fn begin_in(
 
 /// The pair's cells with their classes, in the order in which the first two agents take them.
 #[inline(always)]
-fn own_cells(template: &Template, pair: Pair) -> (Pair, (CellClass, CellClass))
-    ensures { AreOwnCells pair template.now.classes result.0 result.1 }
+fn own_cells(template: &Template, turned: bool, pair: Pair) -> (Pair, (CellClass, CellClass))
+    ensures { AreOwnCells turned pair template.now.classes result.0 result.1 }
 {
     let classes = template.classes();
-    if template.is_turned() {
+    if turned {
         let turned = Pair {
             one: pair.other,
             other: pair.one,
@@ -247,6 +273,23 @@ fn own_cells(template: &Template, pair: Pair) -> (Pair, (CellClass, CellClass))
         return (turned, (classes.1, classes.0));
     }
     (pair, classes)
+}
+
+/// Begins a cell for each agent once the pair's cells are free: the first two agents get these if they are of theirs.
+#[inline(always)]
+fn begin_anew(template: &Template, pair: Pair, arena: &mut Arena, points: &mut [EndWord])
+    requires { AreLive pair arena.old × CanBegin template.now.member arena.old points.old × AreOfClasses template.now.classes pair arena.old }
+    ensures begun { (ns : List Number) × HasBegun template.now.member ns (retired pair arena.old) arena.new × AreAtAgents ns points.new }
+    ensures ends { (e : ℕ) → e < most_ends → slice_get points.new e ≡ slice_get points.old e }
+    ensures long { length points.new ≡ length points.old }
+{
+    let order = template.own_order();
+    let (own, classes) = own_cells(template, order.turned, pair);
+    if order.both {
+        begin_both(template.member(), own, arena, points);
+    } else {
+        begin_in(template.member(), own, classes, arena, points);
+    }
 }
 
 /// Retires a pair to which no wire leads back, places the right member's agents, which reuse its cells if they can, and writes the wires, as
@@ -268,8 +311,7 @@ pub(crate) fn wire_anew<const ORDER: u8>(
     ensures capacity { queue.new.room ≡ queue.old.room }
 {
     read_ports(arena, pair, template.boundary_ends(), points);
-    let own = own_cells(template, pair);
-    begin_in(template.member(), own.0, own.1, arena, points);
+    begin_anew(template, pair, arena, points);
     write_over(template, points, arena, ends, queue);
     write_within(template, points, arena, ends);
 }

@@ -1,5 +1,5 @@
 -- Cells that go back to an arena, one by one and by their number.
-use Rattle.std.proofs.Common.{◌≡◌, ◌≢◌, ◌⊎◌, inl, inr, ◌<◌, ◌+◌, ◌*◌, ℕ, zero, suc, cond, List, [], ◌∷◌, length, take, drop, get_or, count_by, Some, slice_get, refl, sym, ap, subst, ◌∙◌, get_or-set_same, get_or-set_other, length-drop, arith}
+use Rattle.std.proofs.Common.{◌≡◌, ◌≢◌, ◌⊎◌, inl, inr, ◌<◌, ◌+◌, ℕ, zero, suc, cond, List, [], ◌∷◌, length, take, drop, get_or, count_by, Some, slice_get, refl, sym, ap, subst, ◌∙◌, get_or-set_same, get_or-set_other, length-drop, arith}
 use Rattle.std.proofs.lemmas.Bool.{cases_eq}
 use Rattle.std.proofs.lemmas.List.{get_or-drop}
 use Rattle.std.proofs.lemmas.List.Sums.{sum_by-cons}

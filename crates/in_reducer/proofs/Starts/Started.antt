@@ -1,5 +1,5 @@
 -- A start of an accepted program is a reducer.
-use Rattle.std.proofs.Common.{◌≡◌, ◌≤◌, ℕ, Some, IsSome, List, map, refl, sym, ap, subst, ◌∙◌}
+use Rattle.std.proofs.Common.{◌≡◌, ℕ, Some, IsSome, List, map, refl, sym, ap, subst, ◌∙◌}
 use Rattle.std.proofs.lemmas.Option.{same_Some}
 use native.Mathlib.Decide.{ℕ_discrete}
 use Rattle.in_arena.specs.declared.content.CellCounts.{CellCounts}

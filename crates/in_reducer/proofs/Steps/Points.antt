@@ -23,7 +23,7 @@ use Rattle.in_compile.specs.Wires.{both_points, is_from_lowest, over_of, over_po
 use Rattle.in_compile.proofs.Public.{read_at}
 use Rattle.in_reducer.specs.declared.sides.Pair.{Pair}
 use Rattle.in_reducer.specs.Sides.{end_there, port_at}
-use Rattle.in_reducer.specs.Wiring.{AreAtAgents, HasBegun, HasPortsIn, wires_of}
+use Rattle.in_reducer.specs.Wiring.{AreAtAgents, CanBegin, HasBegun, HasBegunBelow, HasPortsIn, wires_of}
 
 -- ---- agents
 
@@ -51,6 +51,22 @@ module _ (ns : List CellNo) (n : CellNo) (points : List End) (x : ℕ) (here : l
           let old = kept_at ns (n ∷ []) k (slice_index_or ns k (record { 0 = 0 })) (read_at ns k l) in
           set_there points (32 + x) (32 + k) v (λ f. other (let g : k ≡ x = omega (arith, f) in g)) ∙ at k l
           ∙ ap (λ (m : CellNo). Some (Cell m 0)) (sym (stands k (slice_index_or ns k (record { 0 = 0 })) old))
+
+-- one is begun, and is at its point
+pub one_below : (m : MemberParts) (b new : ArenaView) (one : CellNo) (points : List End) (v : End) → AreBegunBelow m b 1 new (one ∷ []) → 33 ≤ length points → v ≡ Cell one 0 → HasBegunBelow m b 1 new (set points 32 v)
+one_below m b new one points v below long is_v = (one ∷ [], below, one_more_at [] one points 0 refl (omega (arith, long)) v is_v (none_at points))
+
+-- two are begun, and are at their points
+pub two_below : (m : MemberParts) (b new : ArenaView) (one two : CellNo) (points : List End) (v w : End) → AreBegunBelow m b 2 new (one ∷ two ∷ []) → 34 ≤ length points → v ≡ Cell one 0 → w ≡ Cell two 0 → HasBegunBelow m b 2 new (set (set points 32 v) 33 w)
+two_below m b new one two points v w below long is_v is_w = (
+  one ∷ two ∷ [],
+  below,
+  one_more_at (one ∷ []) two (set points 32 v) 1 refl (let l = length-set points 32 v in omega (arith, l, long)) w is_w (one_more_at [] one points 0 refl (omega (arith, long)) v is_v (none_at points)),
+)
+
+-- points of the same number
+pub still_begin : (m : MemberParts) (a : ArenaView) (points after : List End) → length after ≡ length points → CanBegin m a points → CanBegin m a after
+still_begin m a points after same h = record { all = h.all; free = h.free; few = h.few; long = (let l = h.long in omega (arith, l, same)) }
 
 -- ---- boundary ends
 

@@ -5,7 +5,7 @@ use Rattle.std.proofs.lemmas.List.{length-map, length-reverse, map-append, rever
 use Rattle.std.proofs.lemmas.Option.{same_Some, slice_get_within}
 use Rattle.in_arena.proofs.Public.{counts_alike}
 use Rattle.in_arena.specs.Arenas.{ArenaView, NoneLeased, free_of}
-use Rattle.in_arena.specs.Classes.{all_of, amount, classes}
+use Rattle.in_arena.specs.Classes.{all_of, amount}
 use Rattle.in_arena.specs.declared.content.CellClass.{CellClass}
 use Rattle.in_arena.specs.declared.content.CellCounts.{CellCounts}
 use Rattle.in_arena.specs.declared.content.CellNo.{CellNo}

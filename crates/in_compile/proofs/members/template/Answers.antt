@@ -24,6 +24,7 @@ invariant_of-result c = record {
   small =
       small_member c.args.symbols.now c.args.rule.now c.in_ok-member.member c.member.result.now c.member.ensures c.in_ok-member.ensures c.requires.whole c.heads.result c.heads.ensures c.arity-first_ends.result c.arity.result
       c.arity-first_ends.ensures.arity c.arity-first_ends.ensures.few c.arity.ensures.arity c.arity.ensures.few;
+  own = c.own_order-own.ensures;
   over = c.in_ok-over.ensures;
   within = c.in_ok-within.ensures;
 }

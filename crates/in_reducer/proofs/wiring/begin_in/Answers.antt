@@ -1,19 +1,17 @@
-use Rattle.std.proofs.Common.{◌≡◌, ◌≤◌, List, [], ◌∷◌, length, set, refl, sym, ap, subst, ◌∙◌, arith}
+use Rattle.std.proofs.Common.{◌≡◌, List, [], ◌∷◌, set, sym, ap, subst, ◌∙◌, arith}
 use Rattle.std.proofs.lemmas.List.{length-set}
 use Rattle.in_base.proofs.Each.{at_index}
 use Rattle.in_base.proofs.Places.{set_there}
 use Rattle.in_arena.specs.Arenas.{ArenaView, changed}
 use Rattle.in_arena.specs.Classes.{IsNumberOf}
 use Rattle.in_arena.specs.States.{Vacant}
-use Rattle.in_arena.specs.declared.content.CellNo.{CellNo}
 use Rattle.in_arena.specs.declared.content.End.{End}
-use Rattle.in_arena.specs.declared.content.End.TheVariants.{Cell}
 use Rattle.in_compile.specs.Members.{MemberParts}
 use Rattle.in_compile.specs.Putting.{AreBegunBelow}
 use Rattle.in_compile.proofs.Public.{none_begun}
 use Rattle.in_reducer.specs.declared.sides.Pair.{Pair}
-use Rattle.in_reducer.specs.Wiring.{CanBegin, HasBegunBelow, retired}
-use Rattle.in_reducer.proofs.Steps.Points.{none_at, one_more_at}
+use Rattle.in_reducer.specs.Wiring.{HasBegunBelow, retired}
+use Rattle.in_reducer.proofs.Steps.Points.{none_at, one_below, still_begin, two_below}
 use Rattle.in_reducer.proofs.Steps.Taken as taken
 use Rattle.in_reducer.proofs.wiring.begin_in.Goals as goal
 
@@ -40,13 +38,6 @@ returns-then-many-eq0-clause-begun c =
     let gone = both_retired c.args.pair c.args.arena.now c.retire.new.self c.retire-then-many-eq0.new.self c.retire.ensures c.retire-then-many-eq0.ensures in
     c.begin_rest.ensures.begun (retired c.args.pair c.args.arena.now) (taken.can_retired m c.is_sound.ensures c.args.pair c.args.arena.now c.requires.0 c.args.points.now c.requires.1)
     (none_below m c.retire-then-many-eq0.new.self (retired c.args.pair c.args.arena.now) c.args.points.now gone)
-
--- one is begun, and is at its point
-one_below : (m : MemberParts) (b new : ArenaView) (one : CellNo) (points : List End) (v : End) → AreBegunBelow m b 1 new (one ∷ []) → 33 ≤ length points → v ≡ Cell one 0 → HasBegunBelow m b 1 new (set points 32 v)
-one_below m b new one points v below long is_v = (one ∷ [], below, one_more_at [] one points 0 refl (omega (arith, long)) v is_v (none_at points))
-
-still_begin : (m : MemberParts) (a : ArenaView) (points after : List End) → length after ≡ length points → CanBegin m a points → CanBegin m a after
-still_begin m a points after same h = record { all = h.all; free = h.free; few = h.few; long = (let l = h.long in omega (arith, l, same)) }
 
 pub begin_in-first-requires-clause-free : goal.begin_in-first-requires-clause-free
 begin_in-first-requires-clause-free c = taken.first_free c.args.member.now c.is_sound.ensures c.args.pair c.args.arena.now c.requires.0 c.args.points.now c.requires.1
@@ -111,14 +102,6 @@ begin_in-second-requires-clause-free c =
     let m = c.args.member.now in
     let x = at_index m.agents 0 (let many = c.agents-many.ensures in let f = c.if-many-eq0.false in omega (arith, many, f)) in
     taken.second_free m c.is_sound.ensures c.args.pair c.args.arena.now c.requires.0 c.args.points.now c.requires.1 x.0 x.1 c.begin_in-first.result c.begin_in-first.new.arena (c.begin_in-first.ensures x.0 x.1)
-
--- two are begun, and are at their points
-two_below : (m : MemberParts) (b new : ArenaView) (one two : CellNo) (points : List End) (v w : End) → AreBegunBelow m b 2 new (one ∷ two ∷ []) → 34 ≤ length points → v ≡ Cell one 0 → w ≡ Cell two 0 → HasBegunBelow m b 2 new (set (set points 32 v) 33 w)
-two_below m b new one two points v w below long is_v is_w = (
-  one ∷ two ∷ [],
-  below,
-  one_more_at (one ∷ []) two (set points 32 v) 1 refl (let l = length-set points 32 v in omega (arith, l, long)) w is_w (one_more_at [] one points 0 refl (omega (arith, long)) v is_v (none_at points)),
-)
 
 pub begin_rest-requires-2-clause-begun : goal.begin_rest-requires-2-clause-begun
 begin_rest-requires-2-clause-begun c =

@@ -1,22 +1,15 @@
-use Rattle.std.proofs.Common.{◌≡◌, ◌<◌, ◌≤◌, ℕ, List, length, slice_get, refl, sym, subst, ◌∙◌, arith}
+use Rattle.std.proofs.Common.{◌≡◌, ◌<◌, ◌≤◌, ℕ, List, length, slice_get, refl, ◌∙◌, arith}
 use Rattle.in_arena.specs.Arenas.{ArenaView}
-use Rattle.in_arena.specs.declared.content.CellNo.{CellNo}
 use Rattle.in_arena.specs.declared.content.End.{End}
 use Rattle.in_cells.proofs.Public.{keep_on}
-use Rattle.in_compile.specs.Members.{MemberParts}
 use Rattle.in_reducer.specs.declared.sides.Pair.{Pair}
 use Rattle.in_reducer.specs.Inside.{most_ends}
 use Rattle.in_reducer.specs.Sides.{end_there, port_at}
-use Rattle.in_reducer.specs.Wiring.{CanBegin, HasBegun, aside_of, retired}
+use Rattle.in_reducer.specs.Wiring.{aside_of}
 use Rattle.in_reducer.proofs.Steps.Anew as anew
 use Rattle.in_reducer.proofs.Steps.Points.{over_few}
 use Rattle.in_reducer.proofs.Steps.Reading as read
-use Rattle.in_reducer.proofs.Steps.Turned as turned
 use Rattle.in_reducer.proofs.wiring.wire_anew.Goals as goal
-
--- the agents that were begun are the template's
-begun_there : (m n : MemberParts) (ns : List CellNo) (d a b : ArenaView) → m ≡ n → d ≡ a → HasBegun m ns d b → HasBegun n ns a b
-begun_there m n ns d a b same gone h = subst (λ (m : MemberParts). HasBegun m ns a b) same (subst (λ (v : ArenaView). HasBegun m ns v b) gone h)
 
 -- the ends that were read at the boundary ends are still there
 read_still : (a : ArenaView) (p : Pair) (many joints : ℕ) (middle points : List End) → many ≡ joints → joints ≤ most_ends → ((e : ℕ) → e < many → slice_get middle e ≡ end_there a (port_at p e))
@@ -31,16 +24,14 @@ read_ports-requires g c =
     read.can_read t h.setting c.args.template.now c.args.pair h.own c.args.arena.now c.args.ends.now h.about c.args.arena.now refl refl c.args.points.now c.boundary_ends.result many
     (let f = h.few in omega (arith, f, many)) h.begin.long
 
-pub begin_in-requires : goal.begin_in-requires
-begin_in-requires g c =
+pub begin_anew-requires : goal.begin_anew-requires
+begin_anew-requires g c =
     let t = c.requires.ready.0 in
     let h = c.requires.ready.1 in
-    let begin = subst (λ (m : MemberParts). CanBegin m c.args.arena.now c.args.points.now) (sym c.member.ensures) h.begin in
-    let live = read.live t h.setting c.args.template.now c.args.pair h.own c.args.arena.now c.args.ends.now h.about c.args.arena.now refl refl in
-    let own = c.own_cells-own in (
-      turned.own_live c.args.pair c.args.arena.now live c.args.template.now.classes own.result.1 own.result.0 own.ensures,
+    let begin = h.begin in (
+      read.live t h.setting c.args.template.now c.args.pair h.own c.args.arena.now c.args.ends.now h.about c.args.arena.now refl refl,
       record { all = begin.all; free = begin.free; few = begin.few; long = (let l = begin.long in let a = c.read_ports.auto.points in omega (arith, l, a)) },
-      turned.own_classed c.args.pair c.args.arena.now live c.args.template.now.classes own.result.1 own.result.0 h.classed own.ensures,
+      h.classed,
     )
 
 pub write_over-requires-clause-ready : goal.write_over-requires-clause-ready
@@ -48,14 +39,14 @@ write_over-requires-clause-ready g c =
     let t = c.requires.ready.0 in
     let h = c.requires.ready.1 in
     let p = c.args.template.now in
-    let b = c.begin_in.ensures.begun in
-    let begun = begun_there c.member.result.now p.member b.0 (retired c.own_cells-own.result.0 c.args.arena.now) (retired c.args.pair c.args.arena.now) c.begin_in.new.arena c.member.ensures (turned.own_retired c.args.pair c.args.arena.now (read.live t h.setting p c.args.pair h.own c.args.arena.now c.args.ends.now h.about c.args.arena.now refl refl) p.classes c.own_cells-own.result.1 c.own_cells-own.result.0 c.own_cells-own.ensures) b.1 in (
+    let b = c.begin_anew.ensures.begun in
+    let begun = b.1 in (
       t,
       aside_of h.setting h.aside.0 h.aside.1,
       h.own,
       b.0,
-      anew.can_wire t h.setting p c.args.pair h.own c.args.arena.now c.args.ends.now h.about b.0 c.begin_in.new.arena begun h.unmarked h.aside.0 h.aside.1 h.aside.2 c.begin_in.new.points
-          (read_still c.args.arena.now c.args.pair c.boundary_ends.result (length p.member.joints) c.read_ports.new.points c.begin_in.new.points c.boundary_ends.ensures h.few c.read_ports.ensures.read c.begin_in.ensures.ends) b.2,
+      anew.can_wire t h.setting p c.args.pair h.own c.args.arena.now c.args.ends.now h.about b.0 c.begin_anew.new.arena begun h.unmarked h.aside.0 h.aside.1 h.aside.2 c.begin_anew.new.points
+          (read_still c.args.arena.now c.args.pair c.boundary_ends.result (length p.member.joints) c.read_ports.new.points c.begin_anew.new.points c.boundary_ends.ensures h.few c.read_ports.ensures.read c.begin_anew.ensures.ends) b.2,
     )
 
 pub write_over-requires-clause-room : goal.write_over-requires-clause-room
@@ -70,20 +61,20 @@ write_within-requires g c =
     let t = c.requires.ready.0 in
     let h = c.requires.ready.1 in
     let p = c.args.template.now in
-    let b = c.begin_in.ensures.begun in
-    let begun = begun_there c.member.result.now p.member b.0 (retired c.own_cells-own.result.0 c.args.arena.now) (retired c.args.pair c.args.arena.now) c.begin_in.new.arena c.member.ensures (turned.own_retired c.args.pair c.args.arena.now (read.live t h.setting p c.args.pair h.own c.args.arena.now c.args.ends.now h.about c.args.arena.now refl refl) p.classes c.own_cells-own.result.1 c.own_cells-own.result.0 c.own_cells-own.ensures) b.1 in
-    let start = anew.can_wire t h.setting p c.args.pair h.own c.args.arena.now c.args.ends.now h.about b.0 c.begin_in.new.arena begun h.unmarked h.aside.0 h.aside.1 h.aside.2 c.begin_in.new.points
-    (read_still c.args.arena.now c.args.pair c.boundary_ends.result (length p.member.joints) c.read_ports.new.points c.begin_in.new.points c.boundary_ends.ensures h.few c.read_ports.ensures.read c.begin_in.ensures.ends) b.2 in
+    let b = c.begin_anew.ensures.begun in
+    let begun = b.1 in
+    let start = anew.can_wire t h.setting p c.args.pair h.own c.args.arena.now c.args.ends.now h.about b.0 c.begin_anew.new.arena begun h.unmarked h.aside.0 h.aside.1 h.aside.2 c.begin_anew.new.points
+    (read_still c.args.arena.now c.args.pair c.boundary_ends.result (length p.member.joints) c.read_ports.new.points c.begin_anew.new.points c.boundary_ends.ensures h.few c.read_ports.ensures.read c.begin_anew.ensures.ends) b.2 in
     record { ready = (t, aside_of h.setting h.aside.0 h.aside.1, h.own, b.0, c.write_over.ensures.written t (aside_of h.setting h.aside.0 h.aside.1) h.own b.0 start) }
 
 pub returns-clause-wired : goal.returns-clause-wired
 returns-clause-wired g c = λ t h. (
     let p = c.args.template.now in
-    let b = c.begin_in.ensures.begun in
-    let middle = c.begin_in.new.arena in
-    let points = c.begin_in.new.points in
-    let begun = begun_there c.member.result.now p.member b.0 (retired c.own_cells-own.result.0 c.args.arena.now) (retired c.args.pair c.args.arena.now) middle c.member.ensures (turned.own_retired c.args.pair c.args.arena.now (read.live t h.setting p c.args.pair h.own c.args.arena.now c.args.ends.now h.about c.args.arena.now refl refl) p.classes c.own_cells-own.result.1 c.own_cells-own.result.0 c.own_cells-own.ensures) b.1 in
-    let still = read_still c.args.arena.now c.args.pair c.boundary_ends.result (length p.member.joints) c.read_ports.new.points points c.boundary_ends.ensures h.few c.read_ports.ensures.read c.begin_in.ensures.ends in
+    let b = c.begin_anew.ensures.begun in
+    let middle = c.begin_anew.new.arena in
+    let points = c.begin_anew.new.points in
+    let begun = b.1 in
+    let still = read_still c.args.arena.now c.args.pair c.boundary_ends.result (length p.member.joints) c.read_ports.new.points points c.boundary_ends.ensures h.few c.read_ports.ensures.read c.begin_anew.ensures.ends in
     record {
       cells = b.0;
       middle = middle;

@@ -1,4 +1,5 @@
 use Rattle.std.proofs.Common.{◌≡◌, ℕ, [], length, map, slice_get, refl, sym, ap, subst, ◌∙◌, append-nil, arith}
+use Rattle.in_arena.proofs.Public.{row_still}
 use Rattle.in_cells.proofs.Public.{keep_on, keeps}
 use Rattle.in_compile.specs.Wires.{over_of, over_point}
 use Rattle.in_overwriting.specs.MadeByWires.{of_none}
@@ -33,8 +34,11 @@ side-inner-requires c =
     one.over_can_read q.0 q.1 c.args.template.now q.2 q.3 c.args.points.now c.loop-number.number c.loop-number.arena c.loop-number.ends (c.loop-number.invariant.written q.0 q.1 q.2 q.3 q.4) w at
     c.slot.result c.step.result c.slot.ensures.slot c.step.ensures.place
 
-pub exchange-requires-clause-one : goal.exchange-requires-clause-one
-exchange-requires-clause-one c =
+pub exchange_in-requires-clause-row : goal.exchange_in-requires-clause-row
+exchange_in-requires-clause-row c = row_still c.row-row.result c.args.arena.now c.loop-number.arena c.loop-number.invariant.kept.memory c.row-row.ensures
+
+pub exchange_in-requires-clause-one : goal.exchange_in-requires-clause-one
+exchange_in-requires-clause-one c =
     let q = c.requires.ready in
     let w = c.index-wires-number.result in
     let at = listed_at (over_of c.args.template.now.member) c.over-wires.result.now c.loop-number.number w c.over-wires.ensures c.loop-number-test.true c.index-wires-number.is in
@@ -50,8 +54,8 @@ exchange-requires-clause-one c =
       inner = c.side-inner.ensures;
     })
 
-pub exchange-requires-clause-other : goal.exchange-requires-clause-other
-exchange-requires-clause-other c =
+pub exchange_in-requires-clause-other : goal.exchange_in-requires-clause-other
+exchange_in-requires-clause-other c =
     let q = c.requires.ready in
     let w = c.index-wires-number.result in
     let at = listed_at (over_of c.args.template.now.member) c.over-wires.result.now c.loop-number.number w c.over-wires.ensures c.loop-number-test.true c.index-wires-number.is in
@@ -87,8 +91,8 @@ loop-number-preserved c =
     let w = c.index-wires-number.result in
     let u = c.index-points-end.result in
     let v = c.side-inner.result in
-    let b = c.exchange.new.arena in
-    let fs = c.exchange.new.ends in
+    let b = c.exchange_in.new.arena in
+    let fs = c.exchange_in.new.ends in
     let at = listed_at (over_of p.member) c.over-wires.result.now k w c.over-wires.ensures c.loop-number-test.true c.index-wires-number.is in
     let read : one.HasReadOver points w u v = record {
       end = c.end.result;
@@ -100,12 +104,12 @@ loop-number-preserved c =
       outer = c.index-points-end.is;
       inner = c.side-inner.ensures;
     } in
-    let kept = one.over_kept q.0 q.1 p q.2 q.3 points k a es (i.written q.0 q.1 q.2 q.3 q.4) w at u v read b fs c.exchange.ensures in
+    let kept = one.over_kept q.0 q.1 p q.2 q.3 points k a es (i.written q.0 q.1 q.2 q.3 q.4) w at u v read b fs c.exchange_in.ensures in
     record {
-      written = λ t s own ns h. one.over_written t s p own ns points k a es (i.written t s own ns h) w at u v read b fs c.exchange.ensures;
+      written = λ t s own ns h. one.over_written t s p own ns points k a es (i.written t s own ns h) w at u v read b fs c.exchange_in.ensures;
       queued = λ t s own ns h. (
           let signed = one.over_sign t s p own ns points k a es (i.written t s own ns h) w at in
-          one.over_queued t s p own ns points k a es (i.written t s own ns h) w at u v read b fs c.exchange.ensures signed.0 signed.1 c.args.queue.now.items c.loop-number.queue.items c.queue_pair.new.queue.items (i.queued t s own ns h)
+          one.over_queued t s p own ns points k a es (i.written t s own ns h) w at u v read b fs c.exchange_in.ensures signed.0 signed.1 c.args.queue.now.items c.loop-number.queue.items c.queue_pair.new.queue.items (i.queued t s own ns h)
           (c.queue_pair.ensures.added signed.0 (ap (slice_get p.outputs) c.end-in-loop-number.ensures.end ∙ signed.1))
           );
       kept = keep_on c.args.arena.now a b i.kept kept.0;

@@ -1,4 +1,5 @@
 use Rattle.std.proofs.Common.{◌≡◌, ◌+◌, ℕ, length, ap, subst, ◌∙◌, arith}
+use Rattle.in_arena.proofs.Public.{row_still}
 use Rattle.in_cells.proofs.Public.{keep_on}
 use Rattle.in_compile.specs.Wires.{over_of, place_in, slot_of, within_of}
 use Rattle.in_reducer.specs.Wiring.{IsWiring, wires_of}
@@ -22,8 +23,11 @@ side-other-requires c =
     one.other_can_read q.0 q.1 c.args.template.now q.2 q.3 c.args.points.now c.loop-number.number c.loop-number.arena c.loop-number.ends (c.loop-number.invariant.written q.0 q.1 q.2 q.3 q.4) w at
     c.slot-in-loop-number.result c.step-in-loop-number.result (c.slot-in-loop-number.ensures.slot ∙ ap slot_of c.other.ensures) (c.step-in-loop-number.ensures.place ∙ ap place_in c.other-in-loop-number.ensures)
 
-pub exchange-requires-clause-one : goal.exchange-requires-clause-one
-exchange-requires-clause-one c =
+pub exchange_in-requires-clause-row : goal.exchange_in-requires-clause-row
+exchange_in-requires-clause-row c = row_still c.row-row.result c.args.arena.now c.loop-number.arena c.loop-number.invariant.kept.memory c.row-row.ensures
+
+pub exchange_in-requires-clause-one : goal.exchange_in-requires-clause-one
+exchange_in-requires-clause-one c =
     let q = c.requires.ready in
     let w = c.index-wires-number.result in
     let at = listed_at (within_of c.args.template.now.member) c.within-wires.result.now c.loop-number.number w c.within-wires.ensures c.loop-number-test.true c.index-wires-number.is in
@@ -41,8 +45,8 @@ exchange-requires-clause-one c =
       other = c.side-other.ensures;
     })
 
-pub exchange-requires-clause-other : goal.exchange-requires-clause-other
-exchange-requires-clause-other c =
+pub exchange_in-requires-clause-other : goal.exchange_in-requires-clause-other
+exchange_in-requires-clause-other c =
     let q = c.requires.ready in
     let w = c.index-wires-number.result in
     let at = listed_at (within_of c.args.template.now.member) c.within-wires.result.now c.loop-number.number w c.within-wires.ensures c.loop-number-test.true c.index-wires-number.is in
@@ -72,8 +76,8 @@ loop-number-preserved c =
     let w = c.index-wires-number.result in
     let u = c.side-one.result in
     let v = c.side-other.result in
-    let b = c.exchange.new.arena in
-    let fs = c.exchange.new.ends in
+    let b = c.exchange_in.new.arena in
+    let fs = c.exchange_in.new.ends in
     let at = listed_at (within_of p.member) c.within-wires.result.now n w c.within-wires.ensures c.loop-number-test.true c.index-wires-number.is in
     let read : one.HasReadWithin points w u v = record {
       slot = c.slot.result;
@@ -87,9 +91,9 @@ loop-number-preserved c =
       one = c.side-one.ensures;
       other = c.side-other.ensures;
     } in
-    let kept = one.within_kept q.0 q.1 p q.2 q.3 points n a es (i.written q.0 q.1 q.2 q.3 q.4) w at u v read b fs c.exchange.ensures in
+    let kept = one.within_kept q.0 q.1 p q.2 q.3 points n a es (i.written q.0 q.1 q.2 q.3 q.4) w at u v read b fs c.exchange_in.ensures in
     record {
-      written = λ t s own ns h. one.within_written t s p own ns points n a es (i.written t s own ns h) w at u v read b fs c.exchange.ensures;
+      written = λ t s own ns h. one.within_written t s p own ns points n a es (i.written t s own ns h) w at u v read b fs c.exchange_in.ensures;
       kept = keep_on c.args.arena.now a b i.kept kept.0;
       long = kept.1 ∙ i.long;
     }

@@ -43,25 +43,27 @@ returns-then-not-is_ready c =
     let a = c.self.inside in let h = c.self.invariant in
     none_ready_in a h c.args.self.now c.self.view_is c.args.class c.is_ready.new.words c.is_ready.new.lists (subst (λ b. MakesReady a.cells c.args.class a.words a.lists b c.is_ready.new.words c.is_ready.new.lists) c.if-not-is_ready.true c.is_ready.ensures)
 
-pub cell-cell-requires : goal.cell-cell-requires
-cell-cell-requires c =
+pub overflow_add-cell : goal.overflow_add-cell
+overflow_add-cell c =
     let a = c.self.inside in let h = c.self.invariant in let k = c.args.class in let w = c.is_ready.new.words in let z = c.is_ready.new.lists in
     let r = ready_in a h c.args.self.now c.self.view_is k w z (subst (λ b. MakesReady a.cells k a.words a.lists b w z) c.if-not-is_ready.false c.is_ready.ensures) in
-    (h.few, subst (λ i. i < amount a.cells k) (sym (ap (λ (l : FreeList). l.next) c.of-list.ensures)) (first_inside (with_row a w z) r.0 c.args.self.now r.1 k r.2))
+    let inside = subst (λ i. i < amount a.cells k) (sym (ap (λ (l : FreeList). l.next) c.of-list.ensures)) (first_inside (with_row a w z) r.0 c.args.self.now r.1 k r.2) in
+    let first = c.first.ensures a.cells h.starts in
+    record { fits = omega (arith, first, place_inside a.cells k c.of-list.result.next inside, (class_few a.cells h.few k).1) }
 
 pub of-requires : goal.of-requires
 of-requires c =
     let a = c.self.inside in let h = c.self.invariant in let k = c.args.class in let w = c.is_ready.new.words in let z = c.is_ready.new.lists in
     let r = ready_in a h c.args.self.now c.self.view_is k w z (subst (λ b. MakesReady a.cells k a.words a.lists b w z) c.if-not-is_ready.false c.is_ready.ensures) in
     let inside = subst (λ i. i < amount a.cells k) (sym (ap (λ (l : FreeList). l.next) c.of-list.ensures)) (first_inside (with_row a w z) r.0 c.args.self.now r.1 k r.2) in
-    omega (arith, c.cell-cell.ensures, place_inside a.cells k c.of-list.result.next inside, (class_few a.cells h.few k).1)
+    omega (arith, (ap (λ f. f + c.of-list.result.next) (c.first.ensures c.self.inside.cells c.self.invariant.starts)), place_inside a.cells k c.of-list.result.next inside, (class_few a.cells h.few k).1)
 
 pub get-requires : goal.get-requires
 get-requires c =
     let a = c.self.inside in let h = c.self.invariant in let k = c.args.class in let w = c.is_ready.new.words in let z = c.is_ready.new.lists in
     let ready = subst (λ b. MakesReady a.cells k a.words a.lists b w z) c.if-not-is_ready.false c.is_ready.ensures in
     let r = ready_in a h c.args.self.now c.self.view_is k w z ready in let at = first_head (with_row a w z) r.0 c.args.self.now r.1 k r.2 in
-    let word : c.near_word-at.result ≡ spot k a.cells (list_in z k).next head = c.near_word-at.ensures ∙ head_word c.cell-cell.result.0 a.cells k c.of-list.result (list_in z k) c.of-list.ensures (first_inside (with_row a w z) r.0 c.args.self.now r.1 k r.2) c.cell-cell.ensures in
+    let word : c.near_word-at.result ≡ spot k a.cells (list_in z k).next head = c.near_word-at.ensures ∙ head_word (c.first.result + c.of-list.result.next) a.cells k c.of-list.result (list_in z k) c.of-list.ensures (first_inside (with_row a w z) r.0 c.args.self.now r.1 k r.2) (ap (λ f. f + c.of-list.result.next) (c.first.ensures c.self.inside.cells c.self.invariant.starts)) in
     (sym h.block.0 ∙ sym ready.0, (at.0, ap (λ j. get_or w.slots j None) word ∙ at.1))
 
 pub overflow_sub-list : goal.overflow_sub-list
@@ -73,11 +75,11 @@ overflow_sub-list c =
 pub invariant_of-self-2 : goal.invariant_of-self-2
 invariant_of-self-2 c = (all c.self.inside c.self.invariant c.args.self.now c.self.view_is c.args.class c.is_ready.new.words c.is_ready.new.lists
     (subst (λ b. MakesReady c.self.inside.cells c.args.class c.self.inside.words c.self.inside.lists b c.is_ready.new.words c.is_ready.new.lists) c.if-not-is_ready.false c.is_ready.ensures)
-    c.cell-cell.result.0 c.of-list.result c.of-list.ensures c.cell-cell.ensures c.near_word-at.result c.near_word-at.ensures c.get.result.now c.get.ensures c.number-next.result c.number-next.ensures.cell
+    (c.first.result + c.of-list.result.next) c.of-list.result c.of-list.ensures (ap (λ f. f + c.of-list.result.next) (c.first.ensures c.self.inside.cells c.self.invariant.starts)) c.near_word-at.result c.near_word-at.ensures c.get.result.now c.get.ensures c.number-next.result c.number-next.ensures.cell
     c.word.result c.args.head.word c.args.head.count c.word.ensures c.requires c.write.new.self c.write.ensures.0 c.write.ensures.1 c.set.new.self c.set.ensures.class c.set.ensures.others).0
 
 pub returns : goal.returns
 returns c = subst (λ (n : ℕ). BeginsCell c.args.class c.args.head.word c.args.head.count c.args.self.now n (view_of c.write.new.self.at c.self.inside.cells c.write.new.self.slots)) (ap (λ (m : CellNo). m.0) (sym c.of.ensures)) (all c.self.inside c.self.invariant c.args.self.now c.self.view_is c.args.class c.is_ready.new.words c.is_ready.new.lists
     (subst (λ b. MakesReady c.self.inside.cells c.args.class c.self.inside.words c.self.inside.lists b c.is_ready.new.words c.is_ready.new.lists) c.if-not-is_ready.false c.is_ready.ensures)
-    c.cell-cell.result.0 c.of-list.result c.of-list.ensures c.cell-cell.ensures c.near_word-at.result c.near_word-at.ensures c.get.result.now c.get.ensures c.number-next.result c.number-next.ensures.cell
+    (c.first.result + c.of-list.result.next) c.of-list.result c.of-list.ensures (ap (λ f. f + c.of-list.result.next) (c.first.ensures c.self.inside.cells c.self.invariant.starts)) c.near_word-at.result c.near_word-at.ensures c.get.result.now c.get.ensures c.number-next.result c.number-next.ensures.cell
     c.word.result c.args.head.word c.args.head.count c.word.ensures c.requires c.write.new.self c.write.ensures.0 c.write.ensures.1 c.set.new.self c.set.ensures.class c.set.ensures.others).1

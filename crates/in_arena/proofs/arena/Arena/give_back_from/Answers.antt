@@ -1,4 +1,4 @@
-use Rattle.std.proofs.Common.{◌≡◌, ◌<◌, ◌*◌, ◌+◌, sym, subst, ap, ◌∙◌, None}
+use Rattle.std.proofs.Common.{◌≡◌, ◌<◌, ◌+◌, sym, subst, ap, ◌∙◌, None}
 use Rattle.in_arena.specs.Arenas.{state_at}
 use Rattle.in_arena.specs.ByClass.{IsPlace}
 use Rattle.in_arena.specs.Classes.{amount, first_of}

@@ -1,4 +1,4 @@
-use Rattle.std.proofs.Common.{◌≡◌, ◌*◌, ◌+◌, length, sym, subst, ap, ◌∙◌, None}
+use Rattle.std.proofs.Common.{◌≡◌, ◌+◌, length, sym, subst, ap, ◌∙◌, None}
 use Rattle.in_memory.proofs.Public.{length-those_of}
 use Rattle.in_arena.specs.Arenas.{state_at}
 use Rattle.in_arena.specs.ByClass.{IsPlace}

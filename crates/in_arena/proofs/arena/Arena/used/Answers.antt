@@ -1,4 +1,4 @@
-use Rattle.std.proofs.Common.{◌≡◌, ◌+◌, ◌≤◌, ap, subst, sym, arith}
+use Rattle.std.proofs.Common.{◌+◌, ◌≤◌, ap, subst, sym, arith}
 use Rattle.in_arena.specs.Arenas.{IsUsedOf}
 use Rattle.in_arena.specs.Classes.{amount, first_of}
 use Rattle.in_arena.specs.declared.free_list.FreeList.{FreeList}

@@ -1,4 +1,4 @@
-use Rattle.std.proofs.Common.{◌≤◌, ◌+◌, ◌*◌, length, sym, subst, arith}
+use Rattle.std.proofs.Common.{◌≤◌, ◌+◌, ◌*◌, sym, subst, arith}
 use Rattle.in_arena.specs.Arenas.{NoneLeased}
 use Rattle.in_arena.specs.Classes.{all_of}
 use Rattle.in_reducer.specs.declared.body.Body.{Body}

@@ -1,4 +1,4 @@
-use Rattle.std.proofs.Common.{◌≤◌, ◌∙◌, ap, sym, subst, get_or, set, None, Some, arith}
+use Rattle.std.proofs.Common.{◌≤◌, ◌∙◌, ap, subst, get_or, set, None, Some, arith}
 use Rattle.in_arena.specs.Arenas.{ArenaView}
 use Rattle.in_arena.specs.Classes.{IsNumberOf, width}
 use Rattle.in_arena.specs.declared.content.End.TheVariants.{Cell}
@@ -6,12 +6,13 @@ use Rattle.in_arena.proofs.Classes.{numbers_apart}
 use Rattle.in_arena.proofs.Arenas.{live_inside}
 use Rattle.in_arena.proofs.Inside.{head_found, head_set, held_some, inside_all, live_of, near_spot}
 use Rattle.in_arena.proofs.Seen.{number_of_place}
-use Rattle.in_arena.proofs.arena.Arena.renew.Goals as goal
+use Rattle.in_arena.proofs.RowStarts.{row_at}
+use Rattle.in_arena.proofs.arena.Arena.renew_in.Goals as goal
 
 pub write-requires : goal.write-requires
 write-requires c =
     let a = c.self.inside in let h = c.self.invariant in let n = c.args.cell.0 in let l = live_of a h c.args.self.now c.self.view_is n c.requires.live in
-    let e = head_found a.words a.cells n h.whole l in (sym h.block.0, (Some e.0, ap (λ k. get_or a.words.slots k None) c.near_word.ensures ∙ e.1))
+    let e = head_found a.words a.cells n h.whole l in (row_at a c.args.self.now c.self.view_is c.args.row c.requires.row, (Some e.0, ap (λ k. get_or a.words.slots k None) c.near_word.ensures ∙ e.1))
 
 pub of-requires : goal.of-requires
 of-requires c =
