@@ -19,6 +19,7 @@ import sys
 import tempfile
 import threading
 from concurrent.futures import FIRST_COMPLETED, ThreadPoolExecutor, wait
+from contextlib import nullcontext
 from functools import wraps
 from importlib.machinery import SourceFileLoader
 from importlib.util import module_from_spec, spec_from_loader
@@ -54,7 +55,7 @@ def copied(method):
 MEMORY = 0.6
 
 # How many processors a proof gets at most, and how many one for which the longest chain waits gets at least: a check gains little from more.
-MOST_JOBS, LEAST_JOBS = 4, 2
+MOST_JOBS, LEAST_JOBS = 4, 3
 
 # A chain that is so much shorter than the longest one counts as one of the longest.
 NEARLY = 0.9
@@ -72,7 +73,7 @@ def in_lanes(rt):
                 behind[before] = max(behind[before], behind[key])
         is_proof = {key: key[1] in ("proof", "tests") for key in tasks}
         left, running, given = sorted(tasks, key=lambda key: (not is_proof[key], -behind[key])), {}, {}
-        with rt.ending(), ThreadPoolExecutor(2 * lanes) as proofs, ThreadPoolExecutor(lanes, initializer=os.nice, initargs=(10,)) as mutants:
+        with getattr(rt, "ending", nullcontext)(), ThreadPoolExecutor(2 * lanes) as proofs, ThreadPoolExecutor(lanes, initializer=os.nice, initargs=(10,)) as mutants:
             while left or running:
                 ready = [key for key in left if all(before in given for before in tasks[key][0])]
                 waiting = sum(is_proof[key] for key in ready)
@@ -186,7 +187,7 @@ def loaded(command):
     crates.below = copied(once_in_a_walk(crates.below, id))
     if hasattr(crates, "front_end") and sys.argv[1:2] == ["all"]:
         crates.front_end = lambda crate: 0
-    if all(hasattr(rt, name) for name in ("in_lanes", "processors", "free", "ending")) and "RT_JOBS" not in os.environ:
+    if all(hasattr(rt, name) for name in ("in_lanes", "processors", "free")) and "RT_JOBS" not in os.environ:
         rt.in_lanes = in_lanes(rt)
     if all(has_parameters(getattr(rt, name, None), names) for name, names in MUTANTS.items()):
         rt.must_fail_all = each_over_the_others(rt, rt.checked)
