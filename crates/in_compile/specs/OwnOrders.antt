@@ -14,9 +14,9 @@ abbrev pub Takes : MemberParts → ℕ → CellClass → Type 0
 Takes m k class = (k < length m.agents) × (class_at m k ≡ Some class)
 
 -- the first two agents take cells of these classes
-abbrev pub AreTaken : MemberParts → CellClass × CellClass → Type 0
-AreTaken m classes = Takes m 0 classes.0 × Takes m 1 classes.1
+abbrev pub BothTake : MemberParts → CellClass × CellClass → Type 0
+BothTake m classes = Takes m 0 classes.0 × Takes m 1 classes.1
 
 -- if both agents are to have cells of their classes in this order, the pair's cells are of these
 abbrev pub FitsOrder : OwnOrder → MemberParts → CellClass × CellClass → Type 0
-FitsOrder own m classes = IsTrue own.both → AreTaken m (in_order own.turned classes)
+FitsOrder own m classes = IsTrue own.both → BothTake m (in_order own.turned classes)

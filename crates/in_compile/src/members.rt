@@ -11,7 +11,7 @@ ghost use Rattle.in_open_nets_of_programs.specs.Opening.{AreAllThere};
 ghost use Rattle.in_open_nets_of_programs.specs.OpeningRules.{IsRuleWhole};
 ghost use Rattle.in_compile.specs.Storing.{AreNarrow, AddsAgent, AreLaidBelow};
 ghost use Rattle.in_compile.specs.Members.{joint_of, IsMemberOf};
-ghost use Rattle.in_compile.specs.OwnOrders.{AreTaken, FitsOrder, Takes};
+ghost use Rattle.in_compile.specs.OwnOrders.{BothTake, FitsOrder, Takes};
 ghost use Rattle.in_compile.specs.Templates.{AreUnmarked, IsTemplateOf};
 
 use crate::cells::{class_of, need_of_net};
@@ -163,7 +163,7 @@ fn takes(member: &Member, agent: u32, class: CellClass) -> bool
 
 /// Whether the first two agents take cells of these classes.
 fn take_both(member: &Member, classes: (CellClass, CellClass)) -> bool
-    ensures { IsTrue result → AreTaken member.now classes }
+    ensures { IsTrue result → BothTake member.now classes }
 {
     takes(member, 0, classes.0) && takes(member, 1, classes.1)
 }

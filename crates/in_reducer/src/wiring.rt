@@ -8,7 +8,7 @@ ghost use Rattle.in_arena.specs.declared.content.End.TheVariants.{Cell};
 ghost use Rattle.in_symbols.specs.Tables.{Tables};
 ghost use Rattle.in_interaction.specs.Queues.{both};
 ghost use Rattle.in_cells.specs.Cells.{KeepsCells};
-ghost use Rattle.in_compile.specs.OwnOrders.{AreTaken};
+ghost use Rattle.in_compile.specs.OwnOrders.{BothTake};
 ghost use Rattle.in_compile.specs.Wires.{over_of, over_point};
 ghost use Rattle.in_reducer.specs.Inside.{most_ends};
 ghost use Rattle.in_reducer.specs.Interacting.{PairSetting, interaction_of, named};
@@ -210,7 +210,7 @@ pub(crate) fn wire_up(
 #[inline(always)]
 fn begin_both(member: &Member, pair: Pair, arena: &mut Arena, points: &mut [EndWord])
     requires pair { AreLive pair arena.old × CanBegin member.now arena.old points.old }
-    requires taken { (classes : CellClass × CellClass) × AreTaken member.now classes × AreOfClasses classes pair arena.old }
+    requires taken { (classes : CellClass × CellClass) × BothTake member.now classes × AreOfClasses classes pair arena.old }
     ensures begun { (ns : List Number) × HasBegun member.now ns (retired pair arena.old) arena.new × AreAtAgents ns points.new }
     ensures ends { (e : ℕ) → e < most_ends → slice_get points.new e ≡ slice_get points.old e }
     ensures long { length points.new ≡ length points.old }

@@ -3,7 +3,7 @@ use Rattle.in_arena.specs.Arenas.{ArenaView}
 use Rattle.in_arena.specs.declared.content.CellNo.{CellNo}
 use Rattle.in_arena.specs.declared.content.End.{End}
 use Rattle.in_compile.specs.Members.{MemberParts}
-use Rattle.in_compile.specs.OwnOrders.{AreTaken}
+use Rattle.in_compile.specs.OwnOrders.{BothTake}
 use Rattle.in_reducer.specs.Wiring.{AreAtAgents, CanBegin, HasBegun, retired}
 use Rattle.in_reducer.proofs.Steps.Turned as turned
 use Rattle.in_reducer.proofs.wiring.begin_anew.Goals as goal
@@ -25,8 +25,8 @@ begin_both-requires-clause-taken c =
     let own = c.own_cells.result in
     let order = c.own_order-order.result.turned in (
       own.1,
-      subst (λ (m : MemberParts). AreTaken m own.1) (sym c.member.ensures)
-          (subst (AreTaken c.args.template.now.member) (sym c.own_cells.ensures.1) (c.own_order-order.ensures c.if-order.true)),
+      subst (λ (m : MemberParts). BothTake m own.1) (sym c.member.ensures)
+          (subst (BothTake c.args.template.now.member) (sym c.own_cells.ensures.1) (c.own_order-order.ensures c.if-order.true)),
       turned.own_classed c.args.pair c.args.arena.now c.requires.0 order c.args.template.now.classes own.1 own.0 c.own_cells.ensures c.requires.2,
     )
 
