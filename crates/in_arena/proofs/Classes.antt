@@ -2,7 +2,7 @@
 use Rattle.std.proofs.Common.{◌≡◌, ◌≤◌, ◌<◌, ◌+◌, ℕ, zero, suc, length, map, get_or, slice_get, Some, None, refl, sym, ap, ⊎_elim, arith}
 use Rattle.std.proofs.lemmas.Option.{same_Some}
 use Rattle.std.proofs.lemmas.Bool.{cases_lt}
-use Rattle.in_arena.specs.Classes.{IsNumberOf, all_of, amount, class_no, classes, each, first_of}
+use Rattle.in_arena.specs.Classes.{Holds, IsNumberOf, all_of, amount, class_no, classes, each, first_of}
 use Rattle.in_arena.specs.Limiting.{AreAllowed}
 use Rattle.in_arena.specs.declared.content.CellClass.{CellClass}
 use Rattle.in_arena.specs.declared.content.CellClass.TheVariants.{Small, Large, Wide}
@@ -90,3 +90,8 @@ pub each_amount : (n : ℕ) (c : CellClass) → amount (each n) c ≡ n
 each_amount n Small = refl
 each_amount n Large = refl
 each_amount n Wide = refl
+
+pub held_some : (c : CellClass) (n : ℕ) → Holds c n → 0 < n
+held_some Small n held = let least_ = held.0 in omega (arith, least_)
+held_some Large n held = let least_ = held.0 in omega (arith, least_)
+held_some Wide n held = let least_ = held.0 in omega (arith, least_)

@@ -227,6 +227,9 @@ fresh_inside most xs l h some = let few = h.unused.0 in below l.fresh (length xs
     below : (i n : ℕ) → i ≤ n → (i ≡ n → ⊥) → i < n
     below i n le apart = elim (cases_lt i n) [ inl lt ↦ lt | inr ge ↦ absurd (apart (omega arith)) ]
 
+less_new : (xs : List CellWords) (i : ℕ) (c : CellWords) → AreNew xs i → AreNew (set xs i c) (i + 1)
+less_new xs i c h j le lt = get_or-set_other xs i j c None (λ e. omega (arith, e, le)) ∙ h j (omega (arith, le)) (omega (arith, lt, length-set xs i c))
+
 pub listed_new : (most : ℕ) (xs : List CellWords) (l : FreeList) (c : Content) (h : ListsFree most xs l) → l.next ≡ length xs → (l.fresh ≡ length xs → ⊥) → c.count ≡ 0 → c.word ≡ length xs
     → ListsFree most (set xs l.fresh (Some (Some c))) (list_with l.fresh (l.fresh + 1) l.free) × (states (set xs l.fresh (Some (Some c))) ≡ states xs)
 listed_new most xs l c h none some zero_ends last =
@@ -240,15 +243,12 @@ listed_new most xs l c h none some zero_ends last =
         free = i ∷ [];
         listed = (refl, omega (arith, long, inside), (length xs, here, sym long));
         once = (tt, tt);
-        unused = (omega (arith, inside, long), less xs i new h.unused.1);
+        unused = (omega (arith, inside, long), less_new xs i new h.unused.1);
         all = omega (arith, sum_by-set vacancy xs i new None inside, before, vacancy_one c zero_ends, h.all, empty, long);
         count = omega (arith, h.count, empty, long);
       },
       map-set state_of xs i new ∙ ap (set (map state_of xs) i) (vacant_state c zero_ends ∙ sym (get_or-map state_of xs i None ∙ ap state_of was)) ∙ set-get_or (map state_of xs) i Leased,
     )
-  where
-    less : (xs : List CellWords) (i : ℕ) (c : CellWords) → AreNew xs i → AreNew (set xs i c) (i + 1)
-    less xs i c h j le lt = get_or-set_other xs i j c None (λ e. omega (arith, e, le)) ∙ h j (omega (arith, le)) (omega (arith, lt, length-set xs i c))
 
 -- ---- bounds
 
@@ -361,6 +361,26 @@ live_or w (suc n) es = (λ e live. omega (arith, e), λ some. tt)
 pub filled_count : (n : ℕ) → 0 < n → one_if_zero n ≡ 0
 filled_count zero some = absurd (omega arith)
 filled_count (suc n) some = refl
+
+-- ---- the first cell that was never used isn't free any more
+
+pub new_begun : (most : ℕ) (xs : List CellWords) (l : FreeList) (c : Content) → ListsFree most xs l → (l.fresh ≡ length xs → ⊥) → 0 < c.count → c.count ≤ most → ListsFree most (set xs l.fresh (Some (Some c))) (list_with l.next (l.fresh + 1) (l.free - 1))
+new_begun most xs l c h some filled room =
+    let i = l.fresh in let new = Some (Some c) in let few = h.unused.0 in let inside = fresh_inside most xs l h some in
+    let was : get_or xs i None ≡ Some None = h.unused.1 i (omega arith) inside in
+    let before : vacancy (get_or xs i None) ≡ 1 = ap vacancy was in
+    let after : vacancy new ≡ 0 = filled_count c.count filled in
+    let long = length-set xs i new in
+    let apart = not_listed xs i (λ k at. subst (λ s. IsVacantTo s k) was at) l.next h.free h.listed in
+    record {
+      few = cell_set most xs i new inside room h.few;
+      free = h.free;
+      listed = list_set xs i new l.next h.free apart h.listed;
+      once = h.once;
+      unused = (omega (arith, inside, long), less_new xs i new h.unused.1);
+      all = omega (arith, sum_by-set vacancy xs i new None inside, before, after, h.all, long);
+      count = omega (arith, h.count, inside, long);
+    }
 
 pub begun : (c : Content) → 0 < c.count → c.count ≤ length c.ends → IsBegun c.word c.count (state_in c)
 begun c some few = (take c.count c.ends, length-take-le c.count c.ends few, live_written c.word c.count c.ends some)

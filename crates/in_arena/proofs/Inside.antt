@@ -15,12 +15,11 @@ use Rattle.in_arena.specs.FreeLists.{IsCell, ListsFree, list_in, state_in, state
 use Rattle.in_arena.specs.Inside.{IsArena, arena_view}
 use Rattle.in_arena.specs.Leases.{IsLease, lease_view}
 use Rattle.in_arena.specs.declared.lease.Lease.TheInside.{Inside as LeaseInside}
-use Rattle.in_arena.specs.Rows.{EachListsFree, HasContent, MakesReady, OwnsOne, Rewrites, RowsBecome, RowsStay}
+use Rattle.in_arena.specs.Rows.{BeginsNew, BeginsNewCell, EachListsFree, HasContent, MakesReady, OwnsOne, Rewrites, RowsBecome, RowsStay}
 use Rattle.in_arena.specs.States.{State, Vacant, Leased, Live, IsBegun, IsLeased, IsLive, end_at, places, with_end, word_of}
 use Rattle.in_arena.specs.Words.{Word, Content, spot, slots, head, slot_of, word_in, count_in, IsHead, end_of, cell_of, is_spot, word_at, words_of, ends_in, cell_in, row_in, IsInOneState, Gone, New, Filled, AreWhole, ChangesCell}
 use Rattle.in_arena.specs.declared.arena.Arena.TheInside.{Inside}
 use Rattle.in_arena.specs.declared.content.CellClass.{CellClass}
-use Rattle.in_arena.specs.declared.content.CellClass.TheVariants.{Small, Large, Wide}
 use Rattle.in_arena.specs.declared.content.CellCounts.{CellCounts}
 use Rattle.in_arena.specs.declared.content.CellNo.{CellNo}
 use Rattle.in_arena.specs.declared.content.End.{End}
@@ -30,7 +29,7 @@ use Rattle.in_arena.specs.declared.free_list.FreeLists.{FreeLists}
 use Rattle.in_arena.specs.declared.spot.Spot.{Spot}
 use Rattle.in_arena.proofs.Arenas.{changed_same, is_of_same, live_inside}
 use Rattle.in_arena.proofs.Filling.{changes_twice}
-use Rattle.in_arena.proofs.Classes.{at_class, class_of_number}
+use Rattle.in_arena.proofs.Classes.{at_class, class_of_number, held_some}
 use Rattle.in_arena.proofs.FreeLists.{begun, end_written, filled_count, leased_none, list_with, live_cell, live_written, new_row, places_written, used, used_cell, vacancies_are, vacant_state}
 use Rattle.in_arena.proofs.Owners.{in_one, none_whole, one_alone, one_cell, rest_cell, rest_changes, rest_gone}
 use Rattle.in_arena.proofs.Rewriting.{end_rewrites, first, first_begun, first_below, first_cell, first_taken, first_vacant, head_filled, head_rewrites, number_of_head, one_freed, one_put, place_filled, put_in}
@@ -233,6 +232,26 @@ module _ (a : Inside) (h : IsArena a) (v : ArenaView) (e : arena_view a ≡ v) w
   pub none_ready_in : (c : CellClass) (words : Cells End) (lists : FreeLists) → MakesReady a.cells c a.words a.lists false words lists → (free_of v c ≡ 0) × (view_of words.at a.cells words.slots ≡ v)
   none_ready_in c words lists r = (ap (λ w. free_of w c) (sym e) ∙ free_in a.words.at a.cells a.words.slots c ∙ r.2, ap (λ (w : Cells End). view_of w.at a.cells w.slots) r.0 ∙ e)
 
+  -- a cell that was never used is live
+  pub new_in : (c : CellClass) (head_ : End) (symbol count : ℕ) (n : CellNo) (words : Cells End) (lists : FreeLists) → head_ ≡ Cell (record { 0 = symbol }) count → Holds c count → BeginsNewCell a.cells c head_ a.words a.lists n words lists
+      → IsArena (with_row a words lists) × BeginsCell c symbol count v n.0 (view_of words.at a.cells words.slots)
+  new_in c head_ symbol count n words lists is holds b =
+      let x : Content = record { word = symbol; count = count; ends = b.ends } in let many = holds.1 in
+      let rows = subst (λ y. RowsBecome a.cells a.words.slots words.slots c b.index (state_in (record { word = word_in y; count = count_in y; ends = b.ends }))) is b.rows in (
+        arena_with a h words lists b.same b.whole b.free,
+        record {
+          at = subst (λ m. IsNumberOf m c n.0) (ap (λ (w : ArenaView). w.cells) e) (number_of_place a.cells n.0 c b.index b.place);
+          was = ap (λ w. state_at w n.0) (sym e) ∙ state_is a.words.at a.cells a.words.slots n.0 c b.index b.place ∙ b.was;
+          state = state_in x;
+          begun = begun x (held_some c count holds) (omega (arith, many, b.long));
+          arena = viewed a h v e words n.0 c b.index (state_in x) (state_in x) b.same b.place rows refl;
+        },
+      )
+
+  -- .. or none is free
+  pub none_new_in : (c : CellClass) (head_ : End) (words : Cells End) (lists : FreeLists) → BeginsNew a.cells c head_ a.words a.lists None words lists → (free_of v c ≡ 0) × (view_of words.at a.cells words.slots ≡ v)
+  none_new_in c head_ words lists r = (ap (λ w. free_of w c) (sym e) ∙ free_in a.words.at a.cells a.words.slots c ∙ r.2, ap (λ (w : Cells End). view_of w.at a.cells w.slots) r.0 ∙ e)
+
   -- the first free cell of a class is live
   module _ (c : CellClass) (some : (list_in a.lists c).next ≢ amount a.cells c) where
     abbrev i : ℕ
@@ -271,11 +290,6 @@ module _ (a : Inside) (h : IsArena a) (v : ArenaView) (e : arena_view a ≡ v) w
             arena = viewed a h v e words n c i (state_in new) (state_in new) same p z.1 refl;
           },
         )
-
-pub held_some : (c : CellClass) (n : ℕ) → Holds c n → 0 < n
-held_some Small n held = let least_ = held.0 in omega (arith, least_)
-held_some Large n held = let least_ = held.0 in omega (arith, least_)
-held_some Wide n held = let least_ = held.0 in omega (arith, least_)
 
 -- ---- the number of free cells, and those that were never used
 

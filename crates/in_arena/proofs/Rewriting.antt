@@ -5,7 +5,7 @@ use Rattle.in_memory.specs.Places.{together}
 use Rattle.in_memory.specs.declared.cells.Cells.{Cells}
 use Rattle.in_arena.specs.Classes.{amount, width}
 use Rattle.in_arena.specs.FreeLists.{IsCell, ListsFree, list_in, state_of, states, vacancy}
-use Rattle.in_arena.specs.Rows.{EachListsFree, MakesReady, OwnsOne, Rewrites, RowsBecome, RowsStay}
+use Rattle.in_arena.specs.Rows.{EachListsFree, IsFirstWritten, MakesReady, OwnsOne, Rewrites, RowsBecome, RowsStay}
 use Rattle.in_arena.specs.States.{Vacant, Leased}
 use Rattle.in_arena.specs.Words.{Word, Content, CellWords, slots, head, slot_of, word_in, count_in, IsHead, word_at, cell_in, row_in, IsInOneState, AreWhole, ChangesCell}
 use Rattle.in_arena.specs.declared.content.CellClass.{CellClass}
@@ -18,7 +18,7 @@ use Rattle.in_arena.specs.declared.content.CellNo.{CellNo}
 use Rattle.in_arena.specs.declared.content.End.TheVariants.{Cell}
 use Rattle.in_arena.specs.declared.content.End.TheVariants.{Free as FreeEnd}
 use Rattle.in_arena.proofs.Filling.{new_of}
-use Rattle.in_arena.proofs.FreeLists.{put, taken, filled_count, freed, free_small, first_free, fresh_inside, listed_new, next_inside, none_free, set_twice, vacant_state, First, list_with}
+use Rattle.in_arena.proofs.FreeLists.{put, taken, filled_count, freed, free_small, first_free, fresh_inside, listed_new, new_begun, next_inside, none_free, set_twice, vacant_state, First, list_with}
 use Rattle.in_arena.proofs.Owners.{gone_of, put_changes, put_kept}
 use Rattle.in_arena.proofs.Rows.{AllFilled, all_filled, class_cases, head_is, head_now, end_now, one_changes, row_set, row_stays, rows_become, still_whole, whole_now, with_word}
 use Rattle.in_arena.proofs.Words.{head_inside, kept_cell, kept_whole, row_at, row_long, slot_inside, slot_no_head}
@@ -115,6 +115,25 @@ module _ (cells : CellCounts) (c : CellClass) (words : Cells End) (lists : FreeL
         rows_stay cells words.slots words'.slots c l.fresh (Some (Some x)) inside change now z.1,
         λ e. (let at = ap (λ (k : FreeList). k.next) own in omega (arith, at, e, inside)),
       )
+
+  -- the first cell that was never used is live from now on
+  module _ (some : l.fresh ≡ amount cells c → ⊥) where
+    fresh_inside_row : l.fresh ≡ length xs → ⊥
+    fresh_inside_row e = some (e ∙ long)
+
+    pub new_free : 1 ≤ l.free
+    new_free = let count = (free c).count in let inside = fresh_inside (width c) xs l (free c) fresh_inside_row in omega (arith, count, inside)
+
+    pub new_live : (words' : Cells End) (lists' : FreeLists) (h : End) (w : IsFirstWritten words (record { class = c; index = l.fresh; cells = cells }) h words') → 0 < count_in h → count_in h ≤ width c
+        → list_in lists' c ≡ list_with l.next (l.fresh + 1) (l.free - 1) → ((d : CellClass) → d ≢ c → list_in lists' d ≡ list_in lists d)
+        → AreWhole cells words'.slots × EachListsFree cells words'.slots lists' × RowsBecome cells words.slots words'.slots c l.fresh (state_of (Some (Some (record { word = word_in h; count = count_in h; ends = w.ends }))))
+    new_live words' lists' h w filled room own others =
+        let x : Content = record { word = word_in h; count = count_in h; ends = w.ends } in
+        let inside = fresh_below cells words.slots c l (free c) some in (
+          still_whole cells words.slots words'.slots c l.fresh inside w.changes all w.state,
+          lists_become cells words.slots words'.slots c l.fresh (Some (Some x)) lists lists' inside w.changes w.cell free (subst (ListsFree (width c) (set xs l.fresh (Some (Some x)))) (sym own) (new_begun (width c) xs l x (free c) fresh_inside_row filled room)) others,
+          rows_become cells words.slots words'.slots c l.fresh inside w.changes (Some (Some x)) w.cell,
+        )
 
   -- ---- the first free cell
 

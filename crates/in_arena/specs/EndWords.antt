@@ -2,6 +2,7 @@
 -- the cell: so the word is the place's own number in the row. The lowest two bits of every other end are full, the number is above them, and from
 -- bit 27 on there is the place, or 31 for a free end.
 use Rattle.std.specs.Prelude.{◌≡◌, ◌≤◌, ◌<◌, ◌+◌, ◌*◌, ◌/◌, ◌%◌, ℕ, List, Some, nat_eq, nat_lt, slice_get, if◌then◌else◌}
+use Rattle.in_arena.specs.declared.content.CellNo.{CellNo}
 use Rattle.in_arena.specs.declared.content.End.{End}
 use Rattle.in_arena.specs.declared.content.End.TheVariants.{Cell, Free}
 
@@ -25,6 +26,10 @@ HasWord (Free number) = number < numbers
 -- each of these ends has one
 abbrev pub HaveWords : List End → Type 0
 HaveWords es = (k : ℕ) (e : End) → slice_get es k ≡ Some e → HasWord e
+
+-- one of the first three places of a cell
+abbrev pub IsNear : End → Type 0
+IsNear e = (c : CellNo) × (place : ℕ) × (e ≡ Cell c place) × (place < 3)
 
 -- the number of the cell or of the free end
 abbrev pub number_in : ℕ → ℕ

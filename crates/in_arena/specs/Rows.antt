@@ -1,12 +1,14 @@
 -- Changes of the words of one cell, and of the lists of free cells with them.
-use Rattle.std.specs.Prelude.{◌≡◌, ◌≢◌, ◌≤◌, ◌<◌, ℕ, Bool, true, false, List, length, take, count_by, replicate, slice_set, Some, None}
+use Rattle.std.specs.Prelude.{◌≡◌, ◌≢◌, ◌≤◌, ◌<◌, ℕ, Bool, true, false, List, length, take, count_by, replicate, slice_set, Option, Some, None}
 use Rattle.in_memory.specs.declared.cells.Cells.{Cells}
+use Rattle.in_arena.specs.ByClass.{IsPlace}
 use Rattle.in_arena.specs.Classes.{amount, width}
-use Rattle.in_arena.specs.FreeLists.{ListsFree, list_in, states}
+use Rattle.in_arena.specs.FreeLists.{ListsFree, list_in, state_in, state_of, states}
 use Rattle.in_arena.specs.States.{State, Vacant, is_vacant}
-use Rattle.in_arena.specs.Words.{AreWhole, ChangesCell, Content, Word, cell_in, row_in, words_of}
+use Rattle.in_arena.specs.Words.{AreWhole, ChangesCell, Content, IsInOneState, Word, cell_in, count_in, row_in, slots, word_at, word_in, words_of}
 use Rattle.in_arena.specs.declared.content.CellClass.{CellClass}
 use Rattle.in_arena.specs.declared.content.CellCounts.{CellCounts}
+use Rattle.in_arena.specs.declared.content.CellNo.{CellNo}
 use Rattle.in_arena.specs.declared.content.End.{End}
 use Rattle.in_arena.specs.declared.free_list.FreeLists.{FreeLists}
 use Rattle.in_arena.specs.declared.spot.Spot.{Spot}
@@ -63,3 +65,33 @@ pub record HasContent (symbol : ℕ) (es : List End) (x : Content) : Type 0 wher
   pub word : x.word ≡ symbol
   pub count : x.count ≡ length es
   pub ends : take (length es) x.ends ≡ es
+
+-- nothing was ever written in the cell
+abbrev pub IsNewAt : List Word → Spot → Type 0
+IsNewAt ws at = (q : ℕ) → q < slots at.class → word_at at.cells ws at.class at.index q ≡ Some None
+
+-- the cell is written, with this head and an end at each place. All other words are as they were
+pub record IsFirstWritten (words : Cells End) (at : Spot) (h : End) (words' : Cells End) : Type 0 where
+  pub same : words'.at ≡ words.at
+  pub state : IsInOneState at.cells words'.slots at.class at.index
+  pub changes : ChangesCell at.cells words.slots words'.slots at.class at.index
+  pub ends : List End
+  pub long : length ends ≡ width at.class
+  pub cell : cell_in at.cells words'.slots at.class at.index ≡ Some (Some (record { word = word_in h; count = count_in h; ends = ends }))
+
+-- a cell of the class that was never used has this head from now on, and isn't free any more
+pub record BeginsNewCell (cells : CellCounts) (c : CellClass) (h : End) (words : Cells End) (lists : FreeLists) (n : CellNo) (words' : Cells End) (lists' : FreeLists) : Type 0 where
+  pub same : words'.at ≡ words.at
+  pub whole : AreWhole cells words'.slots
+  pub free : EachListsFree cells words'.slots lists'
+  pub index : ℕ
+  pub place : IsPlace cells n.0 c index
+  pub was : state_of (cell_in cells words.slots c index) ≡ Vacant
+  pub ends : List End
+  pub long : length ends ≡ width c
+  pub rows : RowsBecome cells words.slots words'.slots c index (state_in (record { word = word_in h; count = count_in h; ends = ends }))
+
+-- .. or all were used, and no cell of the class is free
+abbrev pub BeginsNew : CellCounts → CellClass → End → Cells End → FreeLists → Option CellNo → Cells End → FreeLists → Type 0
+BeginsNew cells c h words lists None words' lists' = (words' ≡ words) × (lists' ≡ lists) × (count_by is_vacant (states (row_in cells words.slots c)) ≡ 0)
+BeginsNew cells c h words lists (Some n) words' lists' = BeginsNewCell cells c h words lists n words' lists'

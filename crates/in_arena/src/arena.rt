@@ -4,7 +4,7 @@ ghost use Rattle.in_arena.specs.States.{State, Vacant, Leased, IsLive, IsLeased,
 ghost use Rattle.in_arena.specs.Arenas.{Leases, BeginsCell, IsOf, IsUsedOf, NoneLeased, state_at, changed, free_of};
 ghost use Rattle.in_arena.specs.Bags.{IsBagOf, IsFor, IsInBag, LeasesTo, empty_bag};
 ghost use Rattle.in_arena.specs.Classes.{Holds, IsNumberOf, all_of, each};
-ghost use Rattle.in_arena.specs.EndWords.{HasWord};
+ghost use Rattle.in_arena.specs.EndWords.{HasWord, IsNear};
 ghost use Rattle.in_arena.specs.declared.content.CellClass.{CellClass as Class};
 ghost use Rattle.in_arena.specs.declared.content.CellNo.{CellNo as Number};
 ghost use Rattle.in_arena.specs.declared.content.End.TheVariants.{Cell};
@@ -14,10 +14,10 @@ ghost use Rattle.in_arena.specs.Limiting.{AreAllowed, most_cells};
 
 use crate::bag::Bag;
 use crate::content::{CellClass, CellCounts, CellIndex, CellNo, End, SymbolWord};
-use crate::free_list::{FreeList, FreeLists};
+use crate::free_list::FreeLists;
 use crate::head::HeadWord;
 use crate::lease::Lease;
-use crate::row::{head_of, is_ready, take_back};
+use crate::row::{begin_new, head_of, is_ready, take_back};
 use crate::spot::{HEAD, Spot, Starts, far_word, near_word, place_word, spot_of, words_of};
 use crate::word::EndWord;
 use in_memory::{Base, Cells, Deed, allocate, deallocate};
@@ -170,14 +170,7 @@ impl Arena {
             cells: self.cells,
         };
         let next = self.words.get(self.base, spot.head()).number();
-        self.lists.set(
-            class,
-            FreeList {
-                next,
-                fresh: list.fresh,
-                free: list.free - 1,
-            },
-        );
+        self.lists.pop(class, next);
         Some(Lease {
             spot,
             base: self.base,
@@ -299,6 +292,30 @@ impl Arena {
         *self.words.get(row.base, at)
     }
 
+    /// The word of one of the first three places of a live cell in a row that begins there: of a place that the cell has, the other end of its wire,
+    /// else any word. So these places are read without a test of how many there are.
+    #[inline(always)]
+    pub fn near_in(&self, row: RowStart, cell: CellNo, place: u8) -> EndWord
+        requires row { IsRowStart row self.now }
+        requires live { IsLive (state_at self.now cell.0) }
+        requires near { place < 3 }
+        ensures { place < places (state_at self.now cell.0) → end_at (state_at self.now cell.0) place ≡ Some result }
+    {
+        *self.words.get(row.base, near_word(cell, place))
+    }
+
+    /// The other end of the wire at a place behind the first three of a live cell in a row that begins there.
+    #[inline(always)]
+    pub fn far_in(&self, row: RowStart, cell: CellNo, place: u8) -> EndWord
+        requires row { IsRowStart row self.now }
+        requires place { place < places (state_at self.now cell.0) }
+        requires far { 3 ≤ place }
+        ensures { end_at (state_at self.now cell.0) place ≡ Some result }
+    {
+        let at = far_word(self.cells, self.starts, cell, place);
+        *self.words.get(row.base, at)
+    }
+
     /// Writes the other end of the wire at a place of a live cell. The end's number is below 33,554,432.
     #[inline(always)]
     pub fn set_port(&mut self, cell: CellNo, place: u8, end: End)
@@ -351,6 +368,17 @@ impl Arena {
         }
     }
 
+    /// Writes the end at the place to which `at` leads, which is one of the first three of a live cell, in a row that begins there.
+    #[inline(always)]
+    pub fn set_near_in(&mut self, row: RowStart, at: EndWord, end: EndWord)
+        requires row { IsRowStart row self.old }
+        requires near { IsNear at }
+        requires place { (c : Number) (p : ℕ) → at ≡ Cell c p → p < places (state_at self.old c.0) }
+        ensures { (c : Number) (p : ℕ) → at ≡ Cell c p → self.new ≡ changed self.old c.0 (with_end (state_at self.old c.0) p end) }
+    {
+        self.words.write(row.base, at.near_word(), end);
+    }
+
     /// Makes a free cell of this class, any one, live with this head, which has as many places as the class is for. Their ends are open until they are
     /// written. Nothing changes if none of the class is free.
     #[inline(always)]
@@ -358,29 +386,27 @@ impl Arena {
         requires { Holds class head.count }
         ensures { MatchOption result ((free_of self.old class ≡ 0) × (self.new ≡ self.old)) (λ c. BeginsCell class head.word head.count self.old c.0 self.new) }
     {
-        if !is_ready(
-            &mut self.words,
-            self.base,
-            self.cells,
-            &self.starts,
-            class,
-            &mut self.lists,
-        ) {
-            return None;
-        }
         let list = self.lists.of(class);
+        if list.next == self.starts.amount(class) {
+            let begun = begin_new(
+                &mut self.words,
+                self.base,
+                self.cells,
+                &self.starts,
+                class,
+                head.word(),
+                &mut self.lists,
+            );
+            let Some(cell) = begun else {
+                return None;
+            };
+            return Some(CellIndex::of(cell));
+        }
         let cell = CellNo(self.starts.first(class) + list.next);
         let at = near_word(cell, HEAD);
         let next = self.words.get(self.base, at).number();
         self.words.write(self.base, at, head.word());
-        self.lists.set(
-            class,
-            FreeList {
-                next,
-                fresh: list.fresh,
-                free: list.free - 1,
-            },
-        );
+        self.lists.pop(class, next);
         Some(CellIndex::of(cell))
     }
 
@@ -416,20 +442,24 @@ impl Arena {
         ensures { self.new ≡ changed self.old cell.0 Vacant }
     {
         let spot = spot_of(self.cells, cell);
-        let list = self.lists.of(spot.class);
+        self.retire_as(cell, spot.class);
+    }
+
+    /// The same where the class of the cell is known, so that it isn't looked for.
+    #[inline(always)]
+    pub fn retire_as(&mut self, cell: CellNo, class: CellClass)
+        requires live { IsLive (state_at self.old cell.0) }
+        requires class { IsNumberOf self.old.cells class cell.0 }
+        ensures { self.new ≡ changed self.old cell.0 Vacant }
+    {
+        let index = cell.0 - self.starts.first(class);
+        let list = self.lists.of(class);
         self.words.write(
             self.base,
             near_word(cell, HEAD),
             EndWord::port(CellNo(list.next), 0),
         );
-        self.lists.set(
-            spot.class,
-            FreeList {
-                next: spot.index,
-                fresh: list.fresh,
-                free: list.free + 1,
-            },
-        );
+        self.lists.push(class, index);
     }
 
     /// A bag of this arena that has no cell.

@@ -1,5 +1,5 @@
 // Which cells of each class are free.
-ghost use Rattle.std.specs.Prelude.{◌≡◌, ◌≢◌};
+ghost use Rattle.std.specs.Prelude.{◌≡◌, ◌≢◌, ◌≤◌, ◌<◌, ◌+◌, ◌-◌, ◌^◌};
 ghost use Rattle.in_arena.specs.Classes.{amount};
 ghost use Rattle.in_arena.specs.FreeLists.{list_in};
 ghost use Rattle.in_arena.specs.declared.content.CellClass.{CellClass as Class};
@@ -63,5 +63,41 @@ impl FreeLists {
         ensures others { (c : Class) → c ≢ class → list_in self.new c ≡ list_in self.old c }
     {
         self.lists[class.number() as usize] = list;
+    }
+
+    /// Takes the first cell of a class that was never used out of the free ones.
+    #[inline(always)]
+    pub fn use_fresh(&mut self, class: CellClass)
+        requires { ((list_in self.old class).fresh + 1 < 2 ^ 32) × (1 ≤ (list_in self.old class).free) }
+        ensures class { list_in self.new class ≡ record { next = (list_in self.old class).next; fresh = (list_in self.old class).fresh + 1; free = (list_in self.old class).free - 1 } }
+        ensures others { (c : Class) → c ≢ class → list_in self.new c ≡ list_in self.old c }
+    {
+        let list = &mut self.lists[class.number() as usize];
+        list.fresh += 1;
+        list.free -= 1;
+    }
+
+    /// Puts this cell of a class first on its list.
+    #[inline(always)]
+    pub fn push(&mut self, class: CellClass, index: u32)
+        requires { (list_in self.old class).free + 1 < 2 ^ 32 }
+        ensures class { list_in self.new class ≡ record { next = index; fresh = (list_in self.old class).fresh; free = (list_in self.old class).free + 1 } }
+        ensures others { (c : Class) → c ≢ class → list_in self.new c ≡ list_in self.old c }
+    {
+        let list = &mut self.lists[class.number() as usize];
+        list.next = index;
+        list.free += 1;
+    }
+
+    /// Takes the first cell of a class off its list: this one is the next.
+    #[inline(always)]
+    pub fn pop(&mut self, class: CellClass, next: u32)
+        requires { 1 ≤ (list_in self.old class).free }
+        ensures class { list_in self.new class ≡ record { next = next; fresh = (list_in self.old class).fresh; free = (list_in self.old class).free - 1 } }
+        ensures others { (c : Class) → c ≢ class → list_in self.new c ≡ list_in self.old c }
+    {
+        let list = &mut self.lists[class.number() as usize];
+        list.next = next;
+        list.free -= 1;
     }
 }

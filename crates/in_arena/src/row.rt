@@ -1,13 +1,13 @@
 // The words of a row, cell by cell.
 ghost use Rattle.std.specs.Prelude.{◌≡◌, ◌≤◌, ◌<◌, ◌+◌, ◌*◌, length, Some, get_or, None, slice_set};
 ghost use Rattle.in_memory.specs.Places.{IsFilled};
-ghost use Rattle.in_arena.specs.Classes.{amount, width};
+ghost use Rattle.in_arena.specs.Classes.{Holds, amount, width};
 ghost use Rattle.in_arena.specs.EndWords.{HaveWords, numbers};
 ghost use Rattle.in_arena.specs.FreeLists.{ListsFree, list_in};
 ghost use Rattle.in_arena.specs.Limiting.{AreAllowed};
-ghost use Rattle.in_arena.specs.Rows.{EachListsFree, HasContent, MakesReady, IsTakenBack, IsWrittenAt, OwnsOne, Rewrites};
+ghost use Rattle.in_arena.specs.Rows.{BeginsNew, EachListsFree, HasContent, MakesReady, IsFirstWritten, IsNewAt, IsTakenBack, IsWrittenAt, OwnsOne, Rewrites};
 ghost use Rattle.in_arena.specs.Starts.{AreStarts};
-ghost use Rattle.in_arena.specs.Words.{AreWhole, Content, cell_in};
+ghost use Rattle.in_arena.specs.Words.{AreWhole, Content, IsHead, cell_in, count_in, words_of};
 
 use crate::content::{CellClass, CellCounts, CellNo, End, SymbolWord};
 use crate::free_list::{FreeList, FreeLists};
@@ -46,6 +46,29 @@ pub fn is_ready(
     list_new(words, base, cells, starts, class, lists)
 }
 
+/// Writes a cell that was never written: this head, and an end at each place.
+#[inline(always)]
+fn write_new(
+    words: &mut Cells<EndWord>,
+    base: Base<EndWord>,
+    spot: Spot,
+    starts: &Starts,
+    head: EndWord,
+)
+    requires words { (base.ptr ≡ words.old.at) × AreAllowed spot.cells × (spot.index < amount spot.cells spot.class) × (length words.old.slots ≡ words_of spot.cells) }
+    requires starts { AreStarts spot.cells starts.now }
+    requires new { IsNewAt words.old.slots spot }
+    requires head { IsHead head }
+    ensures { IsFirstWritten words.old spot head words.new }
+{
+    let cell = CellNo(starts.first(spot.class) + spot.index);
+    for place in 0..spot.class.width() {
+        let at = place_word(spot.cells, *starts, cell, place);
+        words.write(base, at, EndWord::free(0));
+    }
+    words.write(base, near_word(cell, HEAD), head);
+}
+
 /// Puts the first cell of the class that was never used on the list, which is empty. Returns `false` if all were used.
 #[inline(always)]
 fn list_new(
@@ -67,12 +90,12 @@ fn list_new(
     if list.fresh == end {
         return false;
     }
-    let cell = CellNo(starts.first(class) + list.fresh);
-    for place in 0..class.width() {
-        let at = place_word(cells, *starts, cell, place);
-        words.write(base, at, EndWord::free(0));
-    }
-    words.write(base, near_word(cell, HEAD), EndWord::port(CellNo(end), 0));
+    let spot = Spot {
+        class,
+        index: list.fresh,
+        cells,
+    };
+    write_new(words, base, spot, starts, EndWord::port(CellNo(end), 0));
     lists.set(
         class,
         FreeList {
@@ -82,6 +105,40 @@ fn list_new(
         },
     );
     true
+}
+
+/// Makes the first cell of the class that was never used live with this head, which isn't that of a free cell, where the list is empty. Returns its
+/// number, or none if all were used.
+#[inline(always)]
+pub fn begin_new(
+    words: &mut Cells<EndWord>,
+    base: Base<EndWord>,
+    cells: CellCounts,
+    starts: &Starts,
+    class: CellClass,
+    head: EndWord,
+    lists: &mut FreeLists,
+) -> Option<CellNo>
+    requires words { (base.ptr ≡ words.old.at) × AreAllowed cells × AreWhole cells words.old.slots }
+    requires starts { AreStarts cells starts.now }
+    requires lists { EachListsFree cells words.old.slots lists.old }
+    requires empty { (list_in lists.old class).next ≡ amount cells class }
+    requires head { IsHead head × Holds class (count_in head) }
+    ensures { BeginsNew cells class head words.old lists.old result words.new lists.new }
+{
+    let list = lists.of(class);
+    if list.fresh == starts.amount(class) {
+        return None;
+    }
+    let spot = Spot {
+        class,
+        index: list.fresh,
+        cells,
+    };
+    let cell = CellNo(starts.first(class) + list.fresh);
+    write_new(words, base, spot, starts, head);
+    lists.use_fresh(class);
+    Some(cell)
 }
 
 /// Takes another owner's cell back as a free one.
@@ -101,14 +158,7 @@ pub fn take_back(
     let list = lists.of(spot.class);
     words.join(one);
     words.write(base, spot.head(), EndWord::port(CellNo(list.next), 0));
-    lists.set(
-        spot.class,
-        FreeList {
-            next: spot.index,
-            fresh: list.fresh,
-            free: list.free + 1,
-        },
-    );
+    lists.push(spot.class, spot.index);
 }
 
 /// Writes the head of a cell that is written. The ends at its places stay.

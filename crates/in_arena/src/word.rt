@@ -1,7 +1,7 @@
 // An end in one word.
-ghost use Rattle.std.specs.Prelude.{◌≡◌, ◌≢◌, ◌⊎◌, ◌*◌, ◌+◌, ◌<◌, ℕ, MatchOption};
+ghost use Rattle.std.specs.Prelude.{◌≡◌, ◌≢◌, ◌⊎◌, ◌↔◌, ◌*◌, ◌+◌, ◌<◌, ℕ, IsTrue, MatchOption};
 ghost use Rattle.in_arena.specs.declared.content.CellNo.{CellNo as Number};
-ghost use Rattle.in_arena.specs.EndWords.{HasWord, free_place};
+ghost use Rattle.in_arena.specs.EndWords.{HasWord, IsNear, free_place};
 ghost use Rattle.in_arena.specs.declared.content.End.TheVariants.{Cell, Free};
 
 use crate::content::{CellIndex, CellNo, End};
@@ -158,6 +158,26 @@ impl EndWord {
         EndWord {
             bits: self.bits + step.bits,
         }
+    }
+
+    /// Whether the end is one of the first three places of a cell.
+    #[inline(always)]
+    pub fn is_near(self) -> bool
+        ensures { IsTrue result ↔ IsNear self }
+    {
+        match self.near() {
+            Some(_) => true,
+            None => false,
+        }
+    }
+
+    // The place's own number in the row, where the end is one of the first three places of a cell.
+    #[inline(always)]
+    pub(crate) fn near_word(self) -> usize
+        requires { IsNear self }
+        ensures { (c : Number) (p : ℕ) → self ≡ Cell c p → result ≡ 4 * c.0 + p }
+    {
+        self.bits as usize
     }
 
     // The place's own number in the row, if the end is one of the first three places of a cell.

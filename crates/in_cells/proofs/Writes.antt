@@ -3,7 +3,9 @@ use Rattle.std.proofs.Common.{◌≡◌, ◌≢◌, ◌<◌, ℕ, List, length, 
 use native.Mathlib.Decide.{ℕ_discrete}
 use Rattle.in_base.proofs.Places.{set_here, set_there}
 use Rattle.in_arena.specs.Arenas.{ArenaView, state_at, changed}
+use Rattle.in_arena.specs.EndWords.{IsNear}
 use Rattle.in_arena.specs.States.{State, Vacant, Leased, Live, places, end_at, with_end}
+use Rattle.in_arena.specs.declared.content.CellNo.{CellNo}
 use Rattle.in_arena.specs.declared.content.End.{End}
 use Rattle.in_arena.specs.declared.content.End.TheVariants as end
 use Rattle.in_arena.proofs.Public.{state_inside, placed_here}
@@ -65,6 +67,13 @@ write_keeps (end.Free k) x a es b fs w = (subst (λ (b : ArenaView). KeepsCells 
 pub place_stays : (at : End) (a : ArenaView) (es : List End) (b : ArenaView) (fs : List End) → KeepsCells a b → length fs ≡ length es → IsPlaceAt a es at → IsPlaceAt b fs at
 place_stays (end.Cell c i) a es b fs k long h = subst (λ (n : ℕ). i < n) (sym (places_kept a b k c.0)) h
 place_stays (end.Free j) a es b fs k long h = subst (λ (n : ℕ). j < n) (sym long) h
+
+-- at a place that is near, there is a cell
+pub near_place : (at : End) (a : ArenaView) (es : List End) → IsPlaceAt a es at → (c : CellNo) (p : ℕ) → at ≡ end.Cell c p → p < places (state_at a c.0)
+near_place at a es h c p e = subst (IsPlaceAt a es) e h
+
+pub near_written : (at x : End) (a : ArenaView) (es : List End) (b : ArenaView) → IsNear at → ((c : CellNo) (p : ℕ) → at ≡ end.Cell c p → b ≡ changed a c.0 (with_end (state_at a c.0) p x)) → IsWritten at x a es b es
+near_written at x a es b near now = subst (λ (e : End). IsWritten e x a es b es) (sym near.2) (now near.0 near.1 near.2, refl)
 
 -- ---- each of two ends is written at the other
 

@@ -42,6 +42,12 @@ pub fn exchange_in(
     requires other { IsPlaceAt arena.old ends.old other }
     ensures { AreExchanged one other arena.old ends.old arena.new ends.new }
 {
+    // Mostly both are near places: so both stores come after one test.
+    if one.is_near() && other.is_near() {
+        arena.set_near_in(row, one, other);
+        arena.set_near_in(row, other, one);
+        return;
+    }
     write(arena, row, ends, one, other);
     write(arena, row, ends, other, one);
 }

@@ -64,7 +64,7 @@ impl Member {
             let row = arena.row();
             return self.renew(agent, cell, row, arena);
         }
-        arena.retire(cell);
+        arena.retire_as(cell, own);
         self.begin(agent, arena)
     }
 }

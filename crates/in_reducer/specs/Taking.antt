@@ -1,8 +1,7 @@
 -- Symbols of pairs that are read ahead, and cells that are left free or are known to be free. Both are this project's own choice.
-use Rattle.std.specs.Prelude.{◌≡◌, ◌⊎◌, ◌+◌, ◌-◌, ◌≤◌, ◌<◌, ℕ, [], length, Some, slice_get}
+use Rattle.std.specs.Prelude.{◌≡◌, ◌⊎◌, ◌+◌, ◌-◌, ◌≤◌, ◌<◌, ℕ, List, [], length, Some, slice_get}
 use Rattle.in_arena.specs.declared.content.CellClass.{CellClass}
 use Rattle.in_symbols.specs.declared.symbols.SymbolNo.{SymbolNo}
-use Rattle.in_reducer.specs.declared.taking.Ahead.{Ahead}
 use Rattle.in_compile.specs.declared.cells.Need.{Need}
 use Rattle.in_compile.specs.Cells.{count_of}
 use Rattle.in_reducer.specs.Machines.{MachineParts}
@@ -15,16 +14,9 @@ abbrev pub together : ℕ
 together = 8
 
 -- the elements from number `next` on are the symbols of the first pairs, one after another
-pub record AreAhead (m : MachineParts) (a : Ahead) : Type 0 where
-  pub next : a.next ≤ together
-  pub long : length a.heads ≡ together
-  pub heads : (k : ℕ) (h : SymbolNo × SymbolNo) → slice_get a.heads (a.next + k) ≡ Some h → HasHeadsAt m k h
-
--- .. or of the pairs behind the first one
-pub record AreBehind (m : MachineParts) (a : Ahead) : Type 0 where
-  pub next : a.next ≤ together
-  pub long : length a.heads ≡ together
-  pub heads : (k : ℕ) (h : SymbolNo × SymbolNo) → slice_get a.heads (a.next + k) ≡ Some h → HasHeadsAt m (k + 1) h
+pub record AreAhead (m : MachineParts) (read : List (SymbolNo × SymbolNo)) (next : ℕ) : Type 0 where
+  pub long : length read ≡ together
+  pub each : (k : ℕ) (h : SymbolNo × SymbolNo) → slice_get read (next + k) ≡ Some h → HasHeadsAt m k h
 
 -- the cells that the pair needs are free, and `floor` cells of each class besides
 abbrev pub HasRoomBesides : MachineParts → ℕ → ℕ → Type 0

@@ -114,17 +114,19 @@ pub record CanRead (a : ArenaView) (p : Pair) (many : ℕ) (points : List End) :
   pub few : many ≤ most_ends
   pub long : most_points ≤ length points
 
--- the agent is live, has as many auxiliary ports as there are points from `first` to before `to`, and there are such points
+-- the agent is live, has as many auxiliary ports as there are points from `first` to before `to`, and these are points of boundary ends
 pub record HasPortsFor (a : ArenaView) (c : CellNo) (first to points : ℕ) : Type 0 where
   pub live : IsLive (state_at a c.0)
-  pub order : first ≤ to
   pub ports : to < first + places (state_at a c.0)
-  pub room : to ≤ points
+  pub near : first + 2 ≤ most_ends
+  pub few : to ≤ most_ends
+  pub room : most_ends ≤ points
 
--- the points from `first` to before `to` have the partners of the agent's auxiliary ports, in their order. All other points are as they were
+-- the points from `first` to before `to` have the partners of the agent's auxiliary ports, in their order, of as many as it has. The points before
+-- these, and those of agents, are as they were
 pub record HasPortsIn (a : ArenaView) (c : CellNo) (first to : ℕ) (old new : List End) : Type 0 where
-  pub read : (e : ℕ) → first ≤ e → e < to → slice_get new e ≡ end_at (state_at a c.0) (suc (e - first))
-  pub others : (k : ℕ) → (k < first) ⊎ (to ≤ k) → slice_get new k ≡ slice_get old k
+  pub read : (e : ℕ) → first ≤ e → e < to → suc (e - first) < places (state_at a c.0) → slice_get new e ≡ end_at (state_at a c.0) (suc (e - first))
+  pub others : (k : ℕ) → (k < first) ⊎ (most_ends ≤ k) → slice_get new k ≡ slice_get old k
   pub long : length new ≡ length old
 
 -- the pair of two principal ports is added; the second one's agent is first if the first one is an input. Nothing is added if one of them is no

@@ -4,16 +4,14 @@ ghost use Rattle.in_arena.specs.declared.content.CellClass.{CellClass};
 ghost use Rattle.in_symbols.specs.declared.symbols.SymbolNo.{SymbolNo as Symbol};
 ghost use Rattle.in_compile.specs.Cells.{count_of};
 ghost use Rattle.in_compile.specs.Templates.{AreTemplatesOf};
-ghost use Rattle.in_net.specs.Parts.{symbol_in};
-ghost use Rattle.in_reducer.specs.Machines.{parts_of};
 ghost use Rattle.in_reducer.specs.Parting.{ReducesTo};
 ghost use Rattle.in_reducer.specs.Same.{RunsUpToNumbers, StepsUpToNumbers};
 ghost use Rattle.in_reducer.specs.Steps.{HasRoomAt};
-ghost use Rattle.in_reducer.specs.Taking.{AreAhead, AreBehind, HasRoomBesides, HasRoomOn, TakesNoLast, together};
+ghost use Rattle.in_reducer.specs.Taking.{HasRoomBesides, HasRoomOn, TakesNoLast, together};
 ghost use Rattle.in_reducer.specs.Templates.{HasHeadsAt, IsTemplateAt};
 
 use crate::reducer::Reducer;
-use in_arena::{CellClass, CellNo};
+use in_arena::CellClass;
 use in_base::use_promise;
 use in_compile::{Need, Template, Templates};
 use in_symbols::SymbolNo;
@@ -22,10 +20,12 @@ use in_symbols::SymbolNo;
 /// choice.
 const TOGETHER: usize = 8;
 
-/// The orders in which pairs are taken.
+/// The ways in which pairs are taken.
 const OLDEST: u8 = 0;
 
-const NEWEST: u8 = 1;
+const TOGETHER_READ: u8 = 1;
+
+const NEWEST: u8 = 2;
 
 /// The number of times that `need` cells are in `free` ones: `u64::MAX` if none is needed.
 fn times_in(need: u32, free: u32) -> u64
@@ -35,36 +35,6 @@ fn times_in(need: u32, free: u32) -> u64
         u64::MAX
     } else {
         u64::from(free / need)
-    }
-}
-
-/// The symbols of pairs of the queue, read ahead: those from number `next` on are the symbols of the queue's first pairs.
-#[derive(Drop)]
-struct Ahead {
-    heads: [(SymbolNo, SymbolNo); TOGETHER],
-    next: usize,
-}
-
-impl Ahead {
-    /// No symbols are read.
-    fn none() -> Ahead
-        ensures { (result.next ≡ together) × (length result.heads ≡ together) }
-    {
-        Ahead {
-            heads: [(SymbolNo(0), SymbolNo(0)); TOGETHER],
-            next: TOGETHER,
-        }
-    }
-
-    /// The symbols of the first pair, which were read. The others then are those of the pairs behind it.
-    #[inline(always)]
-    fn take(&mut self) -> (SymbolNo, SymbolNo)
-        requires { self.old.next < together }
-        ensures { (slice_get self.old.heads self.old.next ≡ Some result) × (self.new.next ≡ self.old.next + 1) × (self.new.heads ≡ self.old.heads) }
-    {
-        let heads = self.heads[self.next];
-        self.next += 1;
-        heads
     }
 }
 
@@ -81,40 +51,48 @@ impl<'a> Reducer<'a> {
         }
     }
 
-    /// The symbols of the first pair. If none are left that were read, and enough pairs wait, the symbols of the pairs behind it are read with them.
-    #[inline(always)]
-    fn first_heads(&self, pair: (CellNo, CellNo), ahead: &mut Ahead) -> (SymbolNo, SymbolNo)
-        requires ahead { AreAhead self.now ahead.old }
-        requires pair { slice_get self.now.queue 0 ≡ Some (pair.0.0, pair.1.0) }
-        requires agents { IsSome (symbol_in (parts_of self.now) pair.0.0) × IsSome (symbol_in (parts_of self.now) pair.1.0) }
-        ensures heads { HasHeadsAt self.now 0 result }
-        ensures behind { AreBehind self.now ahead.new }
-    {
-        if ahead.next != TOGETHER {
-            return ahead.take();
-        }
-        if self.pairs() as usize >= TOGETHER {
-            self.read_heads(&mut ahead.heads);
-            ahead.next = 0;
-            return ahead.take();
-        }
-        (self.symbol(pair.0), self.symbol(pair.1))
-    }
-
     /// The interaction of the first pair, up to numbers. There must be a pair, and its cells must be free. The templates are those of the program.
     /// It takes no memory.
     #[inline(always)]
-    fn step_first(&mut self, templates: &Templates, ahead: &mut Ahead)
-        requires ahead { AreTemplatesOf self.old.program templates.now × AreAhead self.old ahead.old }
+    fn step_oldest(&mut self, templates: &Templates)
+        requires templates { AreTemplatesOf self.old.program templates.now }
         requires pair { 0 < length self.old.queue }
         requires room { HasRoomAt self.old 0 }
-        ensures { StepsUpToNumbers self.old 0 self.new × AreAhead self.new ahead.new }
+        ensures { StepsUpToNumbers self.old 0 self.new }
+    {
+        let pair = self.pair(0);
+        let template = self.template(templates, 0);
+        self.step_here::<OLDEST>(template, 0, pair);
+    }
+
+    /// The same, where the pair's symbols were read.
+    #[inline(always)]
+    fn step_read(&mut self, templates: &Templates, heads: (SymbolNo, SymbolNo))
+        requires templates { AreTemplatesOf self.old.program templates.now }
+        requires heads { HasHeadsAt self.old 0 heads }
+        requires room { HasRoomAt self.old 0 }
+        ensures { StepsUpToNumbers self.old 0 self.new }
+    {
+        let pair = self.pair(0);
+        let template = self.template_by(templates, 0, heads);
+        self.step_here::<TOGETHER_READ>(template, 0, pair);
+    }
+
+    /// Does the interactions of the first `TOGETHER` pairs, one after another, up to numbers. There must be as many pairs, and their cells must be
+    /// free. The pairs' symbols are read before: so their cells are fetched at once. The templates are those of the program. It takes no memory.
+    #[inline(always)]
+    fn take_together(&mut self, templates: &Templates)
+        requires templates { AreTemplatesOf self.old.program templates.now }
+        requires pairs { together ≤ length self.old.queue }
+        requires room { HasRoomOn together self.old }
+        ensures { RunsUpToNumbers self.old together self.new }
     {
         use_promise!(self.pairs());
-        let pair = self.pair(0);
-        let heads = self.first_heads(pair, ahead);
-        let template = self.template_by(templates, 0, heads);
-        self.step_here::<OLDEST>(template, 0, pair);
+        let mut heads = [(SymbolNo(0), SymbolNo(0)); TOGETHER];
+        self.read_heads(&mut heads);
+        for number in 0..TOGETHER {
+            self.step_read(templates, heads[number]);
+        }
     }
 
     /// A number of interactions that have the cells that they need, for any of the templates: the number of times that the largest need is in
@@ -161,14 +139,19 @@ impl<'a> Reducer<'a> {
         ensures fewer { result < sure → self.new.queue ≡ [] }
     {
         use_promise!(self.pairs());
-        let mut ahead = Ahead::none();
         let mut left = sure;
         while left > 0 {
-            if self.pairs() == 0 {
+            let pairs = self.pairs() as usize;
+            if pairs == 0 {
                 return sure - left;
             }
-            self.step_first(templates, &mut ahead);
-            left -= 1;
+            if pairs >= TOGETHER && left >= TOGETHER as u64 {
+                self.take_together(templates);
+                left -= TOGETHER as u64;
+            } else {
+                self.step_oldest(templates);
+                left -= 1;
+            }
         }
         sure
     }

@@ -68,6 +68,33 @@ fn begin_agents(member: &Member, arena: &mut Arena, points: &mut [EndWord])
     begin_rest(member, 0, arena, points);
 }
 
+/// Reads the other ends of the first two auxiliary ports of a live agent, of as many as it has, into the points from `first` on. Both points are
+/// written, so that nothing is tested: what is there for a port that the agent lacks is not read.
+#[inline(always)]
+fn read_near(arena: &Arena, cell: CellNo, first: u8, points: &mut [EndWord])
+    requires live { IsLive (state_at arena.now cell.0) }
+    requires few { first + 2 ≤ most_ends }
+    requires long { most_ends ≤ length points.old }
+    ensures { HasPortsIn arena.now cell first (first + 2) points.old points.new }
+{
+    let row = arena.row();
+    points[first as usize] = arena.near_in(row, cell, 1);
+    points[first as usize + 1] = arena.near_in(row, cell, 2);
+}
+
+/// Reads the other ends of the further auxiliary ports, in their order, into the points before `to`.
+#[inline(always)]
+fn read_far(arena: &Arena, cell: CellNo, first: u8, to: u8, points: &mut [EndWord])
+    requires ports { HasPortsFor arena.now cell first to (length points.old) }
+    requires some { first + 2 < to }
+    ensures { (before : List End) → HasPortsIn arena.now cell first (first + 2) before points.old → HasPortsIn arena.now cell first to before points.new }
+{
+    let row = arena.row();
+    for number in first + 2..to {
+        points[number as usize] = arena.far_in(row, cell, number - first + 1);
+    }
+}
+
 /// Reads the other ends of a live agent's auxiliary ports, in their order, into the points from `first` to before `to`. The agent has that many
 /// auxiliary ports.
 #[inline(always)]
@@ -75,22 +102,9 @@ fn read_agent(arena: &Arena, cell: CellNo, first: u8, to: u8, points: &mut [EndW
     requires { HasPortsFor arena.now cell first to (length points.old) }
     ensures { HasPortsIn arena.now cell first to points.old points.new }
 {
-    // Most agents have at most three auxiliary ports: these are read without a loop.
-    let row = arena.row();
-    if first == to {
-        return;
-    }
-    points[first as usize] = arena.word_in(row, cell, 1);
-    if first + 1 == to {
-        return;
-    }
-    points[first as usize + 1] = arena.word_in(row, cell, 2);
-    if first + 2 == to {
-        return;
-    }
-    points[first as usize + 2] = arena.word_in(row, cell, 3);
-    for number in first + 3..to {
-        points[number as usize] = arena.word(cell, number - first + 1);
+    read_near(arena, cell, first, points);
+    if first + 2 < to {
+        read_far(arena, cell, first, to, points);
     }
 }
 
@@ -99,8 +113,9 @@ fn read_agent(arena: &Arena, cell: CellNo, first: u8, to: u8, points: &mut [EndW
 fn read_ports(arena: &Arena, pair: Pair, many: u8, points: &mut [EndWord])
     requires { CanRead arena.now pair many points.old }
     ensures read { (e : ℕ) → e < many → slice_get points.new e ≡ end_there arena.now (port_at pair e) }
-    ensures others { (k : ℕ) → many ≤ k → slice_get points.new k ≡ slice_get points.old k }
+    ensures others { (k : ℕ) → most_ends ≤ k → slice_get points.new k ≡ slice_get points.old k }
 {
+    use_promise!(arena.places(pair.one));
     read_agent(arena, pair.one, 0, pair.first_ends, points);
     read_agent(arena, pair.other, pair.first_ends, many, points);
 }
@@ -241,15 +256,15 @@ fn begin_in(
     use_promise!(member.is_sound());
     let many = member.agents();
     if many == 0 {
-        arena.retire(pair.one);
-        arena.retire(pair.other);
+        arena.retire_as(pair.one, classes.0);
+        arena.retire_as(pair.other, classes.1);
         begin_rest(member, 0, arena, points);
         return;
     }
     let first = member.begin_in(0, pair.one, classes.0, arena);
     points[MOST_ENDS] = EndWord::place_of(first, 0);
     if many == 1 {
-        arena.retire(pair.other);
+        arena.retire_as(pair.other, classes.1);
         begin_rest(member, 1, arena, points);
         return;
     }
@@ -283,11 +298,13 @@ fn begin_anew(template: &Template, pair: Pair, arena: &mut Arena, points: &mut [
     ensures ends { (e : ℕ) → e < most_ends → slice_get points.new e ≡ slice_get points.old e }
     ensures long { length points.new ≡ length points.old }
 {
+    // The classes are read only where they are needed.
     let order = template.own_order();
-    let (own, classes) = own_cells(template, order.turned, pair);
     if order.both {
+        let (own, _) = own_cells(template, order.turned, pair);
         begin_both(template.member(), own, arena, points);
     } else {
+        let (own, classes) = own_cells(template, order.turned, pair);
         begin_in(template.member(), own, classes, arena, points);
     }
 }

@@ -12,9 +12,8 @@ use Rattle.in_reducer.specs.Machines.{MachineParts, parts_of}
 use Rattle.in_reducer.specs.Reducers.{IsReducer}
 use Rattle.in_reducer.specs.Same.{StepsUpToNumbers}
 use Rattle.in_reducer.specs.Steps.{StepsAt}
-use Rattle.in_reducer.specs.Taking.{AreAhead, AreBehind, together}
+use Rattle.in_reducer.specs.Taking.{AreAhead}
 use Rattle.in_reducer.specs.Templates.{HasHeadsAt}
-use Rattle.in_reducer.specs.declared.taking.Ahead.{Ahead}
 use Rattle.in_reducer.proofs.Pairs.Requeued.{other_pair}
 use Rattle.in_reducer.proofs.Numbers.OfSame.{reducer_same}
 use Rattle.in_reducer.proofs.Numbers.SameStep.{pair_moved}
@@ -62,25 +61,12 @@ heads_stay_same m n h (s, (f, same), step) i x at = heads_stay s n (reducer_same
 
 -- ---- read ahead
 
--- none is read
-pub none_ahead : (m : MachineParts) (a : Ahead) → a.next ≡ together → length a.heads ≡ together → AreAhead m a
-none_ahead m a all many = record { next = omega (arith, all); long = many; heads = λ k h at. absurd (let l = slice_get_within a.heads (a.next + k) h at in omega (arith, l, many, all)) }
-
-pub none_behind : (m : MachineParts) (a : Ahead) → a.next ≡ together → length a.heads ≡ together → AreBehind m a
-none_behind m a all many = record { next = omega (arith, all); long = many; heads = λ k h at. absurd (let l = slice_get_within a.heads (a.next + k) h at in omega (arith, l, many, all)) }
-
--- the first one is taken out
-pub one_taken : (m : MachineParts) (a b : Ahead) → AreAhead m a → a.next < together → b.next ≡ a.next + 1 → b.heads ≡ a.heads → AreBehind m b
-one_taken m a b ahead some next same = record {
-  next = omega (arith, next, some);
-  long = ap length same ∙ ahead.long;
-  heads = λ k x at. ahead.heads (k + 1) x
-      (ap (slice_get a.heads) (let z : a.next + (k + 1) ≡ b.next + k = omega (arith, next) in z) ∙ ap (λ (xs : List (SymbolNo × SymbolNo)). slice_get xs (b.next + k)) (sym same) ∙ at);
+-- the first pair interacts
+pub goes_on : (m n : MachineParts) → IsReducer m → StepsUpToNumbers m 0 n → (read : List (SymbolNo × SymbolNo)) (next : ℕ) → AreAhead m read next → AreAhead n read (next + 1)
+goes_on m n h s read next ahead = record {
+  long = ahead.long;
+  each = λ k x at. heads_stay_same m n h s k x (ahead.each (suc k) x (ap (slice_get read) (let z : next + suc k ≡ next + 1 + k = omega arith in z) ∙ at));
 }
-
--- .. and its pair interacts
-pub goes_on : (m n : MachineParts) → IsReducer m → StepsUpToNumbers m 0 n → (a : Ahead) → AreBehind m a → AreAhead n a
-goes_on m n h s a behind = record { next = behind.next; long = behind.long; heads = λ k x at. heads_stay_same m n h s k x (subst (λ (i : ℕ). HasHeadsAt m i x) (let z : k + 1 ≡ suc k = omega arith in z) (behind.heads k x at)) }
 
 -- ---- one after another
 

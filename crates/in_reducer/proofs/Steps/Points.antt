@@ -12,7 +12,7 @@ use Rattle.std.proofs.lemmas.List.FromFn.{length-enumerate_from}
 use Rattle.std.proofs.lemmas.List.Sums.{count_by-le-length, length-filter}
 use Rattle.in_arena.specs.Arenas.{ArenaView, state_at}
 use Rattle.in_arena.specs.Classes.{IsNumberOf}
-use Rattle.in_arena.specs.States.{end_at, word_of}
+use Rattle.in_arena.specs.States.{end_at, places, word_of}
 use Rattle.in_arena.specs.declared.content.CellNo.{CellNo}
 use Rattle.in_arena.specs.declared.content.End.{End}
 use Rattle.in_arena.specs.declared.content.End.TheVariants.{Cell}
@@ -22,8 +22,9 @@ use Rattle.in_compile.specs.Putting.{AreBegunBelow}
 use Rattle.in_compile.specs.Wires.{both_points, is_from_lowest, over_of, over_point, within_of}
 use Rattle.in_compile.proofs.Public.{read_at}
 use Rattle.in_reducer.specs.declared.sides.Pair.{Pair}
+use Rattle.in_reducer.specs.Inside.{most_ends}
 use Rattle.in_reducer.specs.Sides.{end_there, port_at}
-use Rattle.in_reducer.specs.Wiring.{AreAtAgents, CanBegin, HasBegun, HasBegunBelow, HasPortsIn, wires_of}
+use Rattle.in_reducer.specs.Wiring.{AreAtAgents, CanBegin, CanRead, HasBegun, HasBegunBelow, HasPortsIn, wires_of}
 
 -- ---- agents
 
@@ -71,44 +72,48 @@ still_begin m a points after same h = record { all = h.all; free = h.free; few =
 -- ---- boundary ends
 
 pub none_read : (a : ArenaView) (c : CellNo) (first : ℕ) (points : List End) → HasPortsIn a c first first points points
-none_read a c first points = record { read = λ e low high. absurd (omega (arith, low, high)); others = λ k out. λ i. slice_get points k; long = λ i. length points }
+none_read a c first points = record { read = λ e low high has. absurd (omega (arith, low, high)); others = λ k out. λ i. slice_get points k; long = λ i. length points }
 
 -- one more port is read
-pub one_more_read : (a : ArenaView) (c : CellNo) (first x : ℕ) (old points : List End) (v : End) → HasPortsIn a c first x old points → first ≤ x → x < length points → end_at (state_at a c.0) (suc (x - first)) ≡ Some v
-    → HasPortsIn a c first (x + 1) old (set points x v)
-one_more_read a c first x old points v h order low is = record {
-  read = λ e from l. read e from l (cases_eq e x);
-  others = λ k out. set_there points x k v (apart k out) ∙ h.others k (further k out);
+pub one_more_read : (a : ArenaView) (c : CellNo) (first x : ℕ) (old points : List End) (v : End) → HasPortsIn a c first x old points → first ≤ x → x < most_ends → most_ends ≤ length points
+    → (suc (x - first) < places (state_at a c.0) → end_at (state_at a c.0) (suc (x - first)) ≡ Some v) → HasPortsIn a c first (x + 1) old (set points x v)
+one_more_read a c first x old points v h order low long is = record {
+  read = λ e from l has. read e from l has (cases_eq e x);
+  others = λ k out. set_there points x k v (apart k out) ∙ h.others k out;
   long = length-set points x v ∙ h.long;
 }
   where
-    read : (e : ℕ) → first ≤ e → e < x + 1 → (e ≡ x) ⊎ (e ≢ x) → slice_get (set points x v) e ≡ end_at (state_at a c.0) (suc (e - first))
-    read e from l (inl same) = ap (slice_get (set points x v)) same ∙ set_here points x v low ∙ sym is ∙ ap (λ (e : ℕ). end_at (state_at a c.0) (suc (e - first))) (sym same)
-    read e from l (inr other) = set_there points x e v other ∙ h.read e from (let z : e < x = omega (arith, l, other) in z)
+    read : (e : ℕ) → first ≤ e → e < x + 1 → suc (e - first) < places (state_at a c.0) → (e ≡ x) ⊎ (e ≢ x) → slice_get (set points x v) e ≡ end_at (state_at a c.0) (suc (e - first))
+    read e from l has (inl same) =
+        let here = is (subst (λ (e : ℕ). suc (e - first) < places (state_at a c.0)) same has) in
+        ap (slice_get (set points x v)) same ∙ set_here points x v (omega (arith, low, long)) ∙ sym here ∙ ap (λ (e : ℕ). end_at (state_at a c.0) (suc (e - first))) (sym same)
+    read e from l has (inr other) = set_there points x e v other ∙ h.read e from (let z : e < x = omega (arith, l, other) in z) has
 
-    apart : (k : ℕ) → (k < first) ⊎ (x + 1 ≤ k) → k ≢ x
+    apart : (k : ℕ) → (k < first) ⊎ (most_ends ≤ k) → k ≢ x
     apart k (inl l) same = omega (arith, l, same, order)
-    apart k (inr l) same = omega (arith, l, same)
+    apart k (inr l) same = omega (arith, l, same, low)
 
-    further : (k : ℕ) → (k < first) ⊎ (x + 1 ≤ k) → (k < first) ⊎ (x ≤ k)
-    further k (inl l) = inl l
-    further k (inr l) = inr (let z : x ≤ k = omega (arith, l) in z)
+-- fewer ports are read, too
+pub fewer_read : (a : ArenaView) (c : CellNo) (first few many : ℕ) (old points : List End) → few ≤ many → HasPortsIn a c first many old points → HasPortsIn a c first few old points
+fewer_read a c first few many old points le h = record { read = λ e from l has. h.read e from (let z : e < many = omega (arith, l, le) in z) has; others = h.others; long = h.long }
 
 -- those of the first agent, and then those of the second one
-pub both_read : (a : ArenaView) (p : Pair) (many : ℕ) (old middle new : List End) → p.first_ends ≤ many → HasPortsIn a p.one 0 p.first_ends old middle → HasPortsIn a p.other p.first_ends many middle new
-    → ((e : ℕ) → e < many → slice_get new e ≡ end_there a (port_at p e)) × ((k : ℕ) → many ≤ k → slice_get new k ≡ slice_get old k)
-both_read a p many old middle new order one two = ((λ e l. read e l (nat_lt e p.first_ends) refl), λ k l. two.others k (inr l) ∙ one.others k (inr (let z : p.first_ends ≤ k = omega (arith, l, order) in z)))
+pub both_read : (a : ArenaView) (p : Pair) (many : ℕ) (old middle new : List End) → CanRead a p many old → HasPortsIn a p.one 0 p.first_ends old middle → HasPortsIn a p.other p.first_ends many middle new
+    → ((e : ℕ) → e < many → slice_get new e ≡ end_there a (port_at p e)) × ((k : ℕ) → most_ends ≤ k → slice_get new k ≡ slice_get old k)
+both_read a p many old middle new can one two = ((λ e l. read e l (nat_lt e p.first_ends) refl), λ k l. two.others k (inr l) ∙ one.others k (inr l))
   where
     read : (e : ℕ) → e < many → (b : Bool) → nat_lt e p.first_ends ≡ b → slice_get new e ≡ end_there a (port_at p e)
     read e l true is =
         let low : e < p.first_ends = grind (arith, nat_tests, is) in
         let from : e - 0 ≡ e = omega arith in
+        let first = can.first in
         let here : slice_get new e ≡ end_there a (p.one, suc e) =
-        two.others e (inl low) ∙ one.read e (let z : 0 ≤ e = omega arith in z) low ∙ ap (λ (z : ℕ). end_at (state_at a p.one.0) (suc z)) from in
+        two.others e (inl low) ∙ one.read e (let z : 0 ≤ e = omega arith in z) low (omega (arith, low, first)) ∙ ap (λ (z : ℕ). end_at (state_at a p.one.0) (suc z)) from in
         here ∙ ap (λ (b : Bool). end_there a (cond b (p.one, suc e) (p.other, suc (e - p.first_ends)))) (sym is)
     read e l false is =
         let high : p.first_ends ≤ e = grind (arith, nat_tests, is) in
-        let here : slice_get new e ≡ end_there a (p.other, suc (e - p.first_ends)) = two.read e high l in
+        let second = can.second in
+        let here : slice_get new e ≡ end_there a (p.other, suc (e - p.first_ends)) = two.read e high l (omega (arith, high, l, second)) in
         here ∙ ap (λ (b : Bool). end_there a (cond b (p.one, suc e) (p.other, suc (e - p.first_ends)))) (sym is)
 
 -- ---- wires

@@ -13,7 +13,7 @@ use Rattle.in_reducer.specs.Runs.{Runs, at_start, then_step}
 use Rattle.in_reducer.specs.Same.{RunsUpToNumbers}
 use Rattle.in_reducer.specs.Steps.{HasRoomAt, StepsAt}
 use Rattle.in_reducer.specs.Taking.{HasRoomOn}
-use Rattle.in_reducer.proofs.Numbers.Before.{reducer_runs}
+use Rattle.in_reducer.proofs.Numbers.Before.{reducer_runs, runs_on}
 use Rattle.in_reducer.proofs.Numbers.OfSame.{reducer_same}
 use Rattle.in_reducer.proofs.Numbers.SameStep.{need_moved}
 use Rattle.in_reducer.proofs.Steps.Found.{at_pair, its_need}
@@ -80,6 +80,10 @@ fewer_times few many need free le fits = let these : few * need ≤ many * need 
 
 pub fewer_have_room : (m : MachineParts) (few many : ℕ) → few ≤ many → HasRoomOn many m → HasRoomOn few m
 fewer_have_room m few many le room k n low run some = room k n (let z : k < many = omega (arith, low, le) in z) run some
+
+-- .. and the later ones have it after the first ones
+pub room_later : (m n : MachineParts) → IsReducer m → (done few many : ℕ) → RunsUpToNumbers m done n → few + done ≤ many → HasRoomOn many m → HasRoomOn few n
+room_later m n h done few many runs le room k o low more some = room (k + done) o (let z : k + done < many = omega (arith, low, le) in z) (runs_on m n o done k h runs more) some
 
 -- the first one has it if its cells are free
 pub one_has_room : (m : MachineParts) → HasRoomAt m 0 → HasRoomOn 1 m

@@ -1,4 +1,4 @@
-use Rattle.std.proofs.Common.{◌≡◌, ◌+◌, ◌∙◌, ap, get_or, set, Some, None, refl, sym, arith}
+use Rattle.std.proofs.Common.{◌≡◌, ◌∙◌, ap, get_or, set, Some, None, refl, sym, arith}
 use Rattle.in_arena.specs.FreeLists.{vacancy}
 use Rattle.in_arena.specs.Words.{head}
 use Rattle.in_arena.specs.declared.content.End.{End}
@@ -6,7 +6,6 @@ use Rattle.in_arena.specs.declared.content.End.TheVariants.{Cell}
 use Rattle.in_arena.specs.declared.free_list.FreeList.{FreeList}
 use Rattle.in_arena.proofs.Filling.{changes_twice}
 use Rattle.in_arena.proofs.Classes.{class_few}
-use Rattle.in_arena.proofs.FreeLists.{list_with}
 use Rattle.in_arena.proofs.Rewriting.{free_few, next_few, head_filled, head_rewrites, one_freed, put_in}
 use Rattle.in_arena.proofs.Rows.{with_word}
 use Rattle.in_arena.proofs.row.take_back.Goals as goal
@@ -22,11 +21,11 @@ port-requires c =
     let w = c.requires.words in let s = c.args.spot in let most = class_few s.cells w.1 s.class in
     (omega (arith, next_few s.cells s.class c.args.words.now c.args.lists.now w.2 c.requires.lists, most.0, ap (λ (l : FreeList). l.next) c.of-list.ensures), omega arith)
 
-pub overflow_add-list : goal.overflow_add-list
-overflow_add-list c =
-    let w = c.requires.words in let s = c.args.spot in let most = class_few s.cells w.1 s.class in let is = ap (λ (l : FreeList). l.free) c.of-list.ensures in
+pub push-requires : goal.push-requires
+push-requires c =
+    let w = c.requires.words in let s = c.args.spot in let most = class_few s.cells w.1 s.class in
     let few = free_few s.cells s.class c.args.words.now c.args.lists.now w.2 c.requires.lists in
-    record { fits = omega (arith, few, most.0, is) }
+    omega (arith, few, most.0)
 
 pub returns : goal.returns
 returns c =
@@ -35,7 +34,7 @@ returns c =
     let h : End = Cell (record { 0 = c.of-list.result.next }) 0 in
     let at : c.write.new.self.slots ≡ with_word s.cells both.slots s.class s.index head h = c.write.ensures.1 ∙ ap (λ n. set both.slots n (Some (Some c.port.result))) c.head.ensures ∙ ap (λ e. with_word s.cells both.slots s.class s.index head e) c.port.ensures in
     let r = head_rewrites both c.write.new.self s o.content o.index p.whole p.cell c.write.ensures.0 h tt at in
-    let z = one_freed s.cells s.class words c.args.lists.now w.2 c.requires.lists s.index o.index (ap vacancy o.out) c.write.new.self c.set.new.self (record { word = c.of-list.result.next; count = 0; ends = o.content.ends })
+    let z = one_freed s.cells s.class words c.args.lists.now w.2 c.requires.lists s.index o.index (ap vacancy o.out) c.write.new.self c.push.new.self (record { word = c.of-list.result.next; count = 0; ends = o.content.ends })
     (changes_twice s.cells words.slots both.slots c.write.new.self.slots s.class s.index p.changes r.changes) r.cell refl (ap (λ (l : FreeList). l.next) c.of-list.ensures)
-    (c.set.ensures.class ∙ ap (λ (l : FreeList). list_with s.index l.fresh (l.free + 1)) c.of-list.ensures) c.set.ensures.others in
+    c.push.ensures.class c.push.ensures.others in
     record { same = c.write.ensures.0 ∙ c.join.ensures.0; whole = r.whole; free = z.0; rows = z.1 }

@@ -26,24 +26,24 @@ none_below m a b points same = ([], subst (λ (v : ArenaView). AreBegunBelow m b
 pub begin_rest-requires-clause-begun : goal.begin_rest-requires-clause-begun
 begin_rest-requires-clause-begun c =
     let m = c.args.member.now in
-    let gone = both_retired c.args.pair c.args.arena.now c.retire.new.self c.retire-then-many-eq0.new.self c.retire.ensures c.retire-then-many-eq0.ensures in (
+    let gone = both_retired c.args.pair c.args.arena.now c.retire_as.new.self c.retire_as-then-many-eq0.new.self c.retire_as.ensures c.retire_as-then-many-eq0.ensures in (
       retired c.args.pair c.args.arena.now,
       taken.can_retired m c.is_sound.ensures c.args.pair c.args.arena.now c.requires.0 c.args.points.now c.requires.1,
-      none_below m c.retire-then-many-eq0.new.self (retired c.args.pair c.args.arena.now) c.args.points.now gone,
+      none_below m c.retire_as-then-many-eq0.new.self (retired c.args.pair c.args.arena.now) c.args.points.now gone,
     )
 
 pub returns-then-many-eq0-clause-begun : goal.returns-then-many-eq0-clause-begun
 returns-then-many-eq0-clause-begun c =
     let m = c.args.member.now in
-    let gone = both_retired c.args.pair c.args.arena.now c.retire.new.self c.retire-then-many-eq0.new.self c.retire.ensures c.retire-then-many-eq0.ensures in
+    let gone = both_retired c.args.pair c.args.arena.now c.retire_as.new.self c.retire_as-then-many-eq0.new.self c.retire_as.ensures c.retire_as-then-many-eq0.ensures in
     c.begin_rest.ensures.begun (retired c.args.pair c.args.arena.now) (taken.can_retired m c.is_sound.ensures c.args.pair c.args.arena.now c.requires.0 c.args.points.now c.requires.1)
-    (none_below m c.retire-then-many-eq0.new.self (retired c.args.pair c.args.arena.now) c.args.points.now gone)
+    (none_below m c.retire_as-then-many-eq0.new.self (retired c.args.pair c.args.arena.now) c.args.points.now gone)
 
 pub begin_in-first-requires-clause-free : goal.begin_in-first-requires-clause-free
 begin_in-first-requires-clause-free c = taken.first_free c.args.member.now c.is_sound.ensures c.args.pair c.args.arena.now c.requires.0 c.args.points.now c.requires.1
 
-pub retire-requires-then-many-eq1 : goal.retire-requires-then-many-eq1
-retire-requires-then-many-eq1 c =
+pub retire_as-requires-then-many-eq1-clause-live : goal.retire_as-requires-then-many-eq1-clause-live
+retire_as-requires-then-many-eq1-clause-live c =
     let m = c.args.member.now in
     let x = at_index m.agents 0 (let many = c.agents-many.ensures in let f = c.if-many-eq1.true in omega (arith, many, f)) in
     taken.other_live m c.is_sound.ensures c.args.pair c.args.arena.now c.requires.0 c.args.points.now c.requires.1 x.0 x.1 c.begin_in-first.result c.begin_in-first.new.arena (c.begin_in-first.ensures x.0 x.1)
@@ -57,8 +57,8 @@ begin_rest-requires-then-many-eq1-clause-begun c =
     let below = taken.first_below m c.is_sound.ensures c.args.pair c.args.arena.now c.requires.0 points c.requires.1 x.0 x.1 c.begin_in-first.result c.begin_in-first.new.arena (c.begin_in-first.ensures x.0 x.1) in (
       retired c.args.pair c.args.arena.now,
       still_begin m (retired c.args.pair c.args.arena.now) points (set points 32 c.place_of.result) (length-set points 32 c.place_of.result) (taken.can_retired m c.is_sound.ensures c.args.pair c.args.arena.now c.requires.0 points c.requires.1),
-      one_below m (retired c.args.pair c.args.arena.now) c.retire-then-many-eq1.new.self c.begin_in-first.result points c.place_of.result
-          (subst (λ (v : ArenaView). AreBegunBelow m (retired c.args.pair c.args.arena.now) 1 v (c.begin_in-first.result ∷ [])) (sym c.retire-then-many-eq1.ensures) below) (omega (arith, long)) c.place_of.ensures,
+      one_below m (retired c.args.pair c.args.arena.now) c.retire_as-then-many-eq1.new.self c.begin_in-first.result points c.place_of.result
+          (subst (λ (v : ArenaView). AreBegunBelow m (retired c.args.pair c.args.arena.now) 1 v (c.begin_in-first.result ∷ [])) (sym c.retire_as-then-many-eq1.ensures) below) (omega (arith, long)) c.place_of.ensures,
     )
 
 pub returns-then-many-eq1-clause-begun : goal.returns-then-many-eq1-clause-begun
@@ -70,8 +70,8 @@ returns-then-many-eq1-clause-begun c =
     let below = taken.first_below m c.is_sound.ensures c.args.pair c.args.arena.now c.requires.0 points c.requires.1 x.0 x.1 c.begin_in-first.result c.begin_in-first.new.arena (c.begin_in-first.ensures x.0 x.1) in
     c.begin_rest-then-many-eq1.ensures.begun (retired c.args.pair c.args.arena.now)
     (still_begin m (retired c.args.pair c.args.arena.now) points (set points 32 c.place_of.result) (length-set points 32 c.place_of.result) (taken.can_retired m c.is_sound.ensures c.args.pair c.args.arena.now c.requires.0 points c.requires.1))
-    (one_below m (retired c.args.pair c.args.arena.now) c.retire-then-many-eq1.new.self c.begin_in-first.result points c.place_of.result
-    (subst (λ (v : ArenaView). AreBegunBelow m (retired c.args.pair c.args.arena.now) 1 v (c.begin_in-first.result ∷ [])) (sym c.retire-then-many-eq1.ensures) below) (omega (arith, long)) c.place_of.ensures)
+    (one_below m (retired c.args.pair c.args.arena.now) c.retire_as-then-many-eq1.new.self c.begin_in-first.result points c.place_of.result
+    (subst (λ (v : ArenaView). AreBegunBelow m (retired c.args.pair c.args.arena.now) 1 v (c.begin_in-first.result ∷ [])) (sym c.retire_as-then-many-eq1.ensures) below) (omega (arith, long)) c.place_of.ensures)
 
 pub returns-then-many-eq1-clause-ends : goal.returns-then-many-eq1-clause-ends
 returns-then-many-eq1-clause-ends c = λ e low. c.begin_rest-then-many-eq1.ensures.ends e low ∙ set_there c.args.points.now 32 e c.place_of.result (λ same. omega (arith, low, same))
@@ -137,3 +137,15 @@ returns-clause-begun c =
 pub returns-clause-ends : goal.returns-clause-ends
 returns-clause-ends c = λ e low.
     c.begin_rest-2.ensures.ends e low ∙ set_there (set c.args.points.now 32 c.place_of.result) 33 e c.place_of-2.result (λ same. omega (arith, low, same)) ∙ set_there c.args.points.now 32 e c.place_of.result (λ same. omega (arith, low, same))
+
+pub retire_as-requires-clause-class : goal.retire_as-requires-clause-class
+retire_as-requires-clause-class c = c.requires.2.0
+
+pub retire_as-requires-then-many-eq0-clause-class : goal.retire_as-requires-then-many-eq0-clause-class
+retire_as-requires-then-many-eq0-clause-class c = subst (λ (v : ArenaView). IsNumberOf v.cells c.args.classes.1 c.args.pair.other.0) (sym c.retire_as.ensures) c.requires.2.1
+
+pub retire_as-requires-then-many-eq1-clause-class : goal.retire_as-requires-then-many-eq1-clause-class
+retire_as-requires-then-many-eq1-clause-class c =
+    let m = c.args.member.now in
+    let x = at_index m.agents 0 (let many = c.agents-many.ensures in let f = c.if-many-eq1.true in omega (arith, many, f)) in
+    subst (λ (v : ArenaView). IsNumberOf v.cells c.args.classes.1 c.args.pair.other.0) (sym (c.begin_in-first.ensures x.0 x.1).arena) c.requires.2.1

@@ -6,6 +6,7 @@ use Rattle.in_cells.specs.Cells.{KeepsCells}
 use Rattle.in_cells.proofs.Public.{keep_on}
 use Rattle.in_compile.specs.Members.{MemberParts}
 use Rattle.in_reducer.specs.declared.sides.Pair.{Pair}
+use Rattle.in_reducer.specs.Inside.{most_ends}
 use Rattle.in_reducer.specs.Wiring.{AreAtAgents, HasBegun, retired}
 use Rattle.in_reducer.proofs.Steps.CanWire as can
 use Rattle.in_reducer.proofs.Steps.Points.{over_few}
@@ -67,7 +68,7 @@ write_over-requires-clause-ready c =
       b.0,
       can.can_wire t q.0 p c.args.pair q.1 c.args.arena.now c.args.ends.now q.2 b.0 c.begin_agents.new.arena begun ready.unmarked c.retire-2.new.self (both_retired c.args.pair c.begin_agents.new.arena c.retire.new.self c.retire-2.new.self c.retire.ensures c.retire-2.ensures) c.read_ports.new.points
           (λ e low. c.read_ports.ensures.read e (let l : e < c.boundary_ends.result = omega (arith, low, many) in l))
-          (λ k low. c.read_ports.ensures.others (32 + k) (let l : c.boundary_ends.result ≤ 32 + k = omega (arith, many, few) in l) ∙ b.2 k low),
+          (λ k low. c.read_ports.ensures.others (32 + k) (let l : most_ends ≤ 32 + k = omega arith in l) ∙ b.2 k low),
     )
 
 pub write_over-requires-clause-room : goal.write_over-requires-clause-room
@@ -89,7 +90,7 @@ write_within-requires c =
     let begun = begun_there c.member.result.now p.member b.0 c.args.arena.now c.begin_agents.new.arena c.member.ensures b.1 in
     let start = can.can_wire t q.0 p c.args.pair q.1 c.args.arena.now c.args.ends.now q.2 b.0 c.begin_agents.new.arena begun ready.unmarked c.retire-2.new.self (both_retired c.args.pair c.begin_agents.new.arena c.retire.new.self c.retire-2.new.self c.retire.ensures c.retire-2.ensures) c.read_ports.new.points
     (λ e low. c.read_ports.ensures.read e (let l : e < c.boundary_ends.result = omega (arith, low, many) in l))
-    (λ k low. c.read_ports.ensures.others (32 + k) (let l : c.boundary_ends.result ≤ 32 + k = omega (arith, many, few) in l) ∙ b.2 k low) in
+    (λ k low. c.read_ports.ensures.others (32 + k) (let l : most_ends ≤ 32 + k = omega arith in l) ∙ b.2 k low) in
     record { ready = (t, q.0, q.1, b.0, c.write_over.ensures.written t q.0 q.1 b.0 start) }
 
 pub returns-clause-wired : goal.returns-clause-wired
@@ -101,7 +102,7 @@ returns-clause-wired c = λ t ready. (
     let many = c.boundary_ends.ensures in
     let few = ready.few in
     let begun = begun_there c.member.result.now p.member b.0 c.args.arena.now middle c.member.ensures b.1 in
-    let at : AreAtAgents b.0 points = (λ k low. c.read_ports.ensures.others (32 + k) (let l : c.boundary_ends.result ≤ 32 + k = omega (arith, many, few) in l) ∙ b.2 k low) in
+    let at : AreAtAgents b.0 points = (λ k low. c.read_ports.ensures.others (32 + k) (let l : most_ends ≤ 32 + k = omega arith in l) ∙ b.2 k low) in
     let read : (e : ℕ) → e < length p.member.joints → _ = (λ e low. c.read_ports.ensures.read e (let l : e < c.boundary_ends.result = omega (arith, low, many) in l)) in
     record {
       cells = b.0;

@@ -2,9 +2,9 @@ use Rattle.std.proofs.Common.{◌≤◌, ◌∙◌, ap, subst, get_or, set, None
 use Rattle.in_arena.specs.Arenas.{ArenaView}
 use Rattle.in_arena.specs.Classes.{IsNumberOf, width}
 use Rattle.in_arena.specs.declared.content.End.TheVariants.{Cell}
-use Rattle.in_arena.proofs.Classes.{numbers_apart}
+use Rattle.in_arena.proofs.Classes.{held_some, numbers_apart}
 use Rattle.in_arena.proofs.Arenas.{live_inside}
-use Rattle.in_arena.proofs.Inside.{head_found, head_set, held_some, inside_all, live_of, near_spot}
+use Rattle.in_arena.proofs.Inside.{head_found, head_set, inside_all, live_of, near_spot}
 use Rattle.in_arena.proofs.Seen.{number_of_place}
 use Rattle.in_arena.proofs.RowStarts.{row_at}
 use Rattle.in_arena.proofs.arena.Arena.renew_in.Goals as goal

@@ -3,9 +3,8 @@ use Rattle.in_arena.specs.Arenas.{ArenaView}
 use Rattle.in_arena.specs.Classes.{Holds, IsNumberOf}
 use Rattle.in_arena.specs.FreeLists.{state_in}
 use Rattle.in_arena.specs.Words.{Content, cell_in}
-use Rattle.in_arena.proofs.Classes.{numbers_apart}
+use Rattle.in_arena.proofs.Classes.{held_some, numbers_apart}
 use Rattle.in_arena.proofs.FreeLists.{begun}
-use Rattle.in_arena.proofs.Inside.{held_some}
 use Rattle.in_arena.proofs.Kept.{bag_cell, bag_long, bag_rewritten}
 use Rattle.in_arena.proofs.Seen.{number_of_place}
 use Rattle.in_arena.proofs.bag.Bag.begin.Goals as goal

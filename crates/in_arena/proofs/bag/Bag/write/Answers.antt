@@ -3,8 +3,8 @@ use Rattle.in_arena.specs.Arenas.{ArenaView}
 use Rattle.in_arena.specs.Classes.{Holds, IsNumberOf, width}
 use Rattle.in_arena.specs.States.{Live}
 use Rattle.in_arena.specs.Words.{cell_in}
-use Rattle.in_arena.proofs.Classes.{numbers_apart}
-use Rattle.in_arena.proofs.Inside.{held_some, written_state}
+use Rattle.in_arena.proofs.Classes.{held_some, numbers_apart}
+use Rattle.in_arena.proofs.Inside.{written_state}
 use Rattle.in_arena.proofs.Kept.{bag_cell, bag_rewritten}
 use Rattle.in_arena.proofs.Seen.{number_of_place}
 use Rattle.in_arena.proofs.bag.Bag.write.Goals as goal

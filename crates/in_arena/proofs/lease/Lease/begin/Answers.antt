@@ -4,7 +4,8 @@ use Rattle.in_arena.specs.Classes.{Holds}
 use Rattle.in_arena.specs.FreeLists.{state_in}
 use Rattle.in_arena.specs.Words.{Content}
 use Rattle.in_arena.proofs.FreeLists.{begun}
-use Rattle.in_arena.proofs.Inside.{held_some, lease_long, lease_rewrites, lease_written}
+use Rattle.in_arena.proofs.Classes.{held_some}
+use Rattle.in_arena.proofs.Inside.{lease_long, lease_rewrites, lease_written}
 use Rattle.in_arena.proofs.lease.Lease.begin.Goals as goal
 
 pub invariant_of-self : goal.invariant_of-self

@@ -22,10 +22,10 @@ renew-requires-clause-own c = λ a at.
     subst (λ (d : CellClass). IsNumberOf c.args.arena.now.cells d c.args.cell.0) (same ∙ sym class) c.requires.own
 
 pub begin-requires-clause-all : goal.begin-requires-clause-all
-begin-requires-clause-all c = subst HasAllCells (sym c.retire.ensures) (all_stay c.args.arena.now c.args.cell.0 c.requires.all)
+begin-requires-clause-all c = subst HasAllCells (sym c.retire_as.ensures) (all_stay c.args.arena.now c.args.cell.0 c.requires.all)
 
 pub begin-requires-clause-free : goal.begin-requires-clause-free
-begin-requires-clause-free c = λ a at. subst (λ (v : ArenaView). 0 < free_of v a.class) (sym c.retire.ensures) (c.requires.free a at)
+begin-requires-clause-free c = λ a at. subst (λ (v : ArenaView). 0 < free_of v a.class) (sym c.retire_as.ensures) (c.requires.free a at)
 
 pub returns : goal.returns
-returns c = λ a at. subst (λ (v : ArenaView). BeginsAgent a v c.begin.result.0 c.begin.new.arena) c.retire.ensures (c.begin.ensures a at)
+returns c = λ a at. subst (λ (v : ArenaView). BeginsAgent a v c.begin.result.0 c.begin.new.arena) c.retire_as.ensures (c.begin.ensures a at)
