@@ -28,6 +28,10 @@ same_program m o (suc k) (then_step _ n _ _ before s) = s.step.program ∙ same_
 pub program_stays : (m n : MachineParts) (k : ℕ) → RunsUpToNumbers m k n → n.program ≡ m.program
 program_stays m n k (s, same, run) = same_program s n k run ∙ same.1.program
 
+-- .. and so does the invariant
+pub reducer_on : (m n : MachineParts) (k : ℕ) → IsReducer m → RunsUpToNumbers m k n → IsReducer n
+reducer_on m n k h (s, same, run) = reducer_runs s n k (reducer_same m s h same.0 same.1) run
+
 -- ---- the largest need
 
 module _ (ts : TemplatesParts) (most : Need) (is : IsLargestNeed ts.templates most) where

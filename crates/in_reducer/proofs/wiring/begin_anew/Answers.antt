@@ -32,11 +32,11 @@ begin_both-requires-clause-taken c =
 
 pub begin_in-requires : goal.begin_in-requires
 begin_in-requires c =
-    let own = c.own_cells.result in
+    let own = c.own_cells-else-order.result in
     let order = c.own_order-order.result.turned in (
-      turned.own_live c.args.pair c.args.arena.now c.requires.0 order c.args.template.now.classes own.1 own.0 c.own_cells.ensures,
+      turned.own_live c.args.pair c.args.arena.now c.requires.0 order c.args.template.now.classes own.1 own.0 c.own_cells-else-order.ensures,
       subst (λ (m : MemberParts). CanBegin m c.args.arena.now c.args.points.now) (sym c.member-else-order.ensures) c.requires.1,
-      turned.own_classed c.args.pair c.args.arena.now c.requires.0 order c.args.template.now.classes own.1 own.0 c.own_cells.ensures c.requires.2,
+      turned.own_classed c.args.pair c.args.arena.now c.requires.0 order c.args.template.now.classes own.1 own.0 c.own_cells-else-order.ensures c.requires.2,
     )
 
 pub returns-then-order-clause-begun : goal.returns-then-order-clause-begun
@@ -47,6 +47,6 @@ returns-then-order-clause-begun c =
 
 pub returns-else-order-clause-begun : goal.returns-else-order-clause-begun
 returns-else-order-clause-begun c =
-    let own = c.own_cells.result in
+    let own = c.own_cells-else-order.result in
     begun_there c.member-else-order.result.now c.args.template.now.member (retired c.args.pair c.args.arena.now) (retired own.0 c.args.arena.now) c.begin_in.new.arena c.begin_in.new.points c.member-else-order.ensures
-    (turned.own_retired c.args.pair c.args.arena.now c.requires.0 c.own_order-order.result.turned c.args.template.now.classes own.1 own.0 c.own_cells.ensures) c.begin_in.ensures.begun
+    (turned.own_retired c.args.pair c.args.arena.now c.requires.0 c.own_order-order.result.turned c.args.template.now.classes own.1 own.0 c.own_cells-else-order.ensures) c.begin_in.ensures.begun

@@ -1,13 +1,11 @@
 use Rattle.std.proofs.Common.{◌≡◌, ◌≤◌, ◌-◌}
 use Rattle.in_reducer.specs.Same.{RunsUpToNumbers}
-use Rattle.in_reducer.specs.Taking.{AreAhead}
 use Rattle.in_reducer.proofs.reducer.Reducer.take_sure.Given as goal
 
 abbrev pub invariant-loop-left : goal.invariant-loop-left
 invariant-loop-left l = record {
   few : l.left ≤ l.sure;
   runs : RunsUpToNumbers l.initial.self (l.sure - l.left) l.self;
-  ahead : AreAhead l.self l.ahead;
   program : l.self.program ≡ l.initial.self.program;
 }
 
