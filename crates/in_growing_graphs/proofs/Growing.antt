@@ -5,7 +5,7 @@ use Rattle.std.proofs.lemmas.Bool.Decides.{eqb_tells}
 use Rattle.in_base.proofs.Places.{last_at}
 use Rattle.in_simple_bridges.specs.Walks.{EdgeWalk, done, along, HasTwoEnds, IsOnCycle, Other}
 use Rattle.in_simple_bridges.proofs.Public.{joins_same}
-use Rattle.in_growing_graphs.specs.Blobs.{AreBlobs, AreInOneBlob, CoversWay, GoesUp, HasHead, IsOnWay, IsRooted, LeadsFromHead, over, there, with_value}
+use Rattle.in_growing_graphs.specs.Blobs.{AreBlobs, AreInOneBlob, CoversWay, GoesUp, HasHead, IsOnOneWay, IsRooted, LeadsFromHead, over, there, with_value}
 use Rattle.in_growing_graphs.specs.Laws.{NoEdgeHasBlobs, added}
 use Rattle.in_growing_graphs.proofs.Bridges.{not_both, one_up}
 use Rattle.in_growing_graphs.proofs.Walks.{back, cycle_kept, ends_cases, ends_kept, new_edge, on_cycle, small, walk_on}
@@ -183,10 +183,10 @@ module _ (edges : List (ℕ × ℕ)) (up via depth : ℕ → ℕ) (old : ℕ →
       across = along a b b (new_edge edges a b (via x) (λ s. let l = small edges (via x) x p (blobs.rooted.tree x p is_up) in omega (arith, s, l))) (done b)
 
       -- from x down to one end of the new edge, over it, up and down again
-      round : (c d : ℕ) → Walk c d → IsOnWay up c d ways.meet x p → Walk x p
+      round : (c d : ℕ) → Walk c d → IsOnOneWay up c d ways.meet x p → Walk x p
       round c d over_it way = join x c p (back more (via x) c x (walk_up c x way.0)) (join c d p over_it (join d ways.meet p (walk_up d ways.meet way.2) (back more (via x) p ways.meet (walk_up p ways.meet way.1))))
 
-      on_way : IsOnWay up a b ways.meet x p ⊎ IsOnWay up b a ways.meet x p → IsOnCycle more (via x)
+      on_way : IsOnOneWay up a b ways.meet x p ⊎ IsOnOneWay up b a ways.meet x p → IsOnCycle more (via x)
       on_way (inl way) = on_cycle more (via x) x p (ends_kept edges a b (via x) x p (blobs.rooted.tree x p is_up)) (round a b across way)
       on_way (inr way) = on_cycle more (via x) x p (ends_kept edges a b (via x) x p (blobs.rooted.tree x p is_up)) (round b a (back more (via x) a b across) way)
 

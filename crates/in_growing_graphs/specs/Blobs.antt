@@ -51,8 +51,8 @@ abbrev pub with_value : (ℕ → ℕ) → ℕ → ℕ → ℕ → ℕ
 with_value f a v x = cond (nat_eq x a) v (f x)
 
 -- the edge above x, to p, is on the way from a up to z, and not on the one from b
-abbrev pub IsOnWay : (ℕ → ℕ) → (a b z x p : ℕ) → Type 0
-IsOnWay up a b z x p = GoesUp up (λ y. y ≢ x) a x × GoesUp up (λ y. y ≢ x) p z × GoesUp up (λ y. y ≢ x) b z
+abbrev pub IsOnOneWay : (ℕ → ℕ) → (a b z x p : ℕ) → Type 0
+IsOnOneWay up a b z x p = GoesUp up (λ y. y ≢ x) a x × GoesUp up (λ y. y ≢ x) p z × GoesUp up (λ y. y ≢ x) b z
 
 -- the edges on the way between a and b are covered too
 pub record CoversWay (up : ℕ → ℕ) (old new : ℕ → Bool) (a b : ℕ) : Type 0 where
@@ -60,4 +60,4 @@ pub record CoversWay (up : ℕ → ℕ) (old new : ℕ → Bool) (a b : ℕ) : T
   pub meet : ℕ
   pub one : GoesUp up (λ x. new x ≡ true) a meet
   pub other : GoesUp up (λ x. new x ≡ true) b meet
-  pub only : (x : ℕ) → new x ≡ true → old x ≡ false → (p : ℕ) × (up x ≡ suc p) × (IsOnWay up a b meet x p ⊎ IsOnWay up b a meet x p)
+  pub only : (x : ℕ) → new x ≡ true → old x ≡ false → (p : ℕ) × (up x ≡ suc p) × (IsOnOneWay up a b meet x p ⊎ IsOnOneWay up b a meet x p)

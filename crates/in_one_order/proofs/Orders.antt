@@ -8,7 +8,7 @@ use Rattle.in_open_nets.specs.Splitting.{alone, Without, IsComponent, Splits, no
 use Rattle.in_open_nets.specs.Stuck.{FirstStuck, IsFirstToSplit, IsPart, whole, within}
 use Rattle.in_open_nets.proofs.Public.{component, is_component, link_map, linked, not_both, one_first, same_nat, same_test, test_yes}
 use Rattle.in_one_order.specs.Laws.{AreNodes}
-use Rattle.in_one_order.specs.Orders.{IsFirstOrNone, IsMet, IsOrder, NoneSplits, ends, first_in, itself, piece, takes}
+use Rattle.in_one_order.specs.Orders.{IsFirstOrNone, IsMet, IsOrder, NoNodeSplits, ends, first_in, itself, piece, takes}
 use Rattle.in_one_order.proofs.Components.{AreComponents, In, all_of, first_of_components, left_both, left_other, link_within, of_components, part_of, splits_larger}
 
 by_test : (o : OpenNet) (p : ℕ → Bool) (n : ℕ) (found : Option ℕ) (b : Bool) → (b ≡ true → IsFirstToSplit o n p) → (b ≡ false → IsFirstOrNone o p found) → IsFirstOrNone o p (cond b (Some n) found)
@@ -155,7 +155,7 @@ module _ (o : OpenNet) (net : IsOpenNet o) where
   -- ---- the first stuck sub-net
 
   -- components that no node splits are components of what is left
-  stays : (s rest : ℕ → Bool) (ns : List ℕ) → IsOrder o s ns rest → (p : ℕ → Bool) → Some_of p s → NoneSplits o p → Some_of p rest
+  stays : (s rest : ℕ → Bool) (ns : List ℕ) → IsOrder o s ns rest → (p : ℕ → Bool) → Some_of p s → NoNodeSplits o p → Some_of p rest
   stays s _ _ (ends _ h) p c stuck = c
   stays s rest _ (takes _ t _ n ns f left later) p c stuck = elim (cases_Bool (p n)) [
     | inl here ↦ absurd (stuck n here (first_of_components o p s n c here f).splits)

@@ -15,8 +15,8 @@ abbrev pub SplitsInItsComponent : Type 0
 SplitsInItsComponent = (o : OpenNet) (s c : NodeTest) (n : ℕ) → IsComponent (open_graph o) (λ m. IsIn m s) c → IsIn n c → SplitsAt (open_graph o) n c ↔ SplitsAt (open_graph o) n s
 
 -- a set has at most one order
-abbrev pub OrdersAreOne : Type 0
-OrdersAreOne = (o : OpenNet) → IsOpenNet o → (s r t : NodeTest) (ns ms : List ℕ) → IsOrder o s ns r → IsOrder o s ms t → (ns ≡ ms) × (r ≡ t)
+abbrev pub NodeOrdersAreOne : Type 0
+NodeOrdersAreOne = (o : OpenNet) → IsOpenNet o → (s r t : NodeTest) (ns ms : List ℕ) → IsOrder o s ns r → IsOrder o s ms t → (ns ≡ ms) × (r ≡ t)
 
 -- in each part that is met, the first node of the order is the first one that splits it; and if none is there, none splits it
 abbrev pub OneOrderForAllParts : Type 0

@@ -6,12 +6,12 @@ use Rattle.in_open_nets.specs.Splitting.{SplitsAt, Without}
 use Rattle.in_open_nets.specs.Stuck.{IsFirstToSplit, IsPart}
 
 -- no node of s splits it
-abbrev pub NoneSplits : OpenNet → NodeTest → Type 0
-NoneSplits o s = (n : ℕ) → IsIn n s → SplitsAt (open_graph o) n s → ⊥
+abbrev pub NoNodeSplits : OpenNet → NodeTest → Type 0
+NoNodeSplits o s = (n : ℕ) → IsIn n s → SplitsAt (open_graph o) n s → ⊥
 
 -- these nodes are taken out of s in turn, each of them the first one that splits what is left; then no node splits the rest
 pub data IsOrder (o : OpenNet) : NodeTest → List ℕ → NodeTest → Type 0 where
-  ends : (s : NodeTest) → NoneSplits o s → IsOrder o s [] s
+  ends : (s : NodeTest) → NoNodeSplits o s → IsOrder o s [] s
   takes : (s t rest : NodeTest) (n : ℕ) (ns : List ℕ) → IsFirstToSplit o n s → ((m : ℕ) → IsIn m t ↔ Without n s m) → IsOrder o t ns rest → IsOrder o s (n ∷ ns) rest
 
 -- the parts that deriving s meets: s itself, and each component of such a part without the first node that splits it
@@ -26,4 +26,4 @@ first_in p (n ∷ ns) = cond (p n) (Some n) (first_in p ns)
 
 -- this is the first node that splits p, or none does
 abbrev pub IsFirstOrNone : OpenNet → NodeTest → Option ℕ → Type 0
-IsFirstOrNone o p found = MatchOption found (NoneSplits o p) (λ n. IsFirstToSplit o n p)
+IsFirstOrNone o p found = MatchOption found (NoNodeSplits o p) (λ n. IsFirstToSplit o n p)

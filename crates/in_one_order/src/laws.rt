@@ -1,6 +1,6 @@
 //! Laws on the one order of an open net's nodes, for proofs above them. No function here does anything.
 
-ghost use Rattle.in_one_order.specs.Laws.{FirstStuckIsLeft, OneOrderForAllParts, OrdersAreOne, SplitsInItsComponent, SplitsSmallerSets, SplitsWhereAllTaken};
+ghost use Rattle.in_one_order.specs.Laws.{FirstStuckIsLeft, NodeOrdersAreOne, OneOrderForAllParts, SplitsInItsComponent, SplitsSmallerSets, SplitsWhereAllTaken};
 
 /// A node that splits a set of nodes splits each smaller set.
 pub fn splits_smaller_sets()
@@ -13,8 +13,8 @@ pub fn splits_in_its_component()
 {}
 
 /// A set has at most one order.
-pub fn orders_are_one()
-    ensures { OrdersAreOne }
+pub fn node_orders_are_one()
+    ensures { NodeOrdersAreOne }
 {}
 
 /// In each part that deriving meets, the node that it takes out is the first one of the order there; where none is, no node splits the
