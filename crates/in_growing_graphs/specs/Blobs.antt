@@ -1,0 +1,63 @@
+-- Vertices joined by two ways, and how a forest keeps them. This project's own.
+use Rattle.std.specs.Prelude.{◌≡◌, ◌≢◌, ◌⊎◌, ℕ, suc, ◌<◌, ◌≤◌, Bool, true, false, cond, nat_eq, List}
+use Rattle.in_simple_bridges.specs.Walks.{EdgeWalk, HasTwoEnds, IsOnCycle, Other}
+
+-- whichever edge is left out, a walk leads from one vertex to the other
+abbrev pub AreJoinedTwice : List (ℕ × ℕ) → ℕ → ℕ → Type 0
+AreJoinedTwice edges u v = (e : ℕ) → EdgeWalk ℕ (Other edges e) u v
+
+-- ---- a forest
+
+-- up is 0 for a root, and one more than the vertex above for another vertex; via is the edge between them; each vertex is deeper than the one above
+pub record IsRooted (edges : List (ℕ × ℕ)) (up via depth : ℕ → ℕ) : Type 0 where
+  pub tree : (x p : ℕ) → up x ≡ suc p → HasTwoEnds edges (via x) x p
+  pub deeper : (x p : ℕ) → up x ≡ suc p → depth p < depth x
+
+-- going up from one vertex comes to the other, each vertex that is left having P
+pub data GoesUp (up : ℕ → ℕ) (P : ℕ → Type 0) : ℕ → ℕ → Type 0 where
+  there : (x : ℕ) → GoesUp up P x x
+  over : (x p y : ℕ) → P x → up x ≡ suc p → GoesUp up P p y → GoesUp up P x y
+
+-- .. where the vertices are numbered from the roots on, and the edge above a vertex is the first in the list of those that lead from lower numbers
+-- to its own or a higher one
+pub record IsEarliest (edges : List (ℕ × ℕ)) (up via : ℕ → ℕ) : Type 0 where
+  pub rooted : IsRooted edges up via (λ x. x)
+  pub first : (x k u v : ℕ) → HasTwoEnds edges k u v → u < x → x ≤ v → (0 < up x) × (via x ≤ k)
+
+-- ---- its blobs
+
+-- from x the covered edges lead up to y, and no further: it is the head of the blob of x. The edge above a vertex is covered if the vertex is
+abbrev pub HasHead : (ℕ → ℕ) → (ℕ → Bool) → ℕ → ℕ → Type 0
+HasHead up covered x y = GoesUp up (λ z. covered z ≡ true) x y × (covered y ≡ false)
+
+abbrev pub AreInOneBlob : (ℕ → ℕ) → (ℕ → Bool) → ℕ → ℕ → Type 0
+AreInOneBlob up covered u v = (y : ℕ) × HasHead up covered u y × HasHead up covered v y
+
+-- the edge leads from the head of a blob to the vertex above
+abbrev pub LeadsFromHead : (ℕ → ℕ) → (ℕ → ℕ) → (ℕ → Bool) → ℕ → Type 0
+LeadsFromHead up via covered k = (x : ℕ) × (p : ℕ) × (up x ≡ suc p) × (via x ≡ k) × (covered x ≡ false)
+
+-- each edge is within a blob, or one of the forest between two blobs; and the covered ones are on cycles
+pub record AreBlobs (edges : List (ℕ × ℕ)) (up via depth : ℕ → ℕ) (covered : ℕ → Bool) : Type 0 where
+  pub rooted : IsRooted edges up via depth
+  pub above : (x : ℕ) → covered x ≡ true → (p : ℕ) × (up x ≡ suc p)
+  pub edge : (k u v : ℕ) → HasTwoEnds edges k u v → AreInOneBlob up covered u v ⊎ LeadsFromHead up via covered k
+  pub cycle : (x : ℕ) → covered x ≡ true → IsOnCycle edges (via x)
+
+-- ---- one more edge
+
+-- f with one other value
+abbrev pub with_value : (ℕ → ℕ) → ℕ → ℕ → ℕ → ℕ
+with_value f a v x = cond (nat_eq x a) v (f x)
+
+-- the edge above x, to p, is on the way from a up to z, and not on the one from b
+abbrev pub IsOnOneWay : (ℕ → ℕ) → (a b z x p : ℕ) → Type 0
+IsOnOneWay up a b z x p = GoesUp up (λ y. y ≢ x) a x × GoesUp up (λ y. y ≢ x) p z × GoesUp up (λ y. y ≢ x) b z
+
+-- the edges on the way between a and b are covered too
+pub record CoversWay (up : ℕ → ℕ) (old new : ℕ → Bool) (a b : ℕ) : Type 0 where
+  pub kept : (x : ℕ) → old x ≡ true → new x ≡ true
+  pub meet : ℕ
+  pub one : GoesUp up (λ x. new x ≡ true) a meet
+  pub other : GoesUp up (λ x. new x ≡ true) b meet
+  pub only : (x : ℕ) → new x ≡ true → old x ≡ false → (p : ℕ) × (up x ≡ suc p) × (IsOnOneWay up a b meet x p ⊎ IsOnOneWay up b a meet x p)
