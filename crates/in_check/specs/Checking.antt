@@ -1,6 +1,6 @@
 -- The result of checking a text: its tree, its tables, its rules and its net, their types, one rule for each pair, and the steps that
 -- build its rules and its net, one after another.
-use Rattle.std.specs.Prelude.{◌≡◌, ◌⊎◌, ℕ, ◌<◌, List, length, slice_get, Some, Result, Ok, Err}
+use Rattle.std.specs.Prelude.{◌≡◌, ◌⊎◌, ℕ, ◌<◌, List, length, slice_get, Option, Some, Result, Ok, Err}
 use Rattle.std.specs.List.{AllByRecursion}
 use Rattle.in_syntax.specs.declared.faults.Refusal.{Refusal}
 use Rattle.in_syntax.specs.declared.faults.Fault.{Fault}
@@ -131,6 +131,11 @@ IsAccepted text p = IsChecked text (Ok p)
 -- the first pass that refuses the text gives this refusal
 abbrev pub IsRefused : List ℕ → Refusal → Type 0
 IsRefused text r = IsChecked text (Err (Refused r))
+
+-- the refusal is found
+abbrev pub IsFound : Option Refusal → Fault → Type 0
+IsFound found (Refused r) = found ≡ Some r
+IsFound found (Memory e) = Unit {0}
 
 -- ---- the results of the passes for an accepted program, each in a field
 

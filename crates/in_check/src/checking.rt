@@ -2,7 +2,7 @@
 //!
 //! | Pass | Its call | Takes | Gives | Refuses with |
 //! |---|---|---|---|---|
-//! | `declare_text` | `parse` | the text | its tree, `Source` | E01, E02, E03 |
+//! | `declare_text` | `parse_expecting` | the text | its tree, `Source` | E01, E02, E03 |
 //! | `declare` | `Symbols::build` | the tree | the tables of names, `Symbols` | E04, E05, E06 |
 //! | `declare_rules` | `build_rule` of each rule | the tree, the tables | each `Rule`: two heads and a right member | E03, E07, E08, E09 |
 //! | `declare_net` | `build_net` | the tree, the tables | the `Net`, and with what came before `DeclaredText` | E03, E07, E08, E09 |
@@ -14,7 +14,7 @@
 //! A pass makes its call and then the next pass, with all results so far; `declare_net` is the last that needs the tree.
 //! A pass that refuses drops its own parameters: the prover goes through a function way by way, and few ways then lead out. Each call
 //! except those on types may also end because memory ran out.
-ghost use Rattle.std.specs.Prelude.{◌≡◌, Err, IfOk, IsTrue, MatchOption, Ok, OnErr};
+ghost use Rattle.std.specs.Prelude.{◌≡◌, Err, IfErr, IfOk, IsTrue, MatchOption, Ok, OnErr};
 ghost use Rattle.std.specs.List.{AllByRecursion};
 ghost use Rattle.in_syntax.specs.Order.{IsWrittenInOrder};
 ghost use Rattle.in_syntax.specs.Parsing.{IsOfText};
@@ -28,15 +28,16 @@ ghost use Rattle.in_check.specs.Certificates.{CertifiesRules};
 ghost use Rattle.in_check.specs.Programs.{Program};
 ghost use Rattle.in_check.specs.Promises.{ReachesAsPromised};
 ghost use Rattle.in_check.specs.Systems.{system_of};
-ghost use Rattle.in_check.specs.Checking.{AreOfText, BuildsRules, ChecksNames, ChecksNetSteps, ChecksPairs, ChecksRuleSteps, ChecksTypes, DeclaresNames, DeclaresNet, DeclaresRules, DeclaresText, IsChecked, TypePasses, TypesAll, TypesRules};
+ghost use Rattle.in_check.specs.Checking.{AreOfText, BuildsRules, ChecksNames, ChecksNetSteps, ChecksPairs, ChecksRuleSteps, ChecksTypes, DeclaresNames, DeclaresNet, DeclaresRules, DeclaresText, IsChecked, IsFound, TypePasses, TypesAll, TypesRules};
 
 use crate::certifying::{Evidence, certify_net, certify_rules};
 use crate::checked::{Certificate, Checked, Passed};
+use crate::findings::Findings;
 use crate::misfits::misfit_at;
 use in_cover::{RuleTable, cover};
 use in_net::{Net, Rule, build_net, build_rule};
 use in_symbols::Symbols;
-use in_syntax::{Code, Fault, Refusal, Source, parse, with_room};
+use in_syntax::{Code, Fault, Refusal, Source, parse_expecting, with_room};
 use in_typing::{type_net, type_rule};
 use sqlite_items::Items;
 use std::alloc::{AllocError, Global};
@@ -277,12 +278,30 @@ fn declare(alloc: Global, source: &Source) -> Result<DeclaredText, Fault>
     }
 }
 
-/// Builds the tree, and then all parts that it declares, which outlast it: later passes take their memory when the tree's is given back.
-fn declare_text(alloc: Global, text: &[u8]) -> Result<DeclaredText, Fault>
+/// Builds all parts that the tree declares, which outlast it: later passes take their memory when the tree's is given back. A refused tree is kept.
+fn declare_tree(
+    alloc: Global,
+    source: Source,
+    findings: &mut Findings,
+) -> Result<DeclaredText, Fault>
+    requires { IsOfText source }
+    ensures { DeclaresNames source result }
+{
+    match declare(alloc, &source) {
+        Ok(declared) => Ok(declared),
+        Err(fault) => {
+            findings.source = Some(source);
+            Err(fault)
+        }
+    }
+}
+
+/// Builds the tree, and then all parts that it declares.
+fn declare_text(alloc: Global, text: &[u8], findings: &mut Findings) -> Result<DeclaredText, Fault>
     ensures { DeclaresText text.now result }
 {
-    match parse(alloc, text) {
-        Ok(source) => declare(alloc, &source),
+    match parse_expecting(alloc, text, &mut findings.expected) {
+        Ok(source) => declare_tree(alloc, source, findings),
         Err(fault) => Err(fault),
     }
 }
@@ -303,13 +322,22 @@ fn check_names(
 }
 
 /// Builds all parts that the text declares, and then checks the types and the rest.
-fn check_text(alloc: Global, text: &[u8], evidence: &mut Option<Evidence>) -> Result<Passed, Fault>
+fn check_text(alloc: Global, text: &[u8], findings: &mut Findings) -> Result<Passed, Fault>
     ensures { IsChecked text.now result }
 {
-    match declare_text(alloc, text) {
-        Ok(declared) => check_types(alloc, declared, evidence),
+    match declare_text(alloc, text, findings) {
+        Ok(declared) => check_types(alloc, declared, &mut findings.evidence),
         Err(fault) => Err(fault),
     }
+}
+
+/// The program of a text that all passes accept.
+fn checked_text(alloc: Global, text: &[u8], findings: &mut Findings) -> Result<Checked, Fault>
+    ensures checked { IsChecked text.now result }
+    ensures promised { IfOk result (λ p. ReachesAsPromised (system_of p)) }
+{
+    let passed = check_text(alloc, text, findings)?;
+    Ok(Checked { passed })
 }
 
 /// Checks a program's text: its tokens and its tree, then its names, then rule by rule and the net at last its agents, variables
@@ -327,9 +355,23 @@ pub fn check(alloc: Global, text: &[u8]) -> Result<Checked, Fault>
     ensures checked { IsChecked text.now result }
     ensures promised { IfOk result (λ p. ReachesAsPromised (system_of p)) }
 {
-    let mut evidence = None;
-    let passed = check_text(alloc, text, &mut evidence)?;
-    Ok(Checked { passed })
+    check_finding(alloc, text, &mut Findings::none())
+}
+
+/// As `check`. If it refuses the text, `findings` gets the refusal, with what was found until then.
+pub fn check_finding(alloc: Global, text: &[u8], findings: &mut Findings) -> Result<Checked, Fault>
+    ensures checked { IsChecked text.now result }
+    ensures promised { IfOk result (λ p. ReachesAsPromised (system_of p)) }
+    ensures found { IfErr result (IsFound findings.new) }
+{
+    match checked_text(alloc, text, findings) {
+        Ok(checked) => Ok(checked),
+        Err(Fault::Refused(refusal)) => {
+            findings.refuse(refusal);
+            Err(Fault::Refused(refusal))
+        }
+        Err(Fault::Memory(error)) => Err(Fault::Memory(error)),
+    }
 }
 
 /// The refusal of a program by its tree: as `check` refuses a text of that tree; `None` if it is accepted. `evidence`

@@ -8,10 +8,10 @@ use crate::heads::head;
 use crate::sentences;
 use crate::stuck::add_stuck;
 use crate::wires::add_misfit;
-use in_check::{Evidence, Misfit, StuckPart, refusal_of};
+use in_check::{Evidence, Findings, Misfit, StuckPart, refusal_of};
 use in_diagnosis_words::{Report, add_more_than, add_text_fault, add_tree_fault, rule_at};
 use in_net::{MAX_AGENTS, MAX_MEMBER_AGENTS};
-use in_syntax::{Code, Expected, Fault, Place, Refusal, Source, parse_expecting};
+use in_syntax::{Code, Expected, Fault, Place, Refusal, Source, parse, parse_expecting};
 use std::alloc::{AllocError, Global};
 
 /// Adds that there are more agents than a right member or the net may have.
@@ -65,6 +65,12 @@ fn add_shape_fault(
     }
 }
 
+/// Adds the reason why a program that has a tree is refused, with the evidence of the refusal.
+fn add_reason(report: &mut Report, source: &Source, refusal: Refusal, evidence: Option<&Evidence>) {
+    add_fault(report, source, refusal);
+    add_shape_fault(report, source, refusal, evidence);
+}
+
 /// Adds the reason why a program that has a tree is refused, and returns the refusal; `None` if the program is accepted.
 fn add_refusal(report: &mut Report, source: &Source) -> Result<Option<Refusal>, AllocError>
     requires { IsOfText source.now }
@@ -73,8 +79,7 @@ fn add_refusal(report: &mut Report, source: &Source) -> Result<Option<Refusal>, 
     let mut evidence = None;
     let told = match refusal_of(report.alloc, source, &mut evidence) {
         Ok(Some(refusal)) => {
-            add_fault(report, source, refusal);
-            add_shape_fault(report, source, refusal, evidence.as_ref());
+            add_reason(report, source, refusal, evidence.as_ref());
             Ok(Some(refusal))
         }
         Ok(None) => Ok(None),
@@ -110,6 +115,45 @@ pub fn diagnosis(alloc: Global, text: &[u8]) -> Result<Option<String>, AllocErro
     let mut report = Report::new(alloc, text);
     match add_first_fault(&mut report, text)? {
         Some(_refusal) => Ok(Some(report.into_text()?)),
+        None => Ok(None),
+    }
+}
+
+/// Adds the reason why passes that have no tree refuse the report's text, which is parsed again.
+fn add_late_fault(report: &mut Report, text: &[u8], refusal: Refusal, evidence: Option<&Evidence>) {
+    match parse(report.alloc, text) {
+        Ok(source) => add_reason(report, &source, refusal, evidence),
+        Err(Fault::Memory(error)) => report.fail(error),
+        // A text that these passes refuse has a tree.
+        Err(Fault::Refused(_)) => (),
+    }
+}
+
+/// Adds the reason why the report's text is refused, from what a check found of it.
+fn add_found(report: &mut Report, text: &[u8], refusal: Refusal, findings: &Findings) {
+    match (findings.source(), refusal.code) {
+        (Some(source), _) => add_reason(report, source, refusal, findings.evidence()),
+        (None, Code::E01) | (None, Code::E02) | (None, Code::E03) => {
+            add_text_fault(report, refusal, findings.expected())
+        }
+        (None, _) => add_late_fault(report, text, refusal, findings.evidence()),
+    }
+}
+
+/// As `diagnosis`, from what `in_check::check_finding` found of the text, which isn't checked again. `None` if that is no refusal.
+pub fn diagnosis_of(
+    alloc: Global,
+    text: &[u8],
+    findings: &Findings,
+) -> Result<Option<String>, AllocError>
+    ensures { IfOk result (λ found. is_some found ≡ is_some findings.now) }
+{
+    match findings.refusal() {
+        Some(refusal) => {
+            let mut report = Report::new(alloc, text);
+            add_found(&mut report, text, refusal, findings);
+            Ok(Some(report.into_text()?))
+        }
         None => Ok(None),
     }
 }

@@ -1,5 +1,6 @@
 -- Parts, as sets of nodes with their ports.
 pub mod Absent
+pub mod Counted
 pub mod FirstMembers
 pub mod Marks
 pub mod Members

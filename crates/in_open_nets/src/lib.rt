@@ -1,7 +1,7 @@
 //! Open nets: their parts, the nodes that split these, and the steps that build a net.
 //!
 //! This crate has open nets, their parts and the nodes that split these, and the types of a derivation (`Derivation`, `Step`, `Stuck`). It
-//! knows no nets, so that it is proved beside `in_net`.
+//! knows no nets, so that it is proved beside `in_net`. `port_classes` has the classes of a node's ports, in place.
 //!
 //! `wired` adds to an open net, for each port, its wire and the wire's other point, in few bytes, since searches read little else.
 //! `parts` has the arguments of most calls: a `Part` (the net and a set of its nodes) and a `Candidate` (a node of the part, which may
@@ -38,6 +38,7 @@ mod nodes;
 mod open_nets;
 mod parts;
 mod pieces;
+mod port_classes;
 mod scratch;
 mod splitting;
 mod stuck;
@@ -50,6 +51,7 @@ pub use derivations::{Derivation, Step, Stuck, Undone};
 pub use nodes::{NodeList, NodeSet};
 pub use open_nets::{Node, OpenNet, OpenNode, OpenPoint};
 pub use parts::Part;
+pub use port_classes::PortClasses;
 pub use scratch::Scratch;
 pub use splitting::first_splitting;
 pub use trials::Trials;

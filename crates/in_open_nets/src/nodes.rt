@@ -1,5 +1,5 @@
 //! Sets of nodes of an open net that a procedure goes over.
-ghost use Rattle.std.specs.Prelude.{◌≡◌, ◌<◌, length, IfOk, false, true, ℕ};
+ghost use Rattle.std.specs.Prelude.{◌≡◌, ◌<◌, length, IfOk, IsTrue, false, true, ℕ};
 ghost use Rattle.in_open_nets.specs.Members.{IsUnion, missing, nodes_in};
 ghost use Rattle.in_open_nets.specs.Constructions.{IsIn};
 ghost use Rattle.in_open_nets.specs.Parts.{AreReachedNodes, IsRest};
@@ -127,16 +127,51 @@ impl NodeList {
         self.narrowed(alloc, tests)
     }
 
+    /// How many nodes are no members.
+    fn absent(&self) -> usize
+        ensures { result ≡ missing self.now }
+    {
+        self.count.saturating_sub(self.members.len())
+    }
+
+    /// Whether these are exactly the members of a set of the same size.
+    fn is_set(&self, tests: &Scratch) -> bool
+        requires { length tests.now ≡ length self.now }
+        ensures { IsTrue result → tests.now ≡ self.now }
+    {
+        if tests.absent() != self.absent() {
+            return false;
+        }
+        for node in self.members() {
+            if !tests.has(*node as usize) {
+                return false;
+            }
+        }
+        true
+    }
+
     /// Also makes these nodes members of a set of the same size.
     pub(crate) fn add_to(&self, set: &mut Scratch)
         requires { length self.now ≡ length set.old }
         ensures size { length set.new ≡ length set.old }
         ensures union { IsUnion self.now set.old set.new }
     {
-        for node in self.members() {
-            set.insert(*node as usize);
-        }
+        set.insert_all(self);
     }
+}
+
+/// A set that is lent, with these members alone. Mostly it has them already: a part is what was left of the one before.
+fn set_of(list: &NodeList, lent: Scratch) -> Result<Scratch, AllocError>
+    requires { length lent ≡ length list.now }
+    ensures { IfOk result (λ set. set ≡ list.now) }
+{
+    if list.is_set(&lent) {
+        return Ok(lent);
+    }
+    let mut tests = lent;
+    tests.clear()?;
+    list.add_to(&mut tests);
+    Ok(tests)
 }
 
 /// A list of nodes, and which nodes are in it.
@@ -169,9 +204,7 @@ impl NodeSet {
         requires { length lent ≡ length list }
         ensures { IfOk result (λ set. set ≡ list) }
     {
-        let mut tests = lent;
-        tests.clear()?;
-        list.add_to(&mut tests);
+        let tests = set_of(&list, lent)?;
         Ok(NodeSet { list, tests })
     }
 

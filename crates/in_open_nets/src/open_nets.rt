@@ -4,6 +4,7 @@ ghost use Rattle.in_open_nets.specs.ClassGraphs.{width_of};
 ghost use Rattle.in_open_nets.specs.OpenNets.{IsAgent, IsClass, IsOrderly, class_in, classes_of, node_in, node_place_in, open_of};
 ghost use Rattle.in_open_nets.specs.Stuck.{ports_of};
 
+use crate::port_classes::PortClasses;
 use in_symbols::SymbolNo;
 use in_syntax::Place;
 use sqlite_items::Items;
@@ -30,7 +31,7 @@ pub struct OpenNode {
     pub node: Node,
     pub place: Place,
     pub classes: u8,
-    pub class_of: Items<u8>,
+    pub class_of: PortClasses,
 }
 
 /// A net for the question how it is built up: its nodes in the order of their places, its wires, and its free ends.
@@ -119,7 +120,7 @@ impl OpenNet {
     {
         let found = &self.nodes.as_slice()[node];
         match found.node {
-            Node::AgentNode(_) => found.class_of.as_slice()[port] as usize,
+            Node::AgentNode(_) => found.class_of.get(port) as usize,
             Node::ClassNode(_, _) => port,
         }
     }

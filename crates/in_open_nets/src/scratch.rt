@@ -1,7 +1,8 @@
 //! Sets that are made once for a whole run, and emptied at one stroke.
 ghost use Rattle.std.specs.Prelude.{◌≡◌, ◌<◌, length, slice_set, IfOk, OnOk, OnErr, false, true, ℕ};
-ghost use Rattle.in_open_nets.specs.Members.{missing, nodes_in};
+ghost use Rattle.in_open_nets.specs.Members.{AreMarks, IsUnion, marked, missing, nodes_in};
 
+use crate::nodes::NodeList;
 use sqlite_items::Items;
 use std::alloc::{AllocError, Global};
 use std::marker::Model;
@@ -37,6 +38,46 @@ impl Model for Scratch {
     ghost invariant = { λ s. AreMarks s.marks s.last s.absent };
 }
 
+/// Whether a number has the last mark. One past the marks has none.
+fn is_marked(marks: &Items<u32>, last: u32, number: usize) -> bool
+    ensures { result ≡ nodes_in (marked last marks.now) number }
+{
+    match marks.get(number) {
+        Some(mark) => *mark == last,
+        None => false,
+    }
+}
+
+/// Gives a number the last mark. `absent` numbers don't have it before, and the returned number of them after.
+fn mark(marks: &mut Items<u32>, last: u32, absent: usize, number: usize) -> usize
+    requires marks { AreMarks marks.old last absent }
+    requires number { number < length marks.old }
+    ensures marks { AreMarks marks.new last result }
+    ensures set { marked last marks.new ≡ slice_set (marked last marks.old) number true }
+{
+    if is_marked(&*marks, last, number) {
+        return absent;
+    }
+    marks.set(number, last);
+    absent - 1
+}
+
+/// The same for each of these nodes.
+// The number of absent ones isn't kept in memory between two nodes, since most of the time here would go into that.
+fn mark_all(marks: &mut Items<u32>, last: u32, absent: usize, list: &NodeList) -> usize
+    requires size { length list.now ≡ length marks.old }
+    requires marks { AreMarks marks.old last absent }
+    ensures size { length marks.new ≡ length marks.old }
+    ensures marks { AreMarks marks.new last result }
+    ensures union { IsUnion list.now (marked last marks.old) (marked last marks.new) }
+{
+    let mut left = absent;
+    for node in list.members() {
+        left = mark(marks, last, left, *node as usize);
+    }
+    left
+}
+
 impl Scratch {
     /// No members of `count` nodes.
     pub fn new(alloc: Global, count: usize) -> Result<Scratch, AllocError>
@@ -63,10 +104,7 @@ impl Scratch {
     pub(crate) fn has(&self, number: usize) -> bool
         ensures { result ≡ nodes_in self.now number }
     {
-        match self.marks.get(number) {
-            Some(mark) => *mark == self.last,
-            None => false,
-        }
+        is_marked(&self.marks, self.last, number)
     }
 
     /// How many numbers below the count are no members.
@@ -86,10 +124,16 @@ impl Scratch {
         requires { number < length self.old }
         ensures { self.new ≡ slice_set self.old number true }
     {
-        if !self.has(number) {
-            self.absent -= 1;
-            self.marks.set(number, self.last);
-        }
+        self.absent = mark(&mut self.marks, self.last, self.absent, number);
+    }
+
+    /// Makes these nodes members.
+    pub(crate) fn insert_all(&mut self, list: &NodeList)
+        requires { length list.now ≡ length self.old }
+        ensures size { length self.new ≡ length self.old }
+        ensures union { IsUnion list.now self.old self.new }
+    {
+        self.absent = mark_all(&mut self.marks, self.last, self.absent, list);
     }
 
     /// Removes the number.

@@ -14,7 +14,7 @@ use std::alloc::{AllocError, Global};
 use std::marker::Model;
 
 /// The most ports of a node: an agent's principal port and its auxiliary ports.
-const MOST_PORTS: usize = MAX_PORTS + 1;
+pub(crate) const MOST_PORTS: usize = MAX_PORTS + 1;
 
 /// The content of a slot: no wire, or the other end of its wire.
 #[derive(Clone, Copy, Drop)]

@@ -6,7 +6,7 @@ ghost use Rattle.in_net.specs.Parts.{IsWhole, wire_in};
 ghost use Rattle.in_open_nets_of_programs.specs.Opening.{AreAllThere, AreClassesOf, Each, AreNumbered, IsNodeOf, open_point, open_wire, AreNodesOf, AreWiresOf, Opens};
 
 use in_net::{AgentNo, Net};
-use in_open_nets::{Node, OpenNet, OpenNode, OpenPoint};
+use in_open_nets::{Node, OpenNet, OpenNode, OpenPoint, PortClasses};
 use in_symbols::{SymbolNo, Symbols};
 use in_syntax::with_room;
 use sqlite_items::Items;
@@ -14,17 +14,16 @@ use std::alloc::{AllocError, Global};
 use std::marker::Model;
 
 /// The classes of a symbol's places.
-fn classes(alloc: Global, symbols: &Symbols, symbol: SymbolNo) -> Result<Items<u8>, AllocError>
+fn classes(symbols: &Symbols, symbol: SymbolNo) -> PortClasses
     requires { IsSymbol symbols.now symbol.0 }
-    ensures classes { IfOk result (AreClassesOf symbols.now symbol) }
-    ensures few { IfOk result (λ classes. length classes ≤ max_ports + 1) }
+    ensures classes { AreClassesOf symbols.now symbol result }
+    ensures few { length result ≤ max_ports + 1 }
 {
-    let arity = symbols.arity(symbol);
-    let mut classes = with_room(alloc, arity as usize + 1)?;
-    for place in 0..=arity {
-        classes.push(symbols.class_of(symbol, place))?;
+    let mut classes = PortClasses::new();
+    for place in 0..=symbols.arity(symbol) {
+        classes.push(symbols.class_of(symbol, place));
     }
-    Ok(classes)
+    classes
 }
 
 /// A net or a right member as built, with the tables of its symbols.
@@ -46,18 +45,18 @@ impl<'a> Model for BuiltNet<'a> {
 }
 
 /// The node of an agent.
-pub(crate) fn node(alloc: Global, built: &BuiltNet, agent: AgentNo) -> Result<OpenNode, AllocError>
+pub(crate) fn node(built: &BuiltNet, agent: AgentNo) -> OpenNode
     requires { agent.0 < length built.now.net.cells }
-    ensures node { IfOk result (IsNodeOf built.now.tables built.now.net agent.0) }
-    ensures few { IfOk result (λ node. length node.class_of ≤ max_ports + 1) }
+    ensures node { IsNodeOf built.now.tables built.now.net agent.0 result }
+    ensures few { length result.class_of ≤ max_ports + 1 }
 {
     match built.net.symbol(agent) {
-        Some(symbol) => Ok(OpenNode {
+        Some(symbol) => OpenNode {
             node: Node::AgentNode(symbol),
             place: built.net.agent_place(agent),
             classes: built.symbols.classes(symbol),
-            class_of: classes(alloc, built.symbols, symbol)?,
-        }),
+            class_of: classes(built.symbols, symbol),
+        },
         // In a net as built, no number is without an agent.
         None => unreachable!(),
     }
@@ -73,7 +72,7 @@ fn nodes(alloc: Global, built: &BuiltNet) -> Result<Items<OpenNode>, AllocError>
     let count = built.net.agents();
     let mut nodes = with_room(alloc, count as usize)?;
     for agent in 0..count {
-        nodes.push(node(alloc, built, AgentNo(agent))?)?;
+        nodes.push(node(built, AgentNo(agent)))?;
     }
     Ok(nodes)
 }

@@ -8,7 +8,7 @@ ghost use Rattle.in_open_nets_of_programs.specs.OpeningRules.{places_in, IsClass
 
 use crate::opening::{BuiltNet, node};
 use in_net::{AgentNo, Rule};
-use in_open_nets::{Node, OpenNet, OpenNode, OpenPoint};
+use in_open_nets::{Node, OpenNet, OpenNode, OpenPoint, PortClasses};
 use in_symbols::{SymbolNo, Symbols};
 use in_syntax::{Place, with_room};
 use sqlite_items::Items;
@@ -44,36 +44,31 @@ fn places_in(symbols: &Symbols, symbol: SymbolNo, class: u8, last: u8) -> u8
 }
 
 /// A port for each of `count` places.
-fn ports(alloc: Global, count: u8) -> Result<Items<u8>, AllocError>
-    ensures size { IfOk result (λ ports. length ports ≡ count) }
-    ensures numbers { IfOk result (Each (λ i k. k ≡ i)) }
+fn ports(count: u8) -> PortClasses
+    requires { count ≤ max_ports }
+    ensures size { length result ≡ count }
+    ensures numbers { Each (λ i k. k ≡ i) result }
 {
-    let mut ports = with_room(alloc, count as usize)?;
+    let mut ports = PortClasses::new();
     for port in 0..count {
-        ports.push(port)?;
+        ports.push(port);
     }
-    Ok(ports)
+    ports
 }
 
 /// The node of a class of a head.
-fn class_node(
-    alloc: Global,
-    symbols: &Symbols,
-    symbol: SymbolNo,
-    place: Place,
-    class: u8,
-) -> Result<OpenNode, AllocError>
+fn class_node(symbols: &Symbols, symbol: SymbolNo, place: Place, class: u8) -> OpenNode
     requires { IsSymbol symbols.now symbol.0 }
-    ensures node { IfOk result (IsClassNodeOf symbols.now symbol place class) }
-    ensures few { IfOk result (λ node. length node.class_of ≤ max_ports + 1) }
+    ensures node { IsClassNodeOf symbols.now symbol place class result }
+    ensures few { length result.class_of ≤ max_ports + 1 }
 {
     let count = places_in(symbols, symbol, class, symbols.arity(symbol));
-    Ok(OpenNode {
+    OpenNode {
         node: Node::ClassNode(symbol, class),
         place,
         classes: count,
-        class_of: ports(alloc, count)?,
-    })
+        class_of: ports(count),
+    }
 }
 
 /// 1 if this agent of the right member comes before the second head in the text, otherwise 0.
@@ -213,10 +208,10 @@ impl<'a> Layout<'a> {
     }
 
     /// The node of that number.
-    fn node(&self, alloc: Global, number: u32) -> Result<OpenNode, AllocError>
+    fn node(&self, number: u32) -> OpenNode
         requires { number < rule_nodes self.now.tables self.now.rule }
-        ensures node { IfOk result (IsRuleNode self.now.tables self.now.rule number) }
-        ensures few { IfOk result (λ node. length node.class_of ≤ max_ports + 1) }
+        ensures node { IsRuleNode self.now.tables self.now.rule number result }
+        ensures few { length result.class_of ≤ max_ports + 1 }
     {
         let symbols = self.symbols;
         let rule = self.rule;
@@ -226,17 +221,17 @@ impl<'a> Layout<'a> {
         };
         let (first, second) = rule.written();
         if number < self.first {
-            return class_node(alloc, symbols, first, rule.head_place(0), number as u8 + 1);
+            return class_node(symbols, first, rule.head_place(0), number as u8 + 1);
         }
         let at = number - self.first;
         if at < self.before {
-            return node(alloc, &member, AgentNo(at));
+            return node(&member, AgentNo(at));
         }
         if at - self.before < self.second {
             let class = (at - self.before) as u8 + 1;
-            return class_node(alloc, symbols, second, rule.head_place(1), class);
+            return class_node(symbols, second, rule.head_place(1), class);
         }
-        node(alloc, &member, AgentNo(at - self.second))
+        node(&member, AgentNo(at - self.second))
     }
 
     /// The nodes in the order of their tokens.
@@ -250,7 +245,7 @@ impl<'a> Layout<'a> {
         let count = self.first + (self.second + rule.member().agents());
         let mut nodes = with_room(alloc, count as usize)?;
         for number in 0..count {
-            nodes.push(self.node(alloc, number)?)?;
+            nodes.push(self.node(number))?;
         }
         Ok(nodes)
     }

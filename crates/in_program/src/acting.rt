@@ -12,7 +12,7 @@ use crate::lines::{accepted_line, refused_line};
 use crate::reading::{Input, read_text};
 use crate::runs::{run_lines, start_line};
 use crate::steps::derivation_lines;
-use in_check::{Checked, check};
+use in_check::{Checked, Findings, check_finding};
 use in_command_line::{Action, Usage};
 use in_print::{PrintFault, write_all, write_net};
 use in_run::{Limits, Machine, NoWatch, Outcome, RunFault, StartFault, Stop, Watch, run_watched};
@@ -217,7 +217,21 @@ pub fn report_text<W: TextOut>(alloc: Global, writer: &mut W, derive: bool, text
     requires { (W.device writer.old).failures < 2 ^ 64 - 1 }
     ensures { TellsOne (IsReply (report_action derive) text.now) (W.device writer.old) (W.device writer.new) result }
 {
-    match check(alloc, text) {
+    tell_report(alloc, writer, derive, text, &mut Findings::none())
+}
+
+/// The same, and what the check finds.
+fn tell_report<W: TextOut>(
+    alloc: Global,
+    writer: &mut W,
+    derive: bool,
+    text: &[u8],
+    findings: &mut Findings,
+) -> Status
+    requires { (W.device writer.old).failures < 2 ^ 64 - 1 }
+    ensures { TellsOne (IsReply (report_action derive) text.now) (W.device writer.old) (W.device writer.new) result }
+{
+    match check_finding(alloc, text, findings) {
         Ok(checked) => {
             let status = tell_found(alloc, writer, derive, &checked);
             drop(checked);
@@ -236,11 +250,12 @@ fn tell_reply<T: Threads, W: TextOut, H: Watch>(
     limits: Limits,
     text: &[u8],
     watch: &mut H,
+    findings: &mut Findings,
 ) -> Status
     requires { (W.device writer.old).failures < 2 ^ 64 - 1 }
     ensures { TellsOne (IsReply (run_action net limits) text.now) (W.device writer.old) (W.device writer.new) result }
 {
-    match check(alloc, text) {
+    match check_finding(alloc, text, findings) {
         Ok(checked) => {
             let status = tell_run(rt, alloc, writer, &checked, net, limits, watch);
             drop(checked);
@@ -264,8 +279,23 @@ pub fn report<R: TextIn, W: TextOut>(
     requires writer { (W.device writer.old).failures < 2 ^ 64 - 1 }
     ensures { Acts (report_action derive) (R.reader reader.old) (R.reader reader.new) (W.device writer.old) (W.device writer.new) result }
 {
+    report_read(alloc, derive, reader, writer, &mut Findings::none())
+}
+
+/// The same, and what the check finds.
+fn report_read<R: TextIn, W: TextOut>(
+    alloc: Global,
+    derive: bool,
+    reader: &mut R,
+    writer: &mut W,
+    findings: &mut Findings,
+) -> Status
+    requires reader { (R.reader reader.old).device.failures < 2 ^ 64 - 1 }
+    requires writer { (W.device writer.old).failures < 2 ^ 64 - 1 }
+    ensures { Acts (report_action derive) (R.reader reader.old) (R.reader reader.new) (W.device writer.old) (W.device writer.new) result }
+{
     match read_text(alloc, reader) {
-        Input::Text(text) => report_text(alloc, writer, derive, text.as_slice()),
+        Input::Text(text) => tell_report(alloc, writer, derive, text.as_slice(), findings),
         Input::Memory => tell(writer, MEMORY_LINE, MEMORY),
         Input::Failed => FAULT,
     }
@@ -280,19 +310,30 @@ fn report_run<T: Threads, R: TextIn, W: TextOut, H: Watch>(
     reader: &mut R,
     writer: &mut W,
     watch: &mut H,
+    findings: &mut Findings,
 ) -> Status
     requires reader { (R.reader reader.old).device.failures < 2 ^ 64 - 1 }
     requires writer { (W.device writer.old).failures < 2 ^ 64 - 1 }
     ensures { Acts (run_action net limits) (R.reader reader.old) (R.reader reader.new) (W.device writer.old) (W.device writer.new) result }
 {
     match read_text(alloc, reader) {
-        Input::Text(text) => { tell_reply(rt, alloc, writer, net, limits, text.as_slice(), watch) }
+        Input::Text(text) => tell_reply(
+            rt,
+            alloc,
+            writer,
+            net,
+            limits,
+            text.as_slice(),
+            watch,
+            findings,
+        ),
         Input::Memory => tell(writer, MEMORY_LINE, MEMORY),
         Input::Failed => FAULT,
     }
 }
 
-/// As `act`, with a watch that sees the progress of a run. The watch changes neither the written bytes nor the status.
+/// As `act`, with a watch that sees the progress of a run, and findings that get what a check finds of a refused text. Neither changes the written
+/// bytes or the status.
 pub fn act_watched<T: Threads, R: TextIn, W: TextOut, H: Watch>(
     rt: &T,
     alloc: Global,
@@ -300,16 +341,21 @@ pub fn act_watched<T: Threads, R: TextIn, W: TextOut, H: Watch>(
     reader: &mut R,
     writer: &mut W,
     watch: &mut H,
+    findings: &mut Findings,
 ) -> Status
     requires reader { (R.reader reader.old).device.failures < 2 ^ 64 - 1 }
     requires writer { (W.device writer.old).failures < 2 ^ 64 - 1 }
     ensures { Acts action.now (R.reader reader.old) (R.reader reader.new) (W.device writer.old) (W.device writer.new) result }
 {
     match action {
-        Action::Check => report(alloc, false, reader, writer),
-        Action::Derive => report(alloc, true, reader, writer),
-        Action::Run(limits) => report_run(rt, alloc, true, *limits, reader, writer, watch),
-        Action::Count(limits) => report_run(rt, alloc, false, *limits, reader, writer, watch),
+        Action::Check => report_read(alloc, false, reader, writer, findings),
+        Action::Derive => report_read(alloc, true, reader, writer, findings),
+        Action::Run(limits) => report_run(
+            rt, alloc, true, *limits, reader, writer, watch, findings,
+        ),
+        Action::Count(limits) => report_run(
+            rt, alloc, false, *limits, reader, writer, watch, findings,
+        ),
     }
 }
 
@@ -327,7 +373,15 @@ pub fn act<T: Threads + Wait, R: TextIn, W: TextOut>(
     requires writer { (W.device writer.old).failures < 2 ^ 64 - 1 }
     ensures { Acts action.now (R.reader reader.old) (R.reader reader.new) (W.device writer.old) (W.device writer.new) result }
 {
-    act_watched(rt, alloc, action, reader, writer, &mut NoWatch)
+    act_watched(
+        rt,
+        alloc,
+        action,
+        reader,
+        writer,
+        &mut NoWatch,
+        &mut Findings::none(),
+    )
 }
 
 /// Writes the reason why the words name no action: help, or that memory ran out, to the output, and an error in the words to the error stream. The

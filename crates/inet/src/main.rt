@@ -18,6 +18,7 @@ mod words;
 use crate::keeping::KeepingIn;
 use crate::watching::Watching;
 use crate::words::{tell_diagnosis, tell_help};
+use in_check::Findings;
 use in_command_line::{Request, Usage, action_of};
 use in_program::{
     Device, Status, StreamIn, StreamOut, act_watched, tell, tell_failure, tell_usage,
@@ -91,11 +92,27 @@ fn answer_text<T: Threads + Clock, R: Read + Drop, W: TextOut, E: Write>(
 {
     let mut input = KeepingIn::new(alloc, StreamIn::new(reader));
     let mut watch = Watching::new(rt, alloc, &mut *errors, console.tells, request.stats);
-    let status = act_watched(rt, alloc, &request.action, &mut input, output, &mut watch);
+    let mut findings = Findings::none();
+    let status = act_watched(
+        rt,
+        alloc,
+        &request.action,
+        &mut input,
+        output,
+        &mut watch,
+        &mut findings,
+    );
     watch.tell();
     if status == Status(1) {
         if let Some(text) = input.kept() {
-            tell_diagnosis(alloc, request.file, text, console.colours, errors);
+            tell_diagnosis(
+                alloc,
+                request.file,
+                text,
+                &findings,
+                console.colours,
+                errors,
+            );
         }
     }
     if let Some(why) = input.reader().failure() {

@@ -1,10 +1,10 @@
 use in_arena::CellCounts;
-use in_check::check;
+use in_check::Findings;
 use in_command_line::Action;
-use in_diagnosis::diagnosis;
+use in_diagnosis::diagnosis_of;
 use in_limits::{Limits, MOST_CELLS, MOST_INTERACTIONS};
 use in_program::{Status, shown};
-use in_syntax::{Fault, Place};
+use in_syntax::{Place, Refusal};
 use std::alloc::{AllocError, Global};
 use std::io::Write;
 
@@ -30,27 +30,11 @@ fn code(colour: Colour) -> &'static str {
     }
 }
 
-/// The place at which the text is refused.
-fn place_of(alloc: Global, text: &[u8]) -> Result<Option<Place>, AllocError> {
-    match check(alloc, text) {
-        Err(Fault::Refused(refusal)) => Ok(Some(refusal.place)),
-        Err(Fault::Memory(error)) => Err(error),
-        Ok(checked) => {
-            drop(checked);
-            Ok(None)
-        }
-    }
-}
-
 /// The line with the file of a refused text, and the place there.
-fn head(alloc: Global, file: &str, text: &[u8]) -> Result<String, AllocError> {
-    match place_of(alloc, text)? {
-        Some(Place { line, col, .. }) => {
-            let name = shown(alloc, file)?;
-            format!(in alloc; " --> {name}:{line}:{col}\n")
-        }
-        None => Ok(String::new(alloc)),
-    }
+fn head(alloc: Global, file: &str, refusal: Refusal) -> Result<String, AllocError> {
+    let Place { line, col, .. } = refusal.place;
+    let name = shown(alloc, file)?;
+    format!(in alloc; " --> {name}:{line}:{col}\n")
 }
 
 /// The colour of a line's first part and the end of that part, if it has one; `mark` is the colour of marks below an excerpt.
@@ -107,13 +91,14 @@ fn told(
     alloc: Global,
     file: Option<&str>,
     text: &[u8],
+    findings: &Findings,
     colours: bool,
 ) -> Result<String, AllocError> {
-    let mut words = match file {
-        Some(file) => head(alloc, file, text)?,
-        None => String::new(alloc),
+    let mut words = match (file, findings.refusal()) {
+        (Some(file), Some(refusal)) => head(alloc, file, refusal)?,
+        _ => String::new(alloc),
     };
-    if let Some(diagnosis) = diagnosis(alloc, text)? {
+    if let Some(diagnosis) = diagnosis_of(alloc, text, findings)? {
         words.push_str(diagnosis.as_str())?;
     }
     if colours {
@@ -128,10 +113,11 @@ pub fn tell_diagnosis<E: Write>(
     alloc: Global,
     file: Option<&str>,
     text: &[u8],
+    findings: &Findings,
     colours: bool,
     errors: &mut E,
 ) {
-    if let Ok(words) = told(alloc, file, text, colours) {
+    if let Ok(words) = told(alloc, file, text, findings, colours) {
         let _ = errors.write_all(words.as_bytes());
     }
 }

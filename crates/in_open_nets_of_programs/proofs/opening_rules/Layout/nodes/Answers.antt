@@ -9,7 +9,7 @@ use Rattle.in_syntax.specs.Grammar.{max_ports}
 pub loop-number-preserved : goal.loop-number-preserved
 loop-number-preserved c =
     let i = c.loop-number.invariant in
-    let n = c.in_ok-node.ensures in
+    let n = c.node.ensures in
     record {
       count = length_more _ _ _ _ c.in_ok-push.ensures.ok i.count;
       each = each_more (IsRuleNode c.args.self.now.tables c.args.self.now.rule) _ _ _ _ c.in_ok-push.ensures.ok i.count i.each n.node;

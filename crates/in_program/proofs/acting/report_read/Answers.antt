@@ -1,10 +1,10 @@
 use Rattle.std.proofs.Common.{refl}
 use Rattle.in_program.specs.Acting.{report_action, unread}
 use Rattle.in_program.proofs.Told.{tells_reply, wants_memory}
-use Rattle.in_program.proofs.acting.report.Goals as goal
+use Rattle.in_program.proofs.acting.report_read.Goals as goal
 
 pub returns-in-Text : goal.returns-in-Text
-returns-in-Text g c = tells_reply (report_action c.args.derive) _ _ _ _ c.in-Text.text.items _ _ c.as_slice.ensures.value c.in-Text.ensures c.report_text.ensures
+returns-in-Text g c = tells_reply (report_action c.args.derive) _ _ _ _ c.in-Text.text.items _ _ c.as_slice.ensures.value c.in-Text.ensures c.tell_report.ensures
 
 pub returns-in-Memory : goal.returns-in-Memory
 returns-in-Memory g c = let read = c.in-Memory.ensures {u = tt} in wants_memory (report_action c.args.derive) _ _ _ _ read.0 _ read.1 c.tell.ensures

@@ -1,7 +1,7 @@
 use Rattle.in_program.specs.Acting.{accepted, refused, report_action}
 use Rattle.in_program.proofs.AnyOrder.{replied}
 use Rattle.in_program.proofs.Told.{told_as}
-use Rattle.in_program.proofs.acting.report_text.Goals as goal
+use Rattle.in_program.proofs.acting.tell_report.Goals as goal
 
 pub returns-in-Ok : goal.returns-in-Ok
 returns-in-Ok g c = told_as _ _ _ _ _ (λ lines s h. replied (report_action c.args.derive) c.args.text.now lines s (accepted c.in-Ok.checked h.0) (c.in-Ok.ensures.checked, h.1) h.2 h.3) c.tell_found-status.ensures

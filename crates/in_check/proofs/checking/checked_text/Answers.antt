@@ -2,7 +2,7 @@ use Rattle.in_check.specs.Systems.{system_of}
 use Rattle.in_check.proofs.Chain.{certified_each, few_rules_of}
 use Rattle.in_check.proofs.Reached.FromText.{is_sound}
 use Rattle.in_check.proofs.Reached.Kept.{as_promised}
-use Rattle.in_check.proofs.checking.check.Goals as goal
+use Rattle.in_check.proofs.checking.checked_text.Goals as goal
 
 pub invariant_of-result : goal.invariant_of-result
 invariant_of-result c =

@@ -1,9 +1,0 @@
-use Rattle.std.proofs.Common.{◌∙◌, sym}
-use Rattle.in_open_nets.proofs.PartsOf.Members.{filled}
-use Rattle.in_open_nets.proofs.nodes.NodeSet.of.Goals as goal
-
-pub returns : goal.returns
-returns c = filled c.args.list c.clear.new.self c.add_to.new.set (c.add_to.ensures.size ∙ c.in_ok-clear.ensures.size ∙ c.requires) c.in_ok-clear.ensures.none c.add_to.ensures.union
-
-pub invariant_of-result : goal.invariant_of-result
-invariant_of-result c = sym (filled c.args.list c.clear.new.self c.add_to.new.set (c.add_to.ensures.size ∙ c.in_ok-clear.ensures.size ∙ c.requires) c.in_ok-clear.ensures.none c.add_to.ensures.union)
