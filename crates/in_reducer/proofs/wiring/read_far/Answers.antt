@@ -1,8 +1,7 @@
-use Rattle.std.proofs.Common.{◌≡◌, ◌+◌, ◌-◌, ◌≤◌, ◌<◌, ℕ, suc, Some, length, subst, ◌∙◌, arith}
+use Rattle.std.proofs.Common.{◌≡◌, ◌+◌, ◌-◌, ℕ, suc, Some, subst, ◌∙◌, arith}
 use Rattle.std.proofs.lemmas.List.{length-set}
 use Rattle.in_arena.specs.Arenas.{state_at}
 use Rattle.in_arena.specs.States.{end_at}
-use Rattle.in_reducer.specs.Inside.{most_ends}
 use Rattle.in_reducer.proofs.Steps.Points.{one_more_read}
 use Rattle.in_reducer.proofs.wiring.read_far.Goals as goal
 

@@ -1,6 +1,4 @@
-use Rattle.std.proofs.Common.{◌≡◌, ◌<◌, ◌≤◌, ◌-◌, ◌+◌, ℕ, suc, refl, sym, subst, ◌∙◌, arith}
-use Rattle.in_check.specs.Programs.{Program}
-use Rattle.in_compile.specs.Templates.{AreTemplatesOf}
+use Rattle.std.proofs.Common.{◌≡◌, ◌<◌, ◌≤◌, ◌-◌, ◌+◌, ℕ, suc, refl, subst, ◌∙◌, arith}
 use Rattle.in_reducer.specs.Runs.{at_start}
 use Rattle.in_reducer.specs.Same.{RunsUpToNumbers}
 use Rattle.in_reducer.specs.Taking.{together}

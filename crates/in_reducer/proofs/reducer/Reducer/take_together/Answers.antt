@@ -1,8 +1,6 @@
-use Rattle.std.proofs.Common.{◌≡◌, ◌<◌, ◌+◌, ℕ, suc, refl, sym, ap, subst, length, slice_get, ◌∙◌, arith}
+use Rattle.std.proofs.Common.{◌≡◌, ◌<◌, ◌+◌, ℕ, suc, refl, ap, subst, slice_get, ◌∙◌, arith}
 use Rattle.std.proofs.lemmas.Option.{slice_get_within}
 use Rattle.in_base.proofs.Each.{at_index}
-use Rattle.in_check.specs.Programs.{Program}
-use Rattle.in_compile.specs.Templates.{AreTemplatesOf}
 use Rattle.in_reducer.specs.Runs.{at_start}
 use Rattle.in_reducer.specs.Same.{RunsUpToNumbers}
 use Rattle.in_reducer.specs.Taking.{together}
