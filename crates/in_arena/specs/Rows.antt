@@ -67,8 +67,8 @@ pub record HasContent (symbol : ℕ) (es : List End) (x : Content) : Type 0 wher
   pub ends : take (length es) x.ends ≡ es
 
 -- nothing was ever written in the cell
-abbrev pub IsNewAt : List Word → Spot → Type 0
-IsNewAt ws at = (q : ℕ) → q < slots at.class → word_at at.cells ws at.class at.index q ≡ Some None
+abbrev pub IsUnwritten : List Word → Spot → Type 0
+IsUnwritten ws at = (q : ℕ) → q < slots at.class → word_at at.cells ws at.class at.index q ≡ Some None
 
 -- the cell is written, with this head and an end at each place. All other words are as they were
 pub record IsFirstWritten (words : Cells End) (at : Spot) (h : End) (words' : Cells End) : Type 0 where

@@ -5,7 +5,7 @@ ghost use Rattle.in_arena.specs.Classes.{Holds, amount, width};
 ghost use Rattle.in_arena.specs.EndWords.{HaveWords, numbers};
 ghost use Rattle.in_arena.specs.FreeLists.{ListsFree, list_in};
 ghost use Rattle.in_arena.specs.Limiting.{AreAllowed};
-ghost use Rattle.in_arena.specs.Rows.{BeginsNew, EachListsFree, HasContent, MakesReady, IsFirstWritten, IsNewAt, IsTakenBack, IsWrittenAt, OwnsOne, Rewrites};
+ghost use Rattle.in_arena.specs.Rows.{BeginsNew, EachListsFree, HasContent, MakesReady, IsFirstWritten, IsUnwritten, IsTakenBack, IsWrittenAt, OwnsOne, Rewrites};
 ghost use Rattle.in_arena.specs.Starts.{AreStarts};
 ghost use Rattle.in_arena.specs.Words.{AreWhole, Content, IsHead, cell_in, count_in, words_of};
 
@@ -57,7 +57,7 @@ fn write_new(
 )
     requires words { (base.ptr ≡ words.old.at) × AreAllowed spot.cells × (spot.index < amount spot.cells spot.class) × (length words.old.slots ≡ words_of spot.cells) }
     requires starts { AreStarts spot.cells starts.now }
-    requires new { IsNewAt words.old.slots spot }
+    requires new { IsUnwritten words.old.slots spot }
     requires head { IsHead head }
     ensures { IsFirstWritten words.old spot head words.new }
 {
