@@ -10,7 +10,7 @@ use Rattle.in_machine.specs.Machines.{IsMachine}
 use Rattle.in_reducer.specs.Machines.{plain_of}
 use Rattle.in_run.specs.Outcomes.{RunsTo}
 use Rattle.in_reducer.specs.Same.{AreSame}
-use Rattle.in_run.specs.Laws.{OutcomesStopAlike}
+use Rattle.in_run.specs.Laws.{OutcomesStopAlike, TurnsAreOne}
 use Rattle.in_run.specs.Stops.{IsStop}
 use Rattle.in_run.proofs.SameOutcome.{same_outcome, same_stop, stop_moved}
 use Rattle.in_machine.proofs.Public.{same_start, start_machine}
@@ -22,13 +22,14 @@ module _ (p : Program) (l : Limits) (o : Outcome) (h : RunsTo p l (Ok o)) where
   pub ended_machine : IsMachine o.machine
   ended_machine = h.0.0.machine
 
-pub ended_alike : (text : List ℕ) (p : Program) → IsAccepted text p → (l : Limits) → l.workers ≡ 1 → (o u : Outcome) → RunsTo p l (Ok o) → RunsTo p l (Ok u)
-    → AreSame o.machine u.machine × (o.interactions ≡ u.interactions) × (o.stop ≡ u.stop)
-ended_alike text p accepted l one o u h g =
-    let x = h.1 one in
-    let y = g.1 one in
+pub turns_alike : TurnsAreOne
+turns_alike text p l o u accepted x y =
     same_outcome x.0 y.0 (start_machine text p accepted l.cells x.0 x.1 l.most) (start_machine text p accepted l.cells y.0 y.1 l.most) (same_start text p accepted l.cells x.0 y.0 x.1 y.1)
     l.limit o.machine u.machine o.interactions u.interactions o.stop u.stop x.2 y.2
+
+pub ended_alike : (text : List ℕ) (p : Program) → IsAccepted text p → (l : Limits) → l.workers ≡ 1 → (o u : Outcome) → RunsTo p l (Ok o) → RunsTo p l (Ok u)
+    → AreSame o.machine u.machine × (o.interactions ≡ u.interactions) × (o.stop ≡ u.stop)
+ended_alike text p accepted l one o u h g = turns_alike text p l o u accepted (h.1 one) (g.1 one)
 
 pub ended_so : OutcomesStopAlike
 ended_so p l o u h g (f, same) as_many =

@@ -41,6 +41,11 @@ OutcomesAreReached = (text : List ℕ) (p : Program) (l : Limits) (o : Outcome) 
 abbrev pub TurnsAreAllowed : Type 0
 TurnsAreAllowed = (text : List ℕ) (p : Program) (l : Limits) (r : Result Outcome RunFault) → IsAccepted text p → RunsInTurn p l r → RunsTo p l r
 
+-- interactions in turn of an accepted program within limits have one outcome, up to the numbers of agents, with any number of workers
+abbrev pub TurnsAreOne : Type 0
+TurnsAreOne = (text : List ℕ) (p : Program) (l : Limits) (o u : Outcome) → IsAccepted text p → RunsInTurn p l (Ok o) → RunsInTurn p l (Ok u) →
+    AreSame o.machine u.machine × (o.interactions ≡ u.interactions) × (o.stop ≡ u.stop)
+
 -- with one worker an accepted program within limits has one outcome, up to the numbers of agents
 abbrev pub ProgramsEndAlike : Type 0
 ProgramsEndAlike = (text : List ℕ) (p : Program) (l : Limits) (o u : Outcome) → IsAccepted text p → l.workers ≡ 1 → RunsTo p l (Ok o) → RunsTo p l (Ok u) →

@@ -1,6 +1,6 @@
 //! Laws on runs and their outcomes, for proofs above them. No function here does anything.
 
-ghost use Rattle.in_run.specs.Laws.{NormalOutcomesAreOne, OutcomesAreMachines, OutcomesAreReached, OutcomesAreSame, OutcomesStopAlike, ProgramsEndAlike, StopsAreOne, StopsAreSame, TurnsAreAllowed};
+ghost use Rattle.in_run.specs.Laws.{NormalOutcomesAreOne, OutcomesAreMachines, OutcomesAreReached, OutcomesAreSame, OutcomesStopAlike, ProgramsEndAlike, StopsAreOne, StopsAreSame, TurnsAreAllowed, TurnsAreOne};
 
 /// A machine stops in one way, after a given number of interactions within a limit.
 pub fn stops_are_one()
@@ -37,6 +37,11 @@ pub fn outcomes_are_reached()
 /// `run`.
 pub fn turns_are_allowed()
     ensures { TurnsAreAllowed }
+{}
+
+/// Interactions in turn of an accepted program within limits have one outcome, up to the numbers of agents, with any number of workers.
+pub fn turns_are_one()
+    ensures { TurnsAreOne }
 {}
 
 /// With one worker an accepted program within limits has one outcome, up to the numbers of agents.
