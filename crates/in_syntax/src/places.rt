@@ -8,8 +8,8 @@ ghost use Rattle.in_syntax.specs.Refusals.{earlier};
 /// columns are characters. That columns are characters is this project's own choice.
 #[derive(Clone, Copy, Debug, PartialEq, Eq)]
 pub struct Place {
-    pub from: usize,
-    pub to: usize,
+    pub from: u32,
+    pub to: u32,
     pub line: u32,
     pub col: u32,
 }
