@@ -40,15 +40,15 @@ fn numbers_of(refusal: Refusal) -> Numbers
 {
     let Refusal { code, place, other } = refusal;
     let (other_from, other_to) = match other {
-        Some(other) => (other.from, other.to),
+        Some(other) => (other.from as usize, other.to as usize),
         None => (0, 0),
     };
     Numbers {
         code: code_number(code),
         line: place.line,
         column: place.col,
-        from: place.from,
-        to: place.to,
+        from: place.from as usize,
+        to: place.to as usize,
         other_from,
         other_to,
     }

@@ -81,7 +81,7 @@ fn answer_to(alloc: Global, text: &[u8]) -> Result<Verdict, AllocError>
     match check(alloc, text) {
         Ok(_program) => Ok(Verdict::Accepted),
         Err(Fault::Refused(refusal)) if is_stuck(refusal.code) => {
-            Ok(Verdict::Stuck(refusal.place.from))
+            Ok(Verdict::Stuck(refusal.place.from as usize))
         }
         Err(Fault::Refused(_)) => Ok(Verdict::Refused),
         Err(Fault::Memory(error)) => Err(error),
@@ -118,7 +118,8 @@ impl Refused<'_> {
 
     /// The effect of a change after which the rule or the net around this byte of the text is refused.
     fn effect_at(&self, at: usize) -> Effect {
-        let (here, there) = (self.number(self.place.from), self.number(at));
+        let here = self.number(self.place.from as usize);
+        let there = self.number(at);
         if here < there {
             Effect::Builds
         } else if there < here {

@@ -138,7 +138,7 @@ fn add_way(report: &mut Report, field: Field, way: &[u32]) {
 }
 
 /// Notes that the symbol at this byte is shown.
-fn add_shown(shown: &mut Vec<usize>, at: usize) -> Result<(), AllocError> {
+fn add_shown(shown: &mut Vec<u32>, at: u32) -> Result<(), AllocError> {
     shown.push(at)?;
     Ok(())
 }
@@ -149,7 +149,7 @@ fn add_passed_by(
     symbol: &SourceSymbol,
     class: Option<usize>,
     ports: (u8, u8),
-    shown: &mut Vec<usize>,
+    shown: &mut Vec<u32>,
 ) {
     let at = symbol.name.place.from;
     if !shown.as_slice().contains(&at) {
@@ -159,7 +159,7 @@ fn add_passed_by(
 }
 
 /// The same for a node on a way from one node to another.
-fn add_passed(report: &mut Report, field: Field, way: (u32, u32, u32), shown: &mut Vec<usize>) {
+fn add_passed(report: &mut Report, field: Field, way: (u32, u32, u32), shown: &mut Vec<u32>) {
     let (from, node, to) = way;
     if let (Some(ports), Some((symbol, class))) = (
         field.passed(from, node, to),
@@ -175,7 +175,7 @@ fn add_braces_on_the_way(
     field: Field,
     node: u32,
     way: &[u32],
-    shown: &mut Vec<usize>,
+    shown: &mut Vec<u32>,
 ) {
     let mut from = node;
     for (index, next) in way.iter().enumerate() {

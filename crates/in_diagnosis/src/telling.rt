@@ -16,7 +16,7 @@ use std::alloc::{AllocError, Global};
 
 /// Adds that there are more agents than a right member or the net may have.
 fn add_agents(report: &mut Report, source: &Source, place: Place) {
-    let (most, what) = match rule_at(source, place.from) {
+    let (most, what) = match rule_at(source, place.from as usize) {
         Some(_) => (MAX_MEMBER_AGENTS, "agents in the right member of a rule"),
         None => (MAX_AGENTS, "agents in the net"),
     };

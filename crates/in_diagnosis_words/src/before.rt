@@ -14,13 +14,13 @@ pub(crate) fn tokens_of(alloc: Global, part: &[u8]) -> Result<Vec<Token>, AllocE
 
 /// The tokens before a place of a text whose tokens have no fault.
 pub(crate) fn tokens_before(report: &Report, place: Place) -> Result<Vec<Token>, AllocError> {
-    let front = report.text().get(..place.from).unwrap_or(&[]);
+    let front = report.text().get(..place.from as usize).unwrap_or(&[]);
     tokens_of(report.alloc, front)
 }
 
 /// The kind of the token right after a place of a text whose tokens have no fault.
 pub(crate) fn kind_after(report: &Report, place: Place) -> Result<Option<TokenKind>, AllocError> {
-    let rest = report.text().get(place.to..).unwrap_or(&[]);
+    let rest = report.text().get(place.to as usize..).unwrap_or(&[]);
     let tokens = tokens_of(report.alloc, rest)?;
     match tokens.first() {
         Some(token) => Ok(Some(token.kind)),
@@ -78,7 +78,7 @@ pub(crate) fn begin_symbol(tokens: &[Token]) -> bool {
 }
 
 /// Whether these tokens end with a name, right before this byte.
-pub(crate) fn end_with_name_at(tokens: &[Token], at: usize) -> bool {
+pub(crate) fn end_with_name_at(tokens: &[Token], at: u32) -> bool {
     match tokens.last() {
         Some(token) => token.kind == TokenKind::Name && token.place.to == at,
         None => false,

@@ -197,12 +197,13 @@ pub fn declaration_with(
 
 /// The end of the declaration of a name: its `;`, which the tree doesn't have. Comments may come before it.
 fn declaration_end(text: &[u8], name: Place) -> usize {
+    let from = name.from as usize;
     let mut is_comment = false;
-    for (index, byte) in text.get(name.from..).unwrap_or(&[]).iter().enumerate() {
+    for (index, byte) in text.get(from..).unwrap_or(&[]).iter().enumerate() {
         match *byte {
             b'#' => is_comment = true,
             b'\n' => is_comment = false,
-            b';' if !is_comment => return name.from.saturating_add(index),
+            b';' if !is_comment => return from.saturating_add(index),
             _ => (),
         }
     }
@@ -218,7 +219,7 @@ fn edit_of(
 ) -> Result<Edit, AllocError> {
     let words = declaration_with(alloc, symbol, braces)?;
     Ok(Edit {
-        from: symbol.name.place.from,
+        from: symbol.name.place.from as usize,
         to: declaration_end(text, symbol.name.place),
         words,
     })
@@ -303,9 +304,11 @@ fn is_inside(byte: u8) -> bool {
 
 /// The place of the character that begins at a byte of a text: its line and its column, both from 1.
 pub fn place_at(text: &[u8], at: usize) -> Place {
+    let mut from: u32 = 0;
     let mut line: u32 = 1;
     let mut column: u32 = 1;
     for byte in text.get(..at).unwrap_or(text) {
+        from = from.saturating_add(1);
         if *byte == b'\n' {
             line = line.saturating_add(1);
             column = 1;
@@ -314,8 +317,8 @@ pub fn place_at(text: &[u8], at: usize) -> Place {
         }
     }
     Place {
-        from: at,
-        to: at,
+        from,
+        to: from,
         line,
         col: column,
     }

@@ -39,7 +39,7 @@ fn add_place(page: &mut Words, text: &[u8], place: Place) {
     page.say(",\"column\":");
     page.put(&column);
     page.say(",");
-    add_range(page, text, place.from, place.to);
+    add_range(page, text, place.from as usize, place.to as usize);
     page.say("}");
 }
 

@@ -34,6 +34,11 @@ pub(crate) fn between(text: &[u8], from: usize, to: usize) -> &str {
     }
 }
 
+/// The text at a place.
+pub(crate) fn text_at(text: &[u8], place: Place) -> &str {
+    between(text, place.from as usize, place.to as usize)
+}
+
 /// A part of a line: the text before a place in it, at the place, and after it. A byte at the place that is part of no character is in
 /// none of them.
 #[derive(Clone, Copy)]
@@ -96,14 +101,14 @@ fn rest(text: &[u8], from: usize, to: usize) -> &str {
 
 /// The line in which a place begins.
 fn line_of(text: &[u8], place: Place) -> Line<'_> {
-    let most = place.to.saturating_add(MOST_BYTES_AFTER);
-    let end = near_end(text, place.from, most);
-    let to = place.to.min(end);
+    let (from, last) = (place.from as usize, place.to as usize);
+    let end = near_end(text, from, last.saturating_add(MOST_BYTES_AFTER));
+    let to = last.min(end);
     let broken = to < end && between(text, to, end).is_empty();
     let after = if broken { to + 1 } else { to };
     Line {
-        before: between(text, near_start(text, place.from), place.from),
-        marked: between(text, place.from, to),
+        before: between(text, near_start(text, from), from),
+        marked: between(text, from, to),
         broken,
         after: rest(text, after, end),
     }

@@ -273,7 +273,7 @@ impl Unexpected<'_> {
 fn add_missing_semicolon(report: &mut Report, before: &[Token]) {
     if let Some(place) = place_after(before) {
         report.note(place, sentences::SEMICOLON_HERE);
-        report.change(place.to, place.to, ";");
+        report.change(place, ";");
     }
 }
 
@@ -304,7 +304,7 @@ fn open_before(unexpected: &Unexpected) -> Option<Token> {
 /// Adds the word that may have been meant at a place.
 fn add_meant(report: &mut Report, place: Place, word: &str) {
     report.help_on(sentences::MEANT_WORD, word);
-    report.change(place.from, place.to, word);
+    report.change(place, word);
 }
 
 /// Adds help for a token that wasn't expected.

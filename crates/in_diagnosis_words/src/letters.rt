@@ -91,7 +91,7 @@ fn add_rest(report: &mut Report, place: Place, rest: &[u8]) {
     match (first_two(rest), rest.first()) {
         ((Some(first), second), _) => {
             add_letter(report, place, first);
-            let before = byte_before(report.text(), place.from);
+            let before = byte_before(report.text(), place.from as usize);
             report.help(help_with(before, first, second));
         }
         ((None, _), Some(byte)) => {
@@ -104,7 +104,7 @@ fn add_rest(report: &mut Report, place: Place, rest: &[u8]) {
 
 /// Adds that no token begins at this place.
 pub(crate) fn add_no_token(report: &mut Report, place: Place) {
-    if let Some(rest) = report.text().get(place.from..) {
+    if let Some(rest) = report.text().get(place.from as usize..) {
         add_rest(report, place, rest);
     }
 }

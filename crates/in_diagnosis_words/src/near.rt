@@ -81,7 +81,7 @@ fn add_name(report: &mut Report, name: &Name, further: bool) {
     };
     report.note_on(name.place, sentence, name.text.as_str());
     if let Some(place) = report.wrong_place() {
-        report.change(place.from, place.to, name.text.as_str());
+        report.change(place, name.text.as_str());
     }
 }
 

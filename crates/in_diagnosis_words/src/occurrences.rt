@@ -6,10 +6,10 @@ use std::alloc::{AllocError, Global};
 /// The byte at which the net's names begin.
 fn net_start(net: &SourceNet) -> usize {
     if let Some(end) = net.free.as_slice().first() {
-        return end.name.place.from;
+        return end.name.place.from as usize;
     }
     match net.equations.as_slice().first() {
-        Some(equation) => equation.left.name.place.from,
+        Some(equation) => equation.left.name.place.from as usize,
         None => usize::MAX,
     }
 }
@@ -21,7 +21,7 @@ pub fn rule_at(source: &Source, at: usize) -> Option<usize> {
     }
     let mut found = None;
     for (number, rule) in source.rules.as_slice().iter().enumerate() {
-        if rule.first.name.place.from <= at {
+        if rule.first.name.place.from as usize <= at {
             found = Some(number);
         }
     }
@@ -30,7 +30,8 @@ pub fn rule_at(source: &Source, at: usize) -> Option<usize> {
 
 /// The rule around a place.
 pub(crate) fn rule_around(source: &Source, at: Place) -> Option<&SourceRule> {
-    source.rules.as_slice().get(rule_at(source, at.from)?)
+    let number = rule_at(source, at.from as usize)?;
+    source.rules.as_slice().get(number)
 }
 
 /// The names of the rule around a place, or those of the net's equations, in the order of the text.
@@ -56,7 +57,7 @@ pub(crate) fn occurrences(
     let names = names_around(alloc, source, at)?;
     let mut found = Vec::new(alloc);
     for NameUse { place, .. } in names.as_slice() {
-        if text.get(place.from..place.to) == Some(name) {
+        if text.get(place.from as usize..place.to as usize) == Some(name) {
             found.push(*place)?;
         }
     }

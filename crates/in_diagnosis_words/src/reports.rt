@@ -1,7 +1,7 @@
 //! A diagnosis, part by part, and its text or data.
 use crate::data::add_parts;
 use crate::edits::Edit;
-use crate::excerpts::{add_excerpt, between};
+use crate::excerpts::{add_excerpt, text_at};
 use crate::slots::Slot;
 use crate::words::Words;
 use in_syntax::Place;
@@ -63,7 +63,7 @@ impl<'a> Report<'a> {
 
     /// The text at a place.
     pub(crate) fn at(&self, place: Place) -> &'a str {
-        between(self.text, place.from, place.to)
+        text_at(self.text, place)
     }
 
     /// Keeps that memory ran out, so that there will be no diagnosis: `into_text` returns the error, or the last one of several.
@@ -180,9 +180,9 @@ impl<'a> Report<'a> {
         }
     }
 
-    /// Adds the change that replaces these bytes by these words to the last part.
-    pub(crate) fn change(&mut self, from: usize, to: usize, words: &str) {
-        match Edit::new(self.alloc, from, to, words) {
+    /// Adds the change that replaces the text at this place by these words to the last part.
+    pub(crate) fn change(&mut self, place: Place, words: &str) {
+        match Edit::new(self.alloc, place, words) {
             Ok(edit) => {
                 let done = self.push_change(edit, false);
                 self.keep(done);

@@ -1,6 +1,6 @@
 //! Variables that occur once in a rule or in the net.
 use crate::declarations::{first_of, symbol_named};
-use crate::excerpts::between;
+use crate::excerpts::text_at;
 use crate::near::distance;
 use crate::occurrences::{names_around, rule_around};
 use crate::reports::Report;
@@ -37,7 +37,7 @@ fn bare_names<'a>(
     for name in names.as_slice() {
         if is_bare(name) {
             let place = name.place;
-            let name = between(text, place.from, place.to);
+            let name = text_at(text, place);
             found.push(Bare { name, place })?;
         }
     }

@@ -44,7 +44,7 @@ pub enum Shown {
 
 /// The text at a place; empty if it isn't UTF-8.
 fn words_at(text: &[u8], place: Place) -> &str {
-    match text.get(place.from..place.to) {
+    match text.get(place.from as usize..place.to as usize) {
         Some(bytes) => str::from_utf8(bytes).unwrap_or(""),
         None => "",
     }

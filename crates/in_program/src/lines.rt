@@ -47,8 +47,8 @@ fn code_name(code: Code) -> &'static str
 fn part(text: &[u8], place: Place) -> &[u8]
     ensures { result.now ≡ slice_range text.now place.from place.to }
 {
-    let to = place.to.min(text.len());
-    &text[place.from.min(to)..to]
+    let to = (place.to as usize).min(text.len());
+    &text[(place.from as usize).min(to)..to]
 }
 
 /// Adds a colon and the text at the place, if the place isn't empty.

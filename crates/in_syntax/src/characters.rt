@@ -10,7 +10,7 @@ use unicode_ident::{is_xid_continue, is_xid_start};
 /// A spot between two characters: how many bytes come before it, its line and its column, both counted from 1.
 #[derive(Clone, Copy, Debug, PartialEq, Eq)]
 pub struct Spot {
-    pub at: usize,
+    pub at: u32,
     pub line: u32,
     pub col: u32,
 }
@@ -25,12 +25,12 @@ pub const START: Spot = Spot {
 impl Spot {
     /// The spot after a character.
     pub fn past(self, c: char) -> Spot
-        requires at { self.at + 4 < 2 ^ 64 }
+        requires at { self.at + 4 < 2 ^ 32 }
         requires line { self.line + 4 < 2 ^ 32 }
         requires col { self.col + 4 < 2 ^ 32 }
         ensures { result ≡ past self c }
     {
-        let at = self.at + c.len_utf8();
+        let at = self.at + c.len_utf8() as u32;
         if c == '\n' {
             Spot {
                 at,

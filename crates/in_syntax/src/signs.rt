@@ -32,7 +32,7 @@ fn name_at(alloc: Global, text: &[u8], place: Place) -> Result<Name, AllocError>
     requires { IsTextAt text.now place }
     ensures { IfOk result (λ n. n ≡ name_of text.now place) }
 {
-    match str::from_utf8(&text[place.from..place.to]) {
+    match str::from_utf8(&text[place.from as usize..place.to as usize]) {
         Ok(text) => Ok(Name {
             text: Text::from_str(alloc, text)?,
             place,
