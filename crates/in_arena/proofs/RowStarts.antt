@@ -25,3 +25,6 @@ module _ (a : Inside) (v : ArenaView) (e : arena_view a ≡ v) (row : RowStart) 
 -- it stays where it is
 pub row_still : (row : RowStart) (old new : ArenaView) → new.memory ≡ old.memory → IsRowStart row old → IsRowStart row new
 row_still row old new same is c = ap (λ (m : List Ptr). get_or m (class_no c) null_ptr) same ∙ is c
+
+pub row_starts_one : (row other : RowStart) (a : ArenaView) → IsRowStart row a → IsRowStart other a → row ≡ other
+row_starts_one row other a is of = let e = sym (is Small) ∙ of Small in λ z. record { base = record { ptr = e z } }

@@ -2,6 +2,7 @@
 ghost use Rattle.in_arena.specs.Classes.{ClassesAreApart, ClassesAreAll, NumbersAreApart, NumbersAreAll};
 ghost use Rattle.in_arena.specs.Changes.{FreeCountsChange, LeaseTakesOne, AllCellsStay, LeasesStay, LeasesDiffer, EmptyBagIsOf, BagsStay, FreeCellsAreInNoBag, LeaseToTakesOne, BagsStayApart, MovingKeepsApart, LeaseIsInNoBag};
 ghost use Rattle.in_arena.specs.Lending.{LeaseLends, LendingsJoin, LendingGoesBack, OthersStay};
+ghost use Rattle.in_arena.specs.RowStarts.{RowStartsAreOne, RowStartsStay};
 
 /// A number of ends that some class holds is held by one class alone.
 pub fn classes_are_apart()
@@ -102,4 +103,14 @@ pub fn lending_goes_back()
 /// The other leases of an arena stay its leases if the cell of one becomes free or live.
 pub fn others_stay()
     ensures { OthersStay }
+{}
+
+/// The row of an arena begins at one place.
+pub fn row_starts_are_one()
+    ensures { RowStartsAreOne }
+{}
+
+/// It begins there after a change of a cell.
+pub fn row_starts_stay()
+    ensures { RowStartsStay }
 {}

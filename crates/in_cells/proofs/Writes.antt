@@ -95,3 +95,14 @@ module _ (x y : End) (a : ArenaView) (es : List End) (b : ArenaView) (fs : List 
 
   pub stands_still : (u : Point ℕ) → u ≢ point_of x → u ≢ point_of y → stands_at b fs u ≡ stands_at a es u
   stands_still u one two = stands_there y x w.middle w.list b fs u still_y w.second two ∙ stands_there x y a es w.middle w.list u at_x w.first one
+
+-- ---- one outcome
+
+written_one : (at x : End) (a : ArenaView) (es : List End) (b c : ArenaView) (fs gs : List End) → IsWritten at x a es b fs → IsWritten at x a es c gs → (b ≡ c) × (fs ≡ gs)
+written_one (end.Cell d i) x a es b c fs gs v w = (v.0 ∙ sym w.0, v.1 ∙ sym w.1)
+written_one (end.Free k) x a es b c fs gs v w = (v.0 ∙ sym w.0, v.1 ∙ sym w.1)
+
+pub exchange_one : (x y : End) (a b c : ArenaView) (es fs gs : List End) → AreExchanged x y a es b fs → AreExchanged x y a es c gs → (b ≡ c) × (fs ≡ gs)
+exchange_one x y a b c es fs gs v w =
+    let e = written_one x y a es v.middle w.middle v.list w.list v.first w.first in
+    written_one y x w.middle w.list b c fs gs (subst (λ (z : ArenaView × List End). IsWritten y x z.0 z.1 b fs) (λ i. (e.0 i, e.1 i)) v.second) w.second

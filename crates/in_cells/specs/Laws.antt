@@ -8,9 +8,15 @@ use Rattle.in_arena.specs.declared.content.End.TheVariants as end
 use Rattle.in_net.specs.Nets.{Point, Port, Free, Net}
 use Rattle.in_gluing.specs.AsGluing.{two_parts}
 use Rattle.in_gluing.specs.Joining.{WiresLeadBack}
-use Rattle.in_cells.specs.Shown.{IsShown}
+use Rattle.in_cells.specs.Shown.{IsShown, AreExchanged}
 use Rattle.in_gluing.specs.SideBySide.{StandBeside}
 use Rattle.in_cells.specs.Copying.{ArePart, AreAllLive, AreClosed, IsCopied, moved, moved_end, name_in, number_in}
+
+-- ---- two ends that are exchanged
+
+-- two ends are exchanged in one way: the cells and the list of ends are determined
+abbrev pub ExchangesAreOne : Type 0
+ExchangesAreOne = (x y : End) (a b c : ArenaView) (ends after other : List End) → AreExchanged x y a ends b after → AreExchanged x y a ends c other → (b ≡ c) × (after ≡ other)
 
 -- ---- some agents of a net
 

@@ -2,7 +2,12 @@
 
 ghost use Rattle.in_cells.specs.Between.{PairsAreAddedOnce};
 ghost use Rattle.in_cells.specs.Start.{SetHasSymbols, SetIsReady, ShownIsStep};
-ghost use Rattle.in_cells.specs.Laws.{CopiesAreShown, NoneIsLeased, AllAreClosed, CopiesStandBeside, PartStandsBeside};
+ghost use Rattle.in_cells.specs.Laws.{ExchangesAreOne, CopiesAreShown, NoneIsLeased, AllAreClosed, CopiesStandBeside, PartStandsBeside};
+
+/// Two ends are exchanged in one way: the cells and the list of ends afterwards are determined.
+pub fn exchanges_are_one()
+    ensures { ExchangesAreOne }
+{}
 
 /// If the cells showed a net, and the right member is in other cells, the pair is retired and the sides of the boundary ends are set,
 /// then joining can begin.

@@ -1,6 +1,7 @@
 -- A text has one result.
-use Rattle.std.proofs.Common.{◌≡◌, ℕ, List, Result, Ok, Err, refl, sym, subst}
+use Rattle.std.proofs.Common.{◌≡◌, ℕ, List, Option, Result, Ok, Err, refl, sym, subst, ◌∙◌}
 use Rattle.in_syntax.specs.declared.faults.Fault.{Fault}
+use Rattle.in_syntax.specs.declared.faults.Refusal.{Refusal}
 use Rattle.in_syntax.specs.declared.faults.Fault.TheVariants.{Refused, Memory}
 use Rattle.in_syntax.specs.declared.tree.Source.{Source}
 use Rattle.in_syntax.specs.Answers.{AgreeBy, IsOneBy}
@@ -23,7 +24,7 @@ use Rattle.in_cover.proofs.Public.{covered_once}
 use Rattle.in_syntax.specs.declared.faults.Code.TheVariants.{E12, E13}
 use Rattle.in_check.specs.declared.checked.Certificate.{Certificate}
 use Rattle.in_check.specs.Certificates.{CertifiesRules, CertifiesNet}
-use Rattle.in_check.specs.Checking.{BuildsRules, ChecksNames, ChecksNet, ChecksNetSteps, ChecksPairs, ChecksRules, ChecksRuleSteps, ChecksTypes, IsChecked, KeepsAnswers, TypePasses}
+use Rattle.in_check.specs.Checking.{BuildsRules, ChecksNames, ChecksNet, ChecksNetSteps, ChecksPairs, ChecksRules, ChecksRuleSteps, ChecksTypes, IsChecked, IsFound, KeepsAnswers, TypePasses}
 use Rattle.in_check.specs.Laws.{AreOneProgram, TextsAreCheckedOnce}
 use Rattle.in_check.specs.Programs.{Program}
 use Rattle.in_check.proofs.OnePass.{AllOne, one_certified, one_rules, one_rules_steps, one_types}
@@ -76,3 +77,9 @@ checked_once text =
     then_same AreOneProgram (Parses text) ChecksNames (parsed_once text) (λ s tree.
     let of_text : IsOfText s = record { text = text; tree = tree } in
     then_same AreOneProgram (Tabulates s) (ChecksRules s) (one_tables s (texts_begin_apart text s tree)) (λ t tabled. rules_and_net_once s t of_text tabled))
+
+-- ---- findings
+
+pub one_finding : (before one other : Option Refusal) (f : Fault) → IsFound before one f → IsFound before other f → one ≡ other
+one_finding before one other (Refused r) h g = h ∙ sym g
+one_finding before one other (Memory e) h g = h ∙ sym g

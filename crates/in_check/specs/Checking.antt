@@ -132,10 +132,10 @@ IsAccepted text p = IsChecked text (Ok p)
 abbrev pub IsRefused : List ℕ → Refusal → Type 0
 IsRefused text r = IsChecked text (Err (Refused r))
 
--- the refusal is found
-abbrev pub IsFound : Option Refusal → Fault → Type 0
-IsFound found (Refused r) = found ≡ Some r
-IsFound found (Memory e) = Unit {0}
+-- the refusal is found; if memory ran out, the finding is that of before
+abbrev pub IsFound : Option Refusal → Option Refusal → Fault → Type 0
+IsFound before found (Refused r) = found ≡ Some r
+IsFound before found (Memory e) = found ≡ before
 
 -- ---- the results of the passes for an accepted program, each in a field
 

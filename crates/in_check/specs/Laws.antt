@@ -1,8 +1,10 @@
 -- Laws on the result of checking a text.
-use Rattle.std.specs.Prelude.{◌≡◌, ℕ, List}
+use Rattle.std.specs.Prelude.{◌≡◌, ℕ, List, Option}
+use Rattle.in_syntax.specs.declared.faults.Fault.{Fault}
+use Rattle.in_syntax.specs.declared.faults.Refusal.{Refusal}
 use Rattle.in_syntax.specs.Answers.{IsOneBy}
 use Rattle.in_cover.specs.Laws.{AreOneTable}
-use Rattle.in_check.specs.Checking.{IsChecked}
+use Rattle.in_check.specs.Checking.{IsChecked, IsFound}
 use Rattle.in_check.specs.Programs.{Program}
 
 -- two programs of one text: their values for each accessor are equal
@@ -17,3 +19,7 @@ pub record AreOneProgram (p q : Program) : Type 0 where
 -- all results that checking may have for a text agree
 abbrev pub TextsAreCheckedOnce : Type 0
 TextsAreCheckedOnce = (text : List ℕ) → IsOneBy AreOneProgram (IsChecked text)
+
+-- after a fault there is one finding
+abbrev pub FindingsAreOne : Type 0
+FindingsAreOne = (before one other : Option Refusal) (f : Fault) → IsFound before one f → IsFound before other f → one ≡ other

@@ -285,7 +285,8 @@ fn declare_tree(
     findings: &mut Findings,
 ) -> Result<DeclaredText, Fault>
     requires { IsOfText source }
-    ensures { DeclaresNames source result }
+    ensures declared { DeclaresNames source result }
+    ensures kept { findings.new ≡ findings.old }
 {
     match declare(alloc, &source) {
         Ok(declared) => Ok(declared),
@@ -298,7 +299,8 @@ fn declare_tree(
 
 /// Builds the tree, and then all parts that it declares.
 fn declare_text(alloc: Global, text: &[u8], findings: &mut Findings) -> Result<DeclaredText, Fault>
-    ensures { DeclaresText text.now result }
+    ensures declared { DeclaresText text.now result }
+    ensures kept { findings.new ≡ findings.old }
 {
     match parse_expecting(alloc, text, &mut findings.expected) {
         Ok(source) => declare_tree(alloc, source, findings),
@@ -323,7 +325,8 @@ fn check_names(
 
 /// Builds all parts that the text declares, and then checks the types and the rest.
 fn check_text(alloc: Global, text: &[u8], findings: &mut Findings) -> Result<Passed, Fault>
-    ensures { IsChecked text.now result }
+    ensures checked { IsChecked text.now result }
+    ensures kept { findings.new ≡ findings.old }
 {
     match declare_text(alloc, text, findings) {
         Ok(declared) => check_types(alloc, declared, &mut findings.evidence),
@@ -335,6 +338,7 @@ fn check_text(alloc: Global, text: &[u8], findings: &mut Findings) -> Result<Pas
 fn checked_text(alloc: Global, text: &[u8], findings: &mut Findings) -> Result<Checked, Fault>
     ensures checked { IsChecked text.now result }
     ensures promised { IfOk result (λ p. ReachesAsPromised (system_of p)) }
+    ensures kept { findings.new ≡ findings.old }
 {
     let passed = check_text(alloc, text, findings)?;
     Ok(Checked { passed })
@@ -358,11 +362,13 @@ pub fn check(alloc: Global, text: &[u8]) -> Result<Checked, Fault>
     check_finding(alloc, text, &mut Findings::none())
 }
 
-/// As `check`. If it refuses the text, `findings` gets the refusal, with what was found until then.
+/// As `check`. If it refuses the text, `findings` gets the refusal, with what was found until then; else it has the refusal that it had before, if
+/// any.
 pub fn check_finding(alloc: Global, text: &[u8], findings: &mut Findings) -> Result<Checked, Fault>
     ensures checked { IsChecked text.now result }
     ensures promised { IfOk result (λ p. ReachesAsPromised (system_of p)) }
-    ensures found { IfErr result (IsFound findings.new) }
+    ensures found { IfErr result (IsFound findings.old findings.new) }
+    ensures accepted { IfOk result (λ _. findings.new ≡ findings.old) }
 {
     match checked_text(alloc, text, findings) {
         Ok(checked) => Ok(checked),

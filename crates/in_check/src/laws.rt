@@ -1,6 +1,6 @@
 //! Laws on the result of checking a text, for proofs above them. No function here does anything.
 
-ghost use Rattle.in_check.specs.Laws.{TextsAreCheckedOnce};
+ghost use Rattle.in_check.specs.Laws.{FindingsAreOne, TextsAreCheckedOnce};
 ghost use Rattle.in_check.specs.Plain.{PairsHaveTheirRule, PlainAsPromised, PlainStarts, PlainSteps, PlainStepsAreOne, PlainStepsUnderNames};
 ghost use Rattle.in_check.specs.Promises.{AcceptedIsSound, RenamedStepsAreRenamed, RenamingChangesNothing, SoundReachesAsPromised, StepsReach};
 
@@ -8,6 +8,11 @@ ghost use Rattle.in_check.specs.Promises.{AcceptedIsSound, RenamedStepsAreRename
 /// numbers of rules, open nets and steps. The law doesn't cover running out of memory.
 pub fn texts_are_checked_once()
     ensures { TextsAreCheckedOnce }
+{}
+
+/// A fault determines the refusal that findings have after it: its own one, or, if memory ran out, the one of before.
+pub fn findings_are_one()
+    ensures { FindingsAreOne }
 {}
 
 /// The program of an accepted text is a sound system: its tables, its initial net and each of its rules meet the conditions of the laws.

@@ -1,7 +1,9 @@
 -- Laws over templates.
-use Rattle.std.specs.Prelude.{◌≡◌, ◌⊎◌, ℕ, List, map, Some, slice_get}
+use Rattle.std.specs.Prelude.{◌≡◌, ◌⊎◌, ℕ, List, MatchOption, map, Option, Some, slice_get}
 use Rattle.in_base.specs.Lists.{Pairwise}
+use Rattle.in_arena.specs.declared.content.CellClass.{CellClass}
 use Rattle.in_symbols.specs.Tables.{Tables}
+use Rattle.in_net.specs.declared.nets.Cell.{Cell}
 use Rattle.in_net.specs.Nets.{IsNet, Point, Signature, net_of}
 use Rattle.in_net.specs.Parts.{Parts}
 use Rattle.in_net.specs.Rules.{RuleParts}
@@ -11,6 +13,7 @@ use Rattle.in_cover.specs.Cover.{IsPair, IsRuleFor}
 use Rattle.in_check.specs.Checking.{IsAccepted}
 use Rattle.in_check.specs.Programs.{Program}
 use Rattle.in_compile.specs.declared.cells.Need.{Need}
+use Rattle.in_compile.specs.Cells.{IsEnough, IsFirstShort, IsNeedOf}
 use Rattle.in_compile.specs.Members.{MemberParts, IsMemberOf}
 use Rattle.in_compile.specs.Templates.{TemplateParts, HasHeads, IsTemplateOf, TemplatesParts, template_at, IsLargestNeed, AreTemplatesOf}
 use Rattle.in_compile.specs.Wires.{both_points, over_of, over_point, within_of}
@@ -45,6 +48,14 @@ TemplatesOfAreOne = (p : Program) (ts us : TemplatesParts) → AreTemplatesOf p 
 -- .. and the largest need by the templates
 abbrev pub LargestNeedsAreOne : Type 0
 LargestNeedsAreOne = (ts : List TemplateParts) (n m : Need) → IsLargestNeed ts n → IsLargestNeed ts m → n ≡ m
+
+-- agents need one number of cells of each class
+abbrev pub AgentNeedsAreOne : Type 0
+AgentNeedsAreOne = (t : Tables) (agents : List (Option Cell)) (n m : Need) → IsNeedOf t agents n → IsNeedOf t agents m → n ≡ m
+
+-- one class is the first that is short, or none is
+abbrev pub FirstShortsAreOne : Type 0
+FirstShortsAreOne = (need free : CellClass → ℕ) (x y : Option CellClass) → MatchOption x (IsEnough need free) (IsFirstShort need free) → MatchOption y (IsEnough need free) (IsFirstShort need free) → x ≡ y
 
 -- ---- the wires that a member lists
 

@@ -22,7 +22,7 @@ use Rattle.in_compile.specs.Cells.{is_of}
 use Rattle.in_compile.specs.Members.{AgentParts, MemberParts, IsMemberOf}
 use Rattle.in_compile.specs.Templates.{TemplateParts, HasHeads, IsTemplateOf, TemplatesParts, template_at, AreTemplatesOf}
 use Rattle.in_compile.specs.Laws.{HasOneTemplate}
-use Rattle.in_compile.proofs.Needs.Classes.{same_need}
+use Rattle.in_compile.proofs.Needs.Classes.{one_need}
 
 -- ---- one class
 
@@ -90,7 +90,7 @@ module _ (t : Tables) (n : Parts) (p q : MemberParts) (a : IsMemberOf t n p) (b 
     agents = agents i;
     joints = joints i;
     pairs = pairs i;
-    need = same_need p.need q.need (λ c. a.need c ∙ sym (b.need c)) i;
+    need = one_need t n.cells p.need q.need a.need b.need i;
   }
 
 -- ---- one template

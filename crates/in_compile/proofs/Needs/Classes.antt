@@ -1,5 +1,6 @@
 -- Numbers of cells by class: two needs that are alike are one, and one class is the first that is short. What a loop over all classes keeps.
-use Rattle.std.proofs.Common.{◌≡◌, ◌⊎◌, inl, inr, ◌<◌, ◌≤◌, ◌+◌, ℕ, zero, suc, cond, nat_lt, length, get_or, sum_by, refl, ap, subst, ◌∙◌, arith}
+use Rattle.std.proofs.Common.{◌≡◌, ◌⊎◌, inl, inr, ◌<◌, ◌≤◌, ◌+◌, ℕ, zero, suc, cond, nat_lt, length, get_or, sum_by, Option, Some, None, refl, sym, ap, subst, ◌∙◌, arith}
+use Rattle.std.specs.Prelude.{List, MatchOption}
 use Rattle.std.proofs.lemmas.Bool.{cases_eq, cases_lt}
 use Rattle.std.proofs.lemmas.Bool.Decides.{nat_tests}
 use Rattle.in_arena.specs.Classes.{all_of, amount, class_no, classes}
@@ -7,8 +8,10 @@ use Rattle.in_arena.proofs.Public.{same_class}
 use Rattle.in_arena.specs.declared.content.CellClass.{CellClass}
 use Rattle.in_arena.specs.declared.content.CellClass.TheVariants.{Small, Large, Wide}
 use Rattle.in_arena.specs.declared.content.CellCounts.{CellCounts}
+use Rattle.in_symbols.specs.Tables.{Tables}
+use Rattle.in_net.specs.declared.nets.Cell.{Cell}
 use Rattle.in_compile.specs.declared.cells.Need.{Need}
-use Rattle.in_compile.specs.Cells.{count_of, need_by, IsFirstShort}
+use Rattle.in_compile.specs.Cells.{count_of, need_by, IsEnough, IsFirstShort, IsNeedOf}
 use Rattle.in_compile.specs.Listing.{of_class}
 
 -- ---- needs
@@ -21,6 +24,9 @@ counted_by f Wide = refl
 pub same_need : (x y : Need) → ((c : CellClass) → count_of x c ≡ count_of y c) → x ≡ y
 same_need x y h = λ i. need_by (λ c. h c i)
 
+pub one_need : (t : Tables) (agents : List (Option Cell)) (x y : Need) → IsNeedOf t agents x → IsNeedOf t agents y → x ≡ y
+one_need t agents x y h g = same_need x y (λ c. h c ∙ sym (g c))
+
 pub one_short : (need free : CellClass → ℕ) (c d : CellClass) → IsFirstShort need free c → IsFirstShort need free d → c ≡ d
 one_short need free c d h g = go (let o : (class_no c ≡ class_no d) ⊎ (class_no c < class_no d) ⊎ (class_no d < class_no c) = grind arith in o)
   where
@@ -28,6 +34,13 @@ one_short need free c d h g = go (let o : (class_no c ≡ class_no d) ⊎ (class
     go (inl e) = same_class c d e
     go (inr (inl l)) = absurd (let a = h.0 in let b = g.1 c l in omega (arith, a, b))
     go (inr (inr l)) = absurd (let a = g.0 in let b = h.1 d l in omega (arith, a, b))
+
+-- .. and whether one is short
+pub short_or_none : (need free : CellClass → ℕ) (x y : Option CellClass) → MatchOption x (IsEnough need free) (IsFirstShort need free) → MatchOption y (IsEnough need free) (IsFirstShort need free) → x ≡ y
+short_or_none need free None None h g = refl
+short_or_none need free None (Some d) h g = absurd (let a = h d in let b = g.0 in omega (arith, a, b))
+short_or_none need free (Some c) None h g = absurd (let a = g c in let b = h.0 in omega (arith, a, b))
+short_or_none need free (Some c) (Some d) h g = ap (λ (k : CellClass). Some k) (one_short need free c d h g)
 
 -- the first class that is short, if as many cells are needed
 pub short_needed : (need more free : CellClass → ℕ) (c : CellClass) → ((d : CellClass) → need d ≡ more d) → IsFirstShort need free c → IsFirstShort more free c

@@ -6,8 +6,8 @@ use Rattle.in_check.proofs.checking.checked_text.Goals as goal
 
 pub invariant_of-result : goal.invariant_of-result
 invariant_of-result c =
-    let accepted = c.in_ok-passed.ensures in
+    let accepted = c.in_ok-passed.ensures.checked in
     (few_rules_of c.args.text.now c.in_ok-passed.passed accepted, certified_each c.args.text.now c.in_ok-passed.passed accepted, (c.args.text.now, accepted))
 
 pub returns-clause-promised : goal.returns-clause-promised
-returns-clause-promised c = as_promised (system_of c.in_ok-passed.passed) (is_sound c.args.text.now c.in_ok-passed.passed c.in_ok-passed.ensures)
+returns-clause-promised c = as_promised (system_of c.in_ok-passed.passed) (is_sound c.args.text.now c.in_ok-passed.passed c.in_ok-passed.ensures.checked)
