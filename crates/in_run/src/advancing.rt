@@ -30,8 +30,8 @@ fn take_alone(machine: &mut Machine, limits: Limits, most: u64) -> u64
     count + machine.take_first(most)
 }
 
-/// Does interactions of a long run by several workers, at most `left`: a phase if one should pay, and before the first one, and after one that hasn't
-/// paid, a sample; else some interactions on this thread. Returns their number.
+/// Does interactions of a long run by several workers, at most `left`: a phase if one should pay, and before each one a sample; else some
+/// interactions on this thread. Returns their number.
 fn by_parts<R: Threads>(
     rt: &R,
     alloc: Global,

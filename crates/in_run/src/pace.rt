@@ -111,7 +111,8 @@ impl Pace {
     }
 
     /// Notes the gain of a phase, of a net with `agents` agents, after which `interactions` interactions are done. It has paid if the other parts,
-    /// without the longest one, did at least twice its cost in interactions, and a quarter of all interactions.
+    /// without the longest one, did at least twice its cost in interactions, and a quarter of all interactions. What it left may be long values
+    /// alone, which cost more to move than there is to do with them, so a sample comes before the next phase too.
     pub(crate) fn note(&mut self, worked: Worked, agents: u32, interactions: u64) {
         self.phases = self.phases.saturating_add(1);
         self.threads = self.threads.max(worked.parts);
@@ -120,6 +121,7 @@ impl Pace {
             + COST_OF_A_THREAD * u64::from(worked.parts);
         if gain >= 2 * cost && gain >= worked.interactions / 4 {
             self.wait = FIRST_WAIT;
+            self.is_worth = false;
         } else {
             self.put_off(cost, interactions);
         }
