@@ -10,7 +10,7 @@ import sys
 import tempfile
 from functools import partial
 
-from harness.programs import EXAMPLES, HERE, MEMORY, MOST_BYTES, REFUSED, WRONG_WORDS, Program, answering, differing, text_of
+from harness.programs import EXAMPLES, HERE, MEMORY, MOST_BYTES, REFUSED, VALGRIND, WRONG_WORDS, Program, answering, differing, text_of
 from harness.refusals import Refuser
 
 TOP = os.path.normpath(os.path.join(HERE, "..", ".."))
@@ -29,10 +29,6 @@ COUNTED = ("sum", "waits_for_itself", "two_pairs_of_braces_for_a_copy", "misspel
 FEW_REQUESTS = ("smallest", "forgotten_semicolon")
 # Valgrind takes some thirty times as long, and so it is given the examples of these first letters alone.
 FOR_VALGRIND = "d*.inet"
-VALGRIND = {
-    "memory": ["valgrind", "-q", "--error-exitcode=99", "--leak-check=full", "--errors-for-leak-kinds=definite,indirect,possible"],
-    "races": ["valgrind", "-q", "--error-exitcode=99", "--tool=helgrind"],
-}
 # The memory that the tests count and refuse is asked for by these.
 WRAPPED = ["-Wl,--wrap=malloc,--wrap=realloc,--wrap=free"]
 

@@ -5,11 +5,12 @@ import itertools
 import os
 import random
 import re
+import shutil
 from functools import partial
 
 from harness import generated
 from harness.asked import harness_program
-from harness.programs import ACCEPTED, EXAMPLES, FULL, LIMIT, ROWS, answering, text_of
+from harness.programs import ACCEPTED, EXAMPLES, FULL, LIMIT, ROWS, VALGRIND, answering, shortened, text_of
 from harness.refusals import LINE, Refuser, refused_memory
 from harness.rows import sessions
 
@@ -31,6 +32,8 @@ PROGRAMS, WAYS = 200, 12
 STOPPED = 60
 STOPPED_BY = [(2, 0, 5), (3, 1, 5), (8, 7, 1000)]
 FEW_CELLS = (16, 20, 28, 40)
+# Valgrind takes some thirty times as long: so many generated programs of so many interactions are forced so under it.
+WATCHED, WATCHED_FROM, WATCHED_TO, WATCHED_WAY = 10, 100, 2_000, (4, 1, 50)
 
 WORKERS = (1, 2, 3, 8, 64)
 TIMES = 2
@@ -212,6 +215,23 @@ def forced_refusals(forced):
         yield f"a forced run: {said}", partial(wrong_refused, refuser, words, text, usual, number, asked)
 
 
+def wrong_watched(forced, words, text, usual):
+    """What is wrong with a forced run under valgrind, which comes to the same net by as many interactions and phases."""
+    answer = forced.forcing.run_command([*words, forced.forcing.path, *forced.words(WATCHED_WAY, CELLS, NO_LIMIT)], text)
+    if answer.status != ACCEPTED:
+        return f"{answer}, {shortened(answer.errors, 1000)}"
+    return None if parted(answer) == usual else f"{answer}; wanted: {usual}"
+
+
+def forced_under_valgrind(forced):
+    """Runs in parts without a race of their threads, a bad access, or a block that isn't given back."""
+    every = ((name, text, parted(forced.forcing.run(forced.words(WATCHED_WAY, CELLS, NO_LIMIT), text))) for name, text, _ in generated_texts())
+    few = ((name, text, usual) for name, text, usual in every if WATCHED_FROM <= usual[1] <= WATCHED_TO and usual[2])
+    for name, text, usual in itertools.islice(few, WATCHED):
+        for what, words in VALGRIND.items():
+            yield f"{name}: in parts under valgrind: {what}", partial(wrong_watched, forced, words, text, usual)
+
+
 def long_texts():
     """Programs of a hundred thousand interactions and more."""
     yield from ((name, generated.program(piece).encode()) for name, piece in LONG.items())
@@ -267,3 +287,5 @@ def parts(program):
     yield from forced_runs(program, forced)
     yield from forced_stops(program, forced)
     yield from forced_refusals(forced)
+    if shutil.which("valgrind"):
+        yield from forced_under_valgrind(forced)

@@ -13,6 +13,12 @@ LONGEST = 60
 # The most bytes that a text may have.
 MOST_BYTES = 1_048_576
 
+# Commands before a program, by which valgrind ends it with a status of its own where an access is bad, a block isn't given back, or two threads race.
+VALGRIND = {
+    "memory": ["valgrind", "-q", "--error-exitcode=99", "--leak-check=full", "--errors-for-leak-kinds=definite,indirect,possible"],
+    "races": ["valgrind", "-q", "--error-exitcode=99", "--tool=helgrind"],
+}
+
 ACCEPTED, REFUSED, WRONG_WORDS, LIMIT, FULL, MEMORY, STREAM = range(7)
 COMMANDS = [["check"], ["derive"], ["run"], ["run", "--workers", "2"], ["run", "--workers", "64"]]
 
