@@ -28,7 +28,6 @@ use in_net::MAX_MEMBER_AGENTS;
 pub(crate) const POINTS: usize = MOST_ENDS + MAX_MEMBER_AGENTS;
 
 /// Begins a cell for each agent from this one on. The cell's principal port is the agent's point.
-#[inline(always)]
 fn begin_from(member: &Member, from: u32, arena: &mut Arena, points: &mut [EndWord])
     requires begun { (a : ArenaView) × CanBegin member.now a points.old × HasBegunBelow member.now a from arena.old points.old }
     requires few { from ≤ length member.now.agents }
