@@ -119,11 +119,19 @@ version() {
   sed -n 's/^pub const VERSION: .*"\(.*\)";$/\1/p' "$top/crates/in_version/src/lib.rt"
 }
 
+# Whether large pages pay for these words of `inet`: a run with the usual cells is small, and a short one takes longer with them.
+want_large_pages() {
+  local words=" $* "
+  [[ $words != *" run "* || $words == *" --"*cells[\ =]* ]]
+}
+
 # Becomes this program, with these words. Under `set -e` an `exec` that fails would end the script with status 1. The C library is told to ask for
-# large pages, if the variable says nothing else: a run whose net outgrows the cache takes less time with them (docs/work/SPEED.md).
+# large pages where they pay, if the variable says nothing else: a net that outgrows the cache takes less time with them (docs/work/SPEED.md).
 become() {
   set +e
-  export GLIBC_TUNABLES="${GLIBC_TUNABLES-glibc.malloc.hugetlb=1}"
+  if want_large_pages "${@:2}"; then
+    export GLIBC_TUNABLES="${GLIBC_TUNABLES-glibc.malloc.hugetlb=1}"
+  fi
   shopt -s execfail
   exec "$@"
   exit 70

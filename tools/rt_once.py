@@ -55,7 +55,7 @@ def copied(method):
 MEMORY = 0.6
 
 # How many processors a proof gets at most, and how many one for which the longest chain waits gets at least: a check gains little from more.
-MOST_JOBS, LEAST_JOBS = 4, 3
+MOST_JOBS, LEAST_JOBS = 4, 2
 
 # A chain that is so much shorter than the longest one counts as one of the longest.
 NEARLY = 0.9

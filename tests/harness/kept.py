@@ -218,13 +218,21 @@ def wrong_refusal(program, change, said, name):
 
 
 def wrong_tunables(program):
-    """What is wrong with what the scripts pass on to the C library: large pages, but for who says something else."""
+    """What is wrong with what the scripts pass on to the C library: large pages where they pay, but for who says something else."""
     copy = changed(program, show_tunables, "tunables")
-    for script in ("./inet", "./inet_export"):
-        for passed, wanted in (({}, "glibc.malloc.hugetlb=1"), ({"GLIBC_TUNABLES": "glibc.malloc.hugetlb=0"}, "glibc.malloc.hugetlb=0")):
-            answer = asked(copy, [script], **passed)
+    large, usual, own = "glibc.malloc.hugetlb=1", "", "glibc.malloc.hugetlb=0"
+    for words, wanted in (
+        (["./inet", "check"], large),
+        (["./inet", "run"], usual),
+        (["./inet", "run", "--limit", "100"], usual),
+        (["./inet", "run", "--cells", "100"], large),
+        (["./inet", "run", "--no-net", "--small-cells=100"], large),
+        (["./inet_export"], large),
+    ):
+        for passed, wanted in (({}, wanted), ({"GLIBC_TUNABLES": own}, own)):
+            answer = asked(copy, words, **passed)
             if answer.output.decode() != f"{wanted}\n":
-                return f"{script} passes {answer.output!r}, not {wanted}"
+                return f"{words} passes {answer.output!r}, not {wanted!r}"
     return None
 
 
