@@ -1,5 +1,5 @@
 //! Rules: of heads that can't meet, a second rule for two symbols, and a missing rule.
-use crate::declarations::{arity, port, symbol_named};
+use crate::declarations::{are_one, arity, port, symbol_named};
 use crate::occurrences::rule_around;
 use crate::reports::Report;
 use crate::sentences;
@@ -58,8 +58,7 @@ pub(crate) fn add_unmatched(report: &mut Report, source: &Source, place: Place) 
 
 /// Whether two symbols can meet: a constructor and a destructor, with principal ports of one type.
 fn can_meet(one: &SourceSymbol, other: &SourceSymbol) -> bool {
-    one.port.output != other.port.output
-        && one.port.kind.text.as_str() == other.port.kind.text.as_str()
+    one.port.output != other.port.output && are_one(&one.port.kind, &other.port.kind)
 }
 
 /// Whether the symbols of a rule's heads are declared, and can't meet.
@@ -88,8 +87,7 @@ pub(crate) fn add_unmet(report: &mut Report, source: &Source, place: Place) -> b
 
 /// Whether the heads of a rule are of these symbols, in this order.
 fn are_of(rule: &SourceRule, first: &Name, second: &Name) -> bool {
-    rule.first.name.text.as_str() == first.text.as_str()
-        && rule.second.name.text.as_str() == second.text.as_str()
+    are_one(&rule.first.name, first) && are_one(&rule.second.name, second)
 }
 
 /// Whether two rules are for the same two symbols.
@@ -150,7 +148,7 @@ fn help_rule<'s>(report: &mut Report, constructor: &'s SourceSymbol, destructor:
 /// Whether the auxiliary port of a symbol at a place is an output of the type of its principal port.
 fn gives_back(symbol: &SourceSymbol, place: usize) -> bool {
     match port(symbol, place) {
-        Some((_, port)) => port.output && port.kind.text.as_str() == symbol.port.kind.text.as_str(),
+        Some((_, port)) => port.output && are_one(&port.kind, &symbol.port.kind),
         None => false,
     }
 }
