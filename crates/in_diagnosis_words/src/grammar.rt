@@ -8,8 +8,8 @@ use crate::reports::Report;
 use crate::sentences;
 use crate::slots::Value;
 use in_syntax::{
-    Expected, MAX_DEPTH, MAX_FREE_NAMES, MAX_NAME_CHARACTERS, MAX_PORTS, MAX_RULES, MAX_SYMBOLS,
-    MAX_TEXT_BYTES, MAX_TYPES, PartOf, Place, Token, TokenKind,
+    Expected, MAX_DEPTH, MAX_FREE_NAMES, MAX_PORTS, MAX_RULES, MAX_SYMBOLS, MAX_TYPES, PartOf,
+    Place, Token, TokenKind,
 };
 use std::alloc::{AllocError, Global};
 
@@ -132,14 +132,17 @@ impl Unexpected<'_> {
     fn may_be_open(&self) -> bool {
         self.is_next_item() && !self.is_no_name()
             || matches!(
-                self.expected,
-                Expected::ClassEnd
-                    | Expected::FreeFirst
-                    | Expected::FreeEnd
-                    | Expected::HeadFirst
-                    | Expected::AfterName(PartOf::Head | PartOf::Agent)
-                    | Expected::AfterTerm(PartOf::Head | PartOf::Agent)
-            ) && matches!(self.found, ";" | "{" | "}" | ")" | "]" | "~" | "><")
+                (self.expected, self.found),
+                (
+                    Expected::ClassEnd
+                        | Expected::FreeFirst
+                        | Expected::FreeEnd
+                        | Expected::HeadFirst
+                        | Expected::AfterName(PartOf::Head | PartOf::Agent)
+                        | Expected::AfterTerm(PartOf::Head | PartOf::Agent),
+                    ";" | "{" | "}" | ")" | "]" | "~" | "><"
+                )
+            )
     }
 
     /// Whether a name is cut in two by it.
@@ -181,16 +184,14 @@ impl Unexpected<'_> {
 
     /// Help for a token in the place of brackets, or one that closes brackets that are empty or end with a comma.
     fn help_with_brackets(&self) -> Option<&'static str> {
-        if matches!(self.found, ")" | "]" | "}") {
-            return self.help_with_closing();
-        }
-        match self.expected {
-            Expected::HeadOpen if self.found == "(" => Some(sentences::HEAD_BRACKETS),
-            Expected::HeadOpen => Some(sentences::EMPTY_HEAD),
-            Expected::AfterName(_) | Expected::AfterTerm(_) if self.found == "[" => Some(
+        match (self.expected, self.found) {
+            (_, ")" | "]" | "}") => self.help_with_closing(),
+            (Expected::HeadOpen, "(") => Some(sentences::HEAD_BRACKETS),
+            (Expected::HeadOpen, _) => Some(sentences::EMPTY_HEAD),
+            (Expected::AfterName(_) | Expected::AfterTerm(_), "[") => Some(
                 sentences::ARGUMENT_BRACKETS,
             ),
-            Expected::NetOpen => Some(sentences::NET_BRACKETS),
+            (Expected::NetOpen, _) => Some(sentences::NET_BRACKETS),
             _ => None,
         }
     }
@@ -207,21 +208,16 @@ impl Unexpected<'_> {
 
     /// Help for a token in the place of a section, or after the last one.
     fn help_with_section(&self) -> Option<&'static str> {
-        match self.expected {
-            Expected::Item => Some(self.help_with_item()),
-            Expected::Nothing if self.found == ";" => Some(sentences::NOTHING_AFTER_NET),
-            Expected::Nothing => Some(sentences::NET_COMES_LAST),
+        match (self.expected, self.found, self.after) {
+            (Expected::Item, "", _) => Some(sentences::ENDS_WITH_NET),
+            (Expected::Item, ";", _) => Some(sentences::ONE_SEMICOLON),
+            (Expected::Item, _, Some(TokenKind::OpenBracket)) if !is_sign(self.found) => Some(
+                sentences::RULE_BEGINS,
+            ),
+            (Expected::Item, _, _) => Some(sentences::WHERE_EQUATIONS_STAND),
+            (Expected::Nothing, ";", _) => Some(sentences::NOTHING_AFTER_NET),
+            (Expected::Nothing, _, _) => Some(sentences::NET_COMES_LAST),
             _ => None,
-        }
-    }
-
-    /// Help for a token in the place of a section before the net.
-    fn help_with_item(&self) -> &'static str {
-        match self.after {
-            _ if self.found.is_empty() => sentences::ENDS_WITH_NET,
-            _ if self.found == ";" => sentences::ONE_SEMICOLON,
-            Some(TokenKind::OpenBracket) if !is_sign(self.found) => sentences::RULE_BEGINS,
-            _ => sentences::WHERE_EQUATIONS_STAND,
         }
     }
 
@@ -376,40 +372,31 @@ pub(crate) fn add_unexpected(report: &mut Report, place: Place, expected: Expect
     }
 }
 
-/// Adds that a text has too many bytes. Their number is not known, since reading stops past the limit.
-pub(crate) fn add_long_text(report: &mut Report, place: Place) {
-    let most = Value::Number(MAX_TEXT_BYTES);
-    report.wrong_with(place, sentences::LONG_TEXT, &[("most", most)]);
+/// Adds that a text has too many bytes, or a word too many characters, by this sentence with the most allowed. Their number is not known, since
+/// reading stops past the limit.
+pub(crate) fn add_too_long(report: &mut Report, place: Place, sentence: &str, most: usize) {
+    report.wrong_with(place, sentence, &[("most", Value::Number(most))]);
 }
 
-/// Adds that a word has too many characters.
-pub(crate) fn add_long_word(report: &mut Report, place: Place) {
-    let most = Value::Number(MAX_NAME_CHARACTERS);
-    report.wrong_with(place, sentences::LONG_WORD, &[("most", most)]);
-}
-
-/// The limit that is passed when the grammar expects this, the things that it counts, and help at that limit, if there is any.
-fn limit(expected: Expected) -> (usize, &'static str, Option<&'static str>) {
+/// The limit that is passed when the grammar expects this, and the things that it counts.
+fn limit(expected: Expected) -> (usize, &'static str) {
     match expected {
-        Expected::TypeName => (MAX_TYPES, "types", None),
-        Expected::SymbolName => (MAX_SYMBOLS, "symbols", None),
-        Expected::Item => (MAX_RULES, "rules", None),
-        Expected::PortType => (
-            MAX_PORTS,
-            "auxiliary ports of one symbol",
-            Some(sentences::AGENT_FOR_SEVERAL),
-        ),
-        Expected::FreeName => (
-            MAX_FREE_NAMES,
-            "free ends",
-            Some(sentences::FREE_END_FOR_SEVERAL),
-        ),
-        Expected::Term => (
-            MAX_DEPTH,
-            "terms within each other",
-            Some(sentences::NAME_AN_INNER_TERM),
-        ),
-        _ => (MAX_DEPTH, "terms within each other", None),
+        Expected::TypeName => (MAX_TYPES, "types"),
+        Expected::SymbolName => (MAX_SYMBOLS, "symbols"),
+        Expected::Item => (MAX_RULES, "rules"),
+        Expected::PortType => (MAX_PORTS, "auxiliary ports of one symbol"),
+        Expected::FreeName => (MAX_FREE_NAMES, "free ends"),
+        _ => (MAX_DEPTH, "terms within each other"),
+    }
+}
+
+/// Help at that limit, if there is any.
+fn limit_help(expected: Expected) -> Option<&'static str> {
+    match expected {
+        Expected::Term => Some(sentences::NAME_AN_INNER_TERM),
+        Expected::PortType => Some(sentences::AGENT_FOR_SEVERAL),
+        Expected::FreeName => Some(sentences::FREE_END_FOR_SEVERAL),
+        _ => None,
     }
 }
 
@@ -421,9 +408,9 @@ pub fn add_more_than(report: &mut Report, place: Place, most: usize, what: &str)
 
 /// Adds the limit of the grammar that is passed when this is expected.
 pub(crate) fn add_limit(report: &mut Report, place: Place, expected: Expected) {
-    let (most, what, help) = limit(expected);
+    let (most, what) = limit(expected);
     add_more_than(report, place, most, what);
-    if let Some(sentence) = help {
+    if let Some(sentence) = limit_help(expected) {
         report.help(sentence);
     }
 }

@@ -106,13 +106,6 @@ fn first_for<'a>(source: &'a Source, rule: &SourceRule) -> Option<&'a SourceRule
     None
 }
 
-/// Adds the place of the first rule for the two symbols of this one.
-fn note_first(report: &mut Report, source: &Source, rule: &SourceRule) {
-    if let Some(first) = first_for(source, rule) {
-        report.note(first.first.name.place, sentences::FIRST_RULE);
-    }
-}
-
 /// Adds a second rule for two symbols: the first one, and the declarations of the symbols.
 fn add_second(report: &mut Report, source: &Source, place: Place, rule: &SourceRule) {
     let slots = [
@@ -120,7 +113,9 @@ fn add_second(report: &mut Report, source: &Source, place: Place, rule: &SourceR
         ("second", Value::Text(rule.second.name.text.as_str())),
     ];
     report.wrong_with(place, sentences::SECOND_RULE, &slots);
-    note_first(report, source, rule);
+    if let Some(first) = first_for(source, rule) {
+        report.note(first.first.name.place, sentences::FIRST_RULE);
+    }
     add_heads(report, source, rule);
     report.help(sentences::KEEP_ONE_RULE);
 }
@@ -162,13 +157,13 @@ fn erases_or_copies(destructor: &SourceSymbol) -> bool {
     }
 }
 
-/// Adds a constructor and a destructor that can meet and have no rule.
-fn add_gap<'s>(
-    report: &mut Report,
-    place: Place,
-    constructor: &'s SourceSymbol,
-    destructor: &'s SourceSymbol,
-) {
+/// Adds two symbols that can meet and have no rule.
+fn add_gap<'s>(report: &mut Report, place: Place, one: &'s SourceSymbol, other: &'s SourceSymbol) {
+    let (constructor, destructor) = if one.port.output {
+        (one, other)
+    } else {
+        (other, one)
+    };
     let slots = [
         ("constructor", Value::Text(constructor.name.text.as_str())),
         ("destructor", Value::Text(destructor.name.text.as_str())),
@@ -179,20 +174,6 @@ fn add_gap<'s>(
     help_rule(report, constructor, destructor);
     if erases_or_copies(destructor) {
         report.help(sentences::COPIES_ARE_WRITTEN);
-    }
-}
-
-/// Adds two symbols that can meet and have no rule.
-fn add_gap_of<'s>(
-    report: &mut Report,
-    place: Place,
-    one: &'s SourceSymbol,
-    other: &'s SourceSymbol,
-) {
-    if one.port.output {
-        add_gap(report, place, one, other);
-    } else {
-        add_gap(report, place, other, one);
     }
 }
 
@@ -218,7 +199,7 @@ pub(crate) fn add_missing_rule(
     let one = symbol_at(report, source, Some(place));
     let other = symbol_at(report, source, earlier);
     match (one, other) {
-        (Some(one), Some(other)) => add_gap_of(report, place, one, other),
+        (Some(one), Some(other)) => add_gap(report, place, one, other),
         _ => report.wrong(place, sentences::NO_RULE_UNKNOWN),
     }
 }
