@@ -1,3 +1,4 @@
+pub mod Building
 pub mod Numbers
 pub mod Faultless
 pub mod Options

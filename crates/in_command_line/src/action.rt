@@ -3,10 +3,11 @@ ghost use Rattle.clap.specs.Words.{app_of, found_of, kind_of, new_app, rows_of, 
 ghost use Rattle.clap.specs.Walk.{texts};
 ghost use Rattle.clap.specs.declared.builder.command.Command.TheViews.{out-Command};
 ghost use Rattle.in_command_line.specs.Asking.{AreCountsGiven, AreGiven, AsksFor, IsOptionGiven, IsNamed, IsRequested, IsRunNamed, AreWordsRefused, IsErrorTold, asked_of, file_in, is_set, option_for};
-ghost use Rattle.in_command_line.specs.CommandLine.{cells_command, cells_option, command_line, file_argument, large_cells_option, limit_option, limits_command, needs_subcommand, no_net_flag, on_file, run_command, small_cells_option, stats_flag, tells_version, wide_cells_option, workers_option};
+ghost use Rattle.in_command_line.specs.CommandLine.{cells_command, command_line, count_option, file_argument, flag, limits_command, needs_subcommand, on_file, run_command, tells_version};
 
+use clap::builder::ValueParser;
 use clap::error::ErrorKind;
-use clap::{Arg, ArgAction, ArgMatches, Command, value_parser};
+use clap::{Arg, ArgAction, ArgMatches, Command};
 use in_arena::CellCounts;
 use in_limits::{LEAST_CELLS, Limits, MOST_CELLS, MOST_INTERACTIONS, MOST_WORKERS};
 use std::alloc::{AllocError, Global};
@@ -74,112 +75,35 @@ fn file_argument<'a>(alloc: Global) -> Arg<'a>
         .action(ArgAction::Set)
 }
 
-/// The option `--workers`: the number of workers, by default 1.
-fn workers_option<'a>(alloc: Global) -> Arg<'a>
-    ensures rule { rule_of result ≡ workers_option }
+/// The option of this name: a number from `least` to `most`, with the usual text if there is one.
+fn number_option<'a>(
+    alloc: Global,
+    name: &'a str,
+    help: &'a str,
+    least: u64,
+    most: u64,
+    usual: &'a [&'a str],
+) -> Arg<'a>
+    ensures rule { rule_of result ≡ record (count_option name.now least most) { defaults = texts usual.now } }
     ensures local { result.global ≡ false }
 {
-    Arg::new(alloc, "workers")
-        .long("workers")
+    Arg::new(alloc, name)
+        .long(name)
         .value_name("N")
-        .help("The workers that share the interactions, 1 to 64")
+        .help(help)
         .action(ArgAction::Set)
-        .value_parser(value_parser!(u64).range(1..=MOST_WORKERS as i64))
-        .default_value("1")
+        .value_parser(ValueParser::unsigned(least, most))
+        .default_values(usual)
 }
 
-/// The option `--limit`: the most interactions, by default 1,000,000.
-fn limit_option<'a>(alloc: Global) -> Arg<'a>
-    ensures rule { rule_of result ≡ limit_option }
+/// The flag of this name.
+fn flag<'a>(alloc: Global, name: &'a str, help: &'a str) -> Arg<'a>
+    ensures rule { rule_of result ≡ flag name.now }
     ensures local { result.global ≡ false }
 {
-    Arg::new(alloc, "limit")
-        .long("limit")
-        .value_name("N")
-        .help("The most interactions, 0 to 1000000000000")
-        .action(ArgAction::Set)
-        .value_parser(value_parser!(u64).range(0..=MOST_INTERACTIONS as i64))
-        .default_value("1000000")
-}
-
-/// The option `--cells`: the number of cells of each class, by default 65,536.
-fn cells_option<'a>(alloc: Global) -> Arg<'a>
-    ensures rule { rule_of result ≡ cells_option }
-    ensures local { result.global ≡ false }
-{
-    Arg::new(alloc, "cells")
-        .long("cells")
-        .value_name("N")
-        .help("The cells for agents of each size, 16 to 1048576")
-        .action(ArgAction::Set)
-        .value_parser(value_parser!(u64).range(LEAST_CELLS as i64..=MOST_CELLS as i64))
-        .default_value("65536")
-}
-
-/// The option `--small-cells`: the number of small cells, by default that of `--cells`.
-fn small_cells_option<'a>(alloc: Global) -> Arg<'a>
-    ensures rule { rule_of result ≡ small_cells_option }
-    ensures local { result.global ≡ false }
-{
-    Arg::new(alloc, "small-cells")
-        .long("small-cells")
-        .value_name("N")
-        .help("The cells for agents of arity 0 to 2, 16 to 16777216 [default: that of --cells]")
-        .action(ArgAction::Set)
-        .value_parser(value_parser!(u64).range(
-            LEAST_CELLS as i64..=CellCounts::MOST.small_cells as i64,
-        ))
-}
-
-/// The option `--large-cells`: the number of large cells, by default that of `--cells`.
-fn large_cells_option<'a>(alloc: Global) -> Arg<'a>
-    ensures rule { rule_of result ≡ large_cells_option }
-    ensures local { result.global ≡ false }
-{
-    Arg::new(alloc, "large-cells")
-        .long("large-cells")
-        .value_name("N")
-        .help("The cells for agents of arity 3 to 8, 16 to 8388608 [default: that of --cells]")
-        .action(ArgAction::Set)
-        .value_parser(value_parser!(u64).range(
-            LEAST_CELLS as i64..=CellCounts::MOST.large_cells as i64,
-        ))
-}
-
-/// The option `--wide-cells`: the number of wide cells, by default that of `--cells`.
-fn wide_cells_option<'a>(alloc: Global) -> Arg<'a>
-    ensures rule { rule_of result ≡ wide_cells_option }
-    ensures local { result.global ≡ false }
-{
-    Arg::new(alloc, "wide-cells")
-        .long("wide-cells")
-        .value_name("N")
-        .help("The cells for agents of arity 9 to 16, 16 to 8388608 [default: that of --cells]")
-        .action(ArgAction::Set)
-        .value_parser(value_parser!(u64).range(
-            LEAST_CELLS as i64..=CellCounts::MOST.wide_cells as i64,
-        ))
-}
-
-/// The flag `--no-net`: whether the net isn't printed.
-fn no_net_flag<'a>(alloc: Global) -> Arg<'a>
-    ensures rule { rule_of result ≡ no_net_flag }
-    ensures local { result.global ≡ false }
-{
-    Arg::new(alloc, "no-net")
-        .long("no-net")
-        .help("Prints no net, only how many interactions there were and why it stopped")
-        .action(ArgAction::SetTrue)
-}
-
-/// The flag `--stats`: whether figures of the run are wanted.
-fn stats_flag<'a>(alloc: Global) -> Arg<'a>
-    ensures rule { rule_of result ≡ stats_flag }
-    ensures local { result.global ≡ false }
-{
-    Arg::new(alloc, "stats")
-        .long("stats")
-        .help("Prints figures of the run on standard error")
+    Arg::new(alloc, name)
+        .long(name)
+        .help(help)
         .action(ArgAction::SetTrue)
 }
 
@@ -190,20 +114,62 @@ fn cells_command<'a>(alloc: Global) -> Result<Command<'a>, AllocError>
 {
     Command::new(alloc, "run")
         .about("Reduces a program's net, and prints it")
-        .arg(workers_option(alloc))?
-        .arg(limit_option(alloc))?
-        .arg(cells_option(alloc))
+        .arg(number_option(
+            alloc,
+            "workers",
+            "The workers that share the interactions, 1 to 64",
+            1,
+            MOST_WORKERS as u64,
+            &["1"],
+        ))?
+        .arg(number_option(
+            alloc,
+            "limit",
+            "The most interactions, 0 to 1000000000000",
+            0,
+            MOST_INTERACTIONS,
+            &["1000000"],
+        ))?
+        .arg(number_option(
+            alloc,
+            "cells",
+            "The cells for agents of each size, 16 to 1048576",
+            LEAST_CELLS as u64,
+            MOST_CELLS as u64,
+            &["65536"],
+        ))
 }
 
-/// .. with those of the cells of each class, whose bounds are those of `Limits::with_counts`.
+/// .. with those of the cells of each class, by default that of `--cells`, whose bounds are those of `Limits::with_counts`.
 fn limits_command<'a>(alloc: Global) -> Result<Command<'a>, AllocError>
     ensures app { IfOk result (λ c. app_of c ≡ limits_command) }
     ensures local { IfOk result (λ c. (out-Command c).has_globals ≡ false) }
 {
     cells_command(alloc)?
-        .arg(small_cells_option(alloc))?
-        .arg(large_cells_option(alloc))?
-        .arg(wide_cells_option(alloc))
+        .arg(number_option(
+            alloc,
+            "small-cells",
+            "The cells for agents of arity 0 to 2, 16 to 16777216 [default: that of --cells]",
+            LEAST_CELLS as u64,
+            CellCounts::MOST.small_cells as u64,
+            &[],
+        ))?
+        .arg(number_option(
+            alloc,
+            "large-cells",
+            "The cells for agents of arity 3 to 8, 16 to 8388608 [default: that of --cells]",
+            LEAST_CELLS as u64,
+            CellCounts::MOST.large_cells as u64,
+            &[],
+        ))?
+        .arg(number_option(
+            alloc,
+            "wide-cells",
+            "The cells for agents of arity 9 to 16, 16 to 8388608 [default: that of --cells]",
+            LEAST_CELLS as u64,
+            CellCounts::MOST.wide_cells as u64,
+            &[],
+        ))
 }
 
 /// `run` with its options and its file.
@@ -212,8 +178,16 @@ fn run_command<'a>(alloc: Global) -> Result<Command<'a>, AllocError>
     ensures local { IfOk result (λ c. (out-Command c).has_globals ≡ false) }
 {
     limits_command(alloc)?
-        .arg(no_net_flag(alloc))?
-        .arg(stats_flag(alloc))?
+        .arg(flag(
+            alloc,
+            "no-net",
+            "Prints no net, only how many interactions there were and why it stopped",
+        ))?
+        .arg(flag(
+            alloc,
+            "stats",
+            "Prints figures of the run on standard error",
+        ))?
         .arg(file_argument(alloc))
 }
 

@@ -28,33 +28,21 @@ pub(crate) fn kind_after(report: &Report, place: Place) -> Result<Option<TokenKi
     }
 }
 
-/// Whether a token opens brackets.
-fn opens(kind: TokenKind) -> bool {
-    matches!(
-        kind,
-        TokenKind::OpenBrace | TokenKind::OpenParenthesis | TokenKind::OpenBracket
-    )
-}
-
-/// Whether a token closes brackets.
-fn closes(kind: TokenKind) -> bool {
-    matches!(
-        kind,
-        TokenKind::CloseBrace | TokenKind::CloseParenthesis | TokenKind::CloseBracket
-    )
-}
-
 /// The last bracket of these tokens that is not closed among them.
 pub(crate) fn open_bracket(tokens: &[Token]) -> Option<Token> {
     let mut closed: usize = 0;
     for token in tokens.iter().rev() {
-        if closes(token.kind) {
-            closed = closed.saturating_add(1);
-        } else if opens(token.kind) {
-            if closed == 0 {
-                return Some(*token);
+        match token.kind {
+            TokenKind::CloseBrace | TokenKind::CloseParenthesis | TokenKind::CloseBracket => {
+                closed = closed.saturating_add(1);
             }
-            closed = closed.saturating_sub(1);
+            TokenKind::OpenBrace | TokenKind::OpenParenthesis | TokenKind::OpenBracket => {
+                if closed == 0 {
+                    return Some(*token);
+                }
+                closed = closed.saturating_sub(1);
+            }
+            _ => (),
         }
     }
     None

@@ -1,6 +1,7 @@
 //! Declarations of symbols with other braces.
 use crate::declarations::{arity, place_in, port, sign};
 use crate::edits::Edit;
+use crate::excerpts::is_inside;
 use crate::words::Words;
 use in_syntax::{Place, Source, SourceSymbol};
 use std::alloc::{AllocError, Global};
@@ -295,11 +296,6 @@ impl Changed {
         changed.fill(text, edits)?;
         Ok(changed)
     }
-}
-
-/// Whether a byte continues a character.
-fn is_inside(byte: u8) -> bool {
-    (0x80..=0xBF).contains(&byte)
 }
 
 /// The place of the character that begins at a byte of a text: its line and its column, both from 1.

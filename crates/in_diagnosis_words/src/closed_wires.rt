@@ -45,13 +45,6 @@ fn equation_at(equations: &[Equation], place: Place) -> Option<usize> {
     None
 }
 
-/// Adds the place of the equation of this number.
-fn add_turn(report: &mut Report, equations: &[Equation], number: usize) {
-    if let Some(equation) = equations.get(number) {
-        report.note(equation.tilde, sentences::GOES_ON_HERE);
-    }
-}
-
 /// Adds the other equations of a closed wire.
 fn add_ring(report: &mut Report, equations: &[Equation], first: usize, from: &str) {
     let mut name = from;
@@ -59,7 +52,9 @@ fn add_ring(report: &mut Report, equations: &[Equation], first: usize, from: &st
     for _turn in 0..equations.len().min(8) {
         match next_equation(equations, number, name) {
             Some((next, other)) if next != first => {
-                add_turn(report, equations, next);
+                if let Some(equation) = equations.get(next) {
+                    report.note(equation.tilde, sentences::GOES_ON_HERE);
+                }
                 number = next;
                 name = other;
             }

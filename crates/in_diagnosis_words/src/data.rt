@@ -1,13 +1,9 @@
 //! The parts of a diagnosis as data: members of a JSON object.
 use crate::edits::Edit;
+use crate::excerpts::is_inside;
 use crate::reports::{Kind, Remark, Remedy};
 use crate::words::Words;
 use in_syntax::Place;
-
-/// Whether a byte continues a character.
-fn is_inside(byte: u8) -> bool {
-    (0x80..=0xBF).contains(&byte)
-}
 
 /// The number of characters that begin before a byte of a text.
 fn characters_before(text: &[u8], at: usize) -> usize {
@@ -20,14 +16,21 @@ fn characters_before(text: &[u8], at: usize) -> usize {
     count
 }
 
+/// Adds two numbers, as elements of a list.
+fn add_two(page: &mut Words, one: usize, other: usize) {
+    page.put(&one);
+    page.say(",");
+    page.put(&other);
+}
+
 /// Adds the start and the end of a range of the text, in bytes and in characters, as two members.
 fn add_range(page: &mut Words, text: &[u8], from: usize, to: usize) {
     let first = characters_before(text, from);
     let last = characters_before(text, to);
     page.say("\"bytes\":[");
-    page.put(&format_args!("{from},{to}"));
+    add_two(page, from, to);
     page.say("],\"characters\":[");
-    page.put(&format_args!("{first},{last}"));
+    add_two(page, first, last);
     page.say("]");
 }
 

@@ -25,11 +25,21 @@ impl Declared for SourceFree {
     }
 }
 
+/// Whether a name has this text.
+pub(crate) fn is_named(name: &Name, text: &str) -> bool {
+    name.text.as_str() == text
+}
+
+/// Whether two names have one text.
+pub(crate) fn are_one(name: &Name, other: &Name) -> bool {
+    is_named(name, other.text.as_str())
+}
+
 /// The first of these names that has this text.
 pub(crate) fn first_of<'a, D: Declared>(declared: &'a [D], text: &str) -> Option<&'a Name> {
     for one in declared {
         let name = one.name();
-        if name.text.as_str() == text {
+        if is_named(name, text) {
             return Some(name);
         }
     }
@@ -49,7 +59,7 @@ pub(crate) fn is_among<D: Declared>(declared: &[D], place: Place) -> bool {
 /// The first symbol of this name.
 pub(crate) fn symbol_named<'a>(source: &'a Source, text: &str) -> Option<&'a SourceSymbol> {
     for symbol in source.symbols.as_slice() {
-        if symbol.name.text.as_str() == text {
+        if is_named(&symbol.name, text) {
             return Some(symbol);
         }
     }

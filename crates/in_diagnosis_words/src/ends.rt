@@ -1,5 +1,5 @@
 //! The two ends of a wire whose types don't fit.
-use crate::declarations::{arity, port};
+use crate::declarations::{are_one, arity, is_named, port};
 use crate::reports::Report;
 use crate::sentences;
 use crate::slots::Value;
@@ -107,7 +107,7 @@ pub struct Giving<'a> {
 /// Whether the port of that number of a symbol is of this type, and an output if `output`, otherwise an input.
 fn has_port(symbol: &SourceSymbol, number: usize, kind: &str, output: bool) -> bool {
     match port(symbol, number) {
-        Some((_, port)) => port.output == output && port.kind.text.as_str() == kind,
+        Some((_, port)) => port.output == output && is_named(&port.kind, kind),
         None => false,
     }
 }
@@ -373,7 +373,7 @@ fn add_turned(report: &mut Report, one: &ToldEnd, other: &ToldEnd) -> bool {
 
 /// Whether the types of two ends have one name.
 fn are_of_one_type(one: &ToldEnd, other: &ToldEnd) -> bool {
-    one.port.kind.text.as_str() == other.port.kind.text.as_str()
+    are_one(&one.port.kind, &other.port.kind)
 }
 
 /// Adds that the two ends of the wire at a place of the text don't fit: their types differ, or both are outputs or both inputs. Then a note on

@@ -49,16 +49,17 @@ struct Line<'a> {
     after: &'a str,
 }
 
-/// Whether the byte at this index continues a character.
-fn goes_on(text: &[u8], index: usize) -> bool {
-    matches!(text.get(index), Some(0x80..=0xBF))
+/// Whether a byte continues a character.
+pub(crate) fn is_inside(byte: u8) -> bool {
+    matches!(byte, 0x80..=0xBF)
 }
 
 /// The start of the first character in these bytes.
 fn character_start(text: &[u8], from: usize, to: usize) -> usize {
     for index in from..to {
-        if !goes_on(text, index) {
-            return index;
+        match text.get(index) {
+            Some(byte) if is_inside(*byte) => (),
+            _ => return index,
         }
     }
     to
@@ -136,10 +137,10 @@ fn blank(c: char) -> char {
     if c == '\t' { '\t' } else { ' ' }
 }
 
-/// Adds the line before the place, except for its first `hidden` characters.
-fn add_before(page: &mut Words, before: &str, hidden: usize) {
+/// Adds the line before the place, or blanks as wide as it if `blanks`, except for its first `hidden` characters.
+fn add_before(page: &mut Words, before: &str, hidden: usize, blanks: bool) {
     for c in before.chars().skip(hidden) {
-        page.push(shown(c));
+        page.push(if blanks { blank(c) } else { shown(c) });
     }
 }
 
@@ -172,22 +173,15 @@ fn where_it_holds(holds: bool, words: &'static str) -> &'static str {
 /// Adds the line without its first `hidden` characters.
 fn add_line(page: &mut Words, line: &Line, hidden: usize) {
     page.say(where_it_holds(hidden > 0, "..."));
-    add_before(page, line.before, hidden);
+    add_before(page, line.before, hidden, false);
     page.say(where_it_holds(line.broken, "\u{FFFD}"));
     add_rest(page, line);
-}
-
-/// Adds blanks as wide as the line before the place, without its first `hidden` characters.
-fn add_blanks(page: &mut Words, before: &str, hidden: usize) {
-    for c in before.chars().skip(hidden) {
-        page.push(blank(c));
-    }
 }
 
 /// Adds the mark under the line.
 fn add_mark(page: &mut Words, line: &Line, hidden: usize) {
     page.say(where_it_holds(hidden > 0, "   "));
-    add_blanks(page, line.before, hidden);
+    add_before(page, line.before, hidden, true);
     for _mark in 0..line.marked.chars().count().clamp(1, AFTER) {
         page.push('^');
     }

@@ -8,8 +8,8 @@ use crate::reports::Report;
 use crate::sentences;
 use crate::slots::Value;
 use in_syntax::{
-    Expected, MAX_DEPTH, MAX_FREE_NAMES, MAX_NAME_CHARACTERS, MAX_PORTS, MAX_RULES, MAX_SYMBOLS,
-    MAX_TEXT_BYTES, MAX_TYPES, PartOf, Place, Token, TokenKind,
+    Expected, MAX_DEPTH, MAX_FREE_NAMES, MAX_PORTS, MAX_RULES, MAX_SYMBOLS, MAX_TYPES, PartOf,
+    Place, Token, TokenKind,
 };
 use std::alloc::{AllocError, Global};
 
@@ -223,30 +223,31 @@ impl Unexpected<'_> {
 
     /// Help for a token in any other place.
     fn help_with_other(&self) -> &'static str {
-        match (self.expected, self.found) {
-            (Expected::AfterName(PartOf::Left) | Expected::AfterTerm(PartOf::Left), _) =>
+        match self.expected {
+            Expected::AfterName(PartOf::Left) | Expected::AfterTerm(PartOf::Left) =>
                 sentences::EQUATION_FORM,
-            (Expected::AfterName(PartOf::Right) | Expected::AfterTerm(PartOf::Right), _) =>
+            Expected::AfterName(PartOf::Right) | Expected::AfterTerm(PartOf::Right) =>
                 sentences::EQUATION_END,
-            (Expected::Equation, ";") => sentences::ONE_EQUATION_END,
-            (Expected::BodyOpen | Expected::Equation, _) => sentences::EQUATIONS_FORM,
-            (Expected::ClassEnd | Expected::FreeEnd, _)
-            | (Expected::AfterName(_) | Expected::AfterTerm(_), _) => sentences::COMMAS,
+            Expected::Equation if self.found == ";" => sentences::ONE_EQUATION_END,
+            Expected::BodyOpen | Expected::Equation => sentences::EQUATIONS_FORM,
+            Expected::ClassEnd
+            | Expected::FreeEnd
+            | Expected::AfterName(_)
+            | Expected::AfterTerm(_) => sentences::COMMAS,
             _ => self.help_with_declaration(),
         }
     }
 
     /// Help for a token within a declaration or a rule.
     fn help_with_declaration(&self) -> &'static str {
-        match (self.expected, self.found) {
-            (Expected::PortSign, _) => sentences::PORT_FORM,
-            (Expected::TypeEnd, _) => sentences::TYPES_FORM,
-            (Expected::SymbolEnd, "type" | "symbol" | "rule" | "net" | "") =>
-                sentences::DECLARATION_END,
-            (Expected::SymbolEnd, _) => sentences::BRACES_FORM,
-            (Expected::Meets, _) => sentences::RULE_FORM,
-            (Expected::RuleEnd, _) => sentences::RULE_END,
-            (Expected::RuleClose, _) => sentences::RULE_CLOSE,
+        match self.expected {
+            Expected::PortSign => sentences::PORT_FORM,
+            Expected::TypeEnd => sentences::TYPES_FORM,
+            Expected::SymbolEnd if self.is_next_item() => sentences::DECLARATION_END,
+            Expected::SymbolEnd => sentences::BRACES_FORM,
+            Expected::Meets => sentences::RULE_FORM,
+            Expected::RuleEnd => sentences::RULE_END,
+            Expected::RuleClose => sentences::RULE_CLOSE,
             _ => sentences::LOOK_BEFORE,
         }
     }
@@ -371,16 +372,10 @@ pub(crate) fn add_unexpected(report: &mut Report, place: Place, expected: Expect
     }
 }
 
-/// Adds that a text has too many bytes. Their number is not known, since reading stops past the limit.
-pub(crate) fn add_long_text(report: &mut Report, place: Place) {
-    let most = Value::Number(MAX_TEXT_BYTES);
-    report.wrong_with(place, sentences::LONG_TEXT, &[("most", most)]);
-}
-
-/// Adds that a word has too many characters.
-pub(crate) fn add_long_word(report: &mut Report, place: Place) {
-    let most = Value::Number(MAX_NAME_CHARACTERS);
-    report.wrong_with(place, sentences::LONG_WORD, &[("most", most)]);
+/// Adds that a text has too many bytes, or a word too many characters, by this sentence with the most allowed. Their number is not known, since
+/// reading stops past the limit.
+pub(crate) fn add_too_long(report: &mut Report, place: Place, sentence: &str, most: usize) {
+    report.wrong_with(place, sentence, &[("most", Value::Number(most))]);
 }
 
 /// The limit that is passed when the grammar expects this, and the things that it counts.

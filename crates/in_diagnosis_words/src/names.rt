@@ -53,11 +53,6 @@ pub(crate) fn add_declared_twice(report: &mut Report, source: &Source, place: Pl
     }
 }
 
-/// Adds the declared symbols with near names. Returns whether there are any.
-fn add_near_symbols(report: &mut Report, source: &Source, name: &str) -> bool {
-    add_near(report, name, source.symbols.as_slice())
-}
-
 /// Adds a type that isn't declared.
 pub(crate) fn add_unknown_type(report: &mut Report, source: &Source, place: Place) {
     let name = report.at(place);
@@ -70,7 +65,7 @@ pub(crate) fn add_unknown_type(report: &mut Report, source: &Source, place: Plac
 /// Adds a name before brackets that is no symbol.
 pub(crate) fn add_unknown_symbol(report: &mut Report, source: &Source, place: Place) {
     wrong_name(report, place, sentences::UNKNOWN_SYMBOL);
-    let _ = add_near_symbols(report, source, report.at(place));
+    let _ = add_near(report, report.at(place), source.symbols.as_slice());
     report.help(sentences::NAMES_BEFORE_BRACKETS);
 }
 
@@ -235,7 +230,7 @@ fn help_once(report: &mut Report, source: &Source, name: &str, place: Place) {
 /// Adds a variable that occurs once.
 fn add_once(report: &mut Report, source: &Source, name: &str, place: Place) {
     wrong_name(report, place, sentences::OCCURS_ONCE);
-    if add_near_symbols(report, source, name) {
+    if add_near(report, name, source.symbols.as_slice()) {
         report.help(sentences::NO_SYMBOL_IS_A_VARIABLE);
     } else {
         help_once(report, source, name, place);
@@ -249,27 +244,18 @@ fn add_third(report: &mut Report, name: &str, places: &[Place], place: Place) {
     report.help(variable_help(name, sentences::COPY));
 }
 
-/// Adds a free end that occurs nowhere in the body.
-fn add_unjoined(report: &mut Report, source: &Source, name: &str, place: Place) {
-    wrong_name(report, place, sentences::NOT_JOINED);
-    let _ = add_single(report, source, place, name, sentences::NO_FREE_END);
-    let _ = add_miscounted(report, source, place);
-    report.help(sentences::OCCURS_IN_THE_NET);
-}
-
-/// Adds a free end that occurs a second time.
-fn add_second_time(report: &mut Report, places: &[Place], place: Place) {
-    wrong_name(report, place, sentences::OCCURS_A_SECOND_TIME);
-    add_earlier(report, places, place);
-    report.help(sentences::ONE_END_OF_ONE_WIRE);
-}
-
 /// Adds a free end that occurs nowhere in the body, or a second time.
 fn add_free(report: &mut Report, source: &Source, declared: &Name, places: &[Place], place: Place) {
     if declared.place.from == place.from {
-        add_unjoined(report, source, declared.text.as_str(), place);
+        wrong_name(report, place, sentences::NOT_JOINED);
+        let name = declared.text.as_str();
+        let _ = add_single(report, source, place, name, sentences::NO_FREE_END);
+        let _ = add_miscounted(report, source, place);
+        report.help(sentences::OCCURS_IN_THE_NET);
     } else {
-        add_second_time(report, places, place);
+        wrong_name(report, place, sentences::OCCURS_A_SECOND_TIME);
+        add_earlier(report, places, place);
+        report.help(sentences::ONE_END_OF_ONE_WIRE);
     }
 }
 

@@ -1,5 +1,5 @@
 //! Rules: of heads that can't meet, a second rule for two symbols, and a missing rule.
-use crate::declarations::{arity, port, symbol_named};
+use crate::declarations::{are_one, arity, port, symbol_named};
 use crate::occurrences::rule_around;
 use crate::reports::Report;
 use crate::sentences;
@@ -58,8 +58,7 @@ pub(crate) fn add_unmatched(report: &mut Report, source: &Source, place: Place) 
 
 /// Whether two symbols can meet: a constructor and a destructor, with principal ports of one type.
 fn can_meet(one: &SourceSymbol, other: &SourceSymbol) -> bool {
-    one.port.output != other.port.output
-        && one.port.kind.text.as_str() == other.port.kind.text.as_str()
+    one.port.output != other.port.output && are_one(&one.port.kind, &other.port.kind)
 }
 
 /// Whether the symbols of a rule's heads are declared, and can't meet.
@@ -88,8 +87,7 @@ pub(crate) fn add_unmet(report: &mut Report, source: &Source, place: Place) -> b
 
 /// Whether the heads of a rule are of these symbols, in this order.
 fn are_of(rule: &SourceRule, first: &Name, second: &Name) -> bool {
-    rule.first.name.text.as_str() == first.text.as_str()
-        && rule.second.name.text.as_str() == second.text.as_str()
+    are_one(&rule.first.name, first) && are_one(&rule.second.name, second)
 }
 
 /// Whether two rules are for the same two symbols.
@@ -108,13 +106,6 @@ fn first_for<'a>(source: &'a Source, rule: &SourceRule) -> Option<&'a SourceRule
     None
 }
 
-/// Adds the place of the first rule for the two symbols of this one.
-fn note_first(report: &mut Report, source: &Source, rule: &SourceRule) {
-    if let Some(first) = first_for(source, rule) {
-        report.note(first.first.name.place, sentences::FIRST_RULE);
-    }
-}
-
 /// Adds a second rule for two symbols: the first one, and the declarations of the symbols.
 fn add_second(report: &mut Report, source: &Source, place: Place, rule: &SourceRule) {
     let slots = [
@@ -122,7 +113,9 @@ fn add_second(report: &mut Report, source: &Source, place: Place, rule: &SourceR
         ("second", Value::Text(rule.second.name.text.as_str())),
     ];
     report.wrong_with(place, sentences::SECOND_RULE, &slots);
-    note_first(report, source, rule);
+    if let Some(first) = first_for(source, rule) {
+        report.note(first.first.name.place, sentences::FIRST_RULE);
+    }
     add_heads(report, source, rule);
     report.help(sentences::KEEP_ONE_RULE);
 }
@@ -150,7 +143,7 @@ fn help_rule<'s>(report: &mut Report, constructor: &'s SourceSymbol, destructor:
 /// Whether the auxiliary port of a symbol at a place is an output of the type of its principal port.
 fn gives_back(symbol: &SourceSymbol, place: usize) -> bool {
     match port(symbol, place) {
-        Some((_, port)) => port.output && port.kind.text.as_str() == symbol.port.kind.text.as_str(),
+        Some((_, port)) => port.output && are_one(&port.kind, &symbol.port.kind),
         None => false,
     }
 }
@@ -164,13 +157,13 @@ fn erases_or_copies(destructor: &SourceSymbol) -> bool {
     }
 }
 
-/// Adds a constructor and a destructor that can meet and have no rule.
-fn add_gap<'s>(
-    report: &mut Report,
-    place: Place,
-    constructor: &'s SourceSymbol,
-    destructor: &'s SourceSymbol,
-) {
+/// Adds two symbols that can meet and have no rule.
+fn add_gap<'s>(report: &mut Report, place: Place, one: &'s SourceSymbol, other: &'s SourceSymbol) {
+    let (constructor, destructor) = if one.port.output {
+        (one, other)
+    } else {
+        (other, one)
+    };
     let slots = [
         ("constructor", Value::Text(constructor.name.text.as_str())),
         ("destructor", Value::Text(destructor.name.text.as_str())),
@@ -181,20 +174,6 @@ fn add_gap<'s>(
     help_rule(report, constructor, destructor);
     if erases_or_copies(destructor) {
         report.help(sentences::COPIES_ARE_WRITTEN);
-    }
-}
-
-/// Adds two symbols that can meet and have no rule.
-fn add_gap_of<'s>(
-    report: &mut Report,
-    place: Place,
-    one: &'s SourceSymbol,
-    other: &'s SourceSymbol,
-) {
-    if one.port.output {
-        add_gap(report, place, one, other);
-    } else {
-        add_gap(report, place, other, one);
     }
 }
 
@@ -220,7 +199,7 @@ pub(crate) fn add_missing_rule(
     let one = symbol_at(report, source, Some(place));
     let other = symbol_at(report, source, earlier);
     match (one, other) {
-        (Some(one), Some(other)) => add_gap_of(report, place, one, other),
+        (Some(one), Some(other)) => add_gap(report, place, one, other),
         _ => report.wrong(place, sentences::NO_RULE_UNKNOWN),
     }
 }

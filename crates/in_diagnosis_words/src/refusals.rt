@@ -1,20 +1,21 @@
 //! The refusals of a text, and those of a program's tree that need no nets.
 use crate::closed_wires::add_closed;
-use crate::grammar::{add_limit, add_long_text, add_long_word, add_unexpected};
+use crate::grammar::{add_limit, add_too_long, add_unexpected};
 use crate::letters::add_no_token;
 use crate::names::{
     add_declared_twice, add_occurrences, add_other_arity, add_unknown_symbol, add_unknown_type,
 };
 use crate::pairs::{add_missing_rule, add_second_rule, add_unmatched};
 use crate::reports::Report;
-use in_syntax::{Code, Expected, MAX_TEXT_BYTES, Place, Refusal, Source};
+use crate::sentences;
+use in_syntax::{Code, Expected, MAX_NAME_CHARACTERS, MAX_TEXT_BYTES, Place, Refusal, Source};
 
 /// Adds a limit of tokens or of the grammar that is passed.
 fn add_limit_of_text(report: &mut Report, place: Place, expected: Expected) {
     if report.text().len() > MAX_TEXT_BYTES {
-        add_long_text(report, place);
+        add_too_long(report, place, sentences::LONG_TEXT, MAX_TEXT_BYTES);
     } else if place.from == place.to {
-        add_long_word(report, place);
+        add_too_long(report, place, sentences::LONG_WORD, MAX_NAME_CHARACTERS);
     } else {
         add_limit(report, place, expected);
     }

@@ -144,8 +144,9 @@ impl Words {
 
     /// Writes a line and a column.
     fn spot(&mut self, place: Place) {
-        let (line, column) = (place.line, place.col);
-        self.put(&format_args!("{line}:{column}"));
+        self.put(&place.line);
+        self.say(":");
+        self.put(&place.col);
     }
 
     /// Writes a number and the words after it.

@@ -1,0 +1,21 @@
+use Rattle.std.proofs.Common.{◌∙◌, ap}
+use Rattle.std.proofs.lemmas.Result.{IfOk-weaker}
+use Rattle.clap.specs.Simple.{app_of_fields}
+use Rattle.clap.specs.declared.builder.command.Command.{Command}
+use Rattle.clap.specs.declared.builder.command.Command.TheOpen.{Command-F}
+use Rattle.in_command_line.proofs.Building.{app_with, local_with}
+use Rattle.in_command_line.proofs.action.cells_command.Goals as goal
+
+pub returns-clause-app : goal.returns-clause-app
+returns-clause-app c =
+    let one = app_with _ _ _ _ _ c.in_ok-arg.ensures (ap app_of_fields c.about.ensures ∙ c.new.ensures.app) c.number_option.ensures.rule c.number_option.ensures.local in
+    let two = app_with _ _ _ _ _ c.in_ok-arg-2.ensures one c.number_option-2.ensures.rule c.number_option-2.ensures.local in
+    IfOk-weaker c.arg-3.result _ _
+    (λ r h. app_with _ _ _ _ _ h two c.number_option-3.ensures.rule c.number_option-3.ensures.local) c.arg-3.ensures
+
+pub returns-clause-local : goal.returns-clause-local
+returns-clause-local c =
+    let one = local_with _ _ _ c.in_ok-arg.ensures (ap (λ (f : Command-F Command). f.has_globals) c.about.ensures ∙ c.new.ensures.local) c.number_option.ensures.local in
+    let two = local_with _ _ _ c.in_ok-arg-2.ensures one c.number_option-2.ensures.local in
+    IfOk-weaker c.arg-3.result _ _
+    (λ r h. local_with _ _ _ h two c.number_option-3.ensures.local) c.arg-3.ensures
