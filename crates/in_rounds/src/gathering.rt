@@ -87,7 +87,9 @@ fn place_in_seats<'t, R: Threads + Wait, G: Gate + Sync>(
     let jobs = plan.jobs.len() as u32;
     let rooms = jobs / workers + 1;
     let (board, seats) = Board::new(alloc, jobs, workers)?;
-    place_jobs(rt, alloc, plan, &board, seats, share, rooms, arena, gate, gather)
+    place_jobs(
+        rt, alloc, plan, &board, seats, share, rooms, arena, gate, gather,
+    )
 }
 
 /// Lets `workers` workers, 1 to 64, of which the caller is one, claim the plan's jobs and place their templates in cells of the arena, each
