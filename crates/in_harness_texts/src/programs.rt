@@ -1,6 +1,5 @@
 //! Accepted programs: the rule of each pair, open nets, steps that are verified, words of the command line.
-ghost use Rattle.std.specs.Prelude.{◌≡◌, ◌<◌, ◌^◌, length, true};
-ghost use Rattle.in_cover.specs.Cover.{IsPair};
+ghost use Rattle.std.specs.Prelude.{◌<◌, ◌^◌, length};
 
 use crate::sheet::Sheet;
 use crate::words::{small, word};
@@ -10,21 +9,17 @@ use in_command_line::{Action, Request, Usage, action_of};
 use in_cover::RuleNo;
 use in_open_nets::OpenPoint;
 use in_simple::{Derivation, Node, OpenNet, Step, verify};
-use in_symbols::{SymbolNo, Symbols};
+use in_symbols::SymbolNo;
 use sqlite_items::Items;
 use std::alloc::{AllocError, Global};
 
-/// Whether the two symbols are declared and match.
-fn is_pair(symbols: &Symbols, one: SymbolNo, other: SymbolNo) -> bool
-    ensures { result ≡ true → IsPair symbols.now one.0 other.0 }
-{
-    let count = symbols.symbols();
-    one.0 < count && other.0 < count && symbols.matching(one, other)
-}
-
-/// Adds the number of the rule of two symbols, if they match.
+/// Adds the number of the rule of two symbols, if they are declared and match.
 fn add_rule_of(sheet: &mut Sheet, program: &Checked, one: SymbolNo, other: SymbolNo) {
-    if is_pair(program.symbols(), one, other) {
+    let symbols = program.symbols();
+    if one.0 >= symbols.symbols() || other.0 >= symbols.symbols() {
+        return;
+    }
+    if symbols.matching(one, other) {
         let rule = program.rule_of(one, other);
         sheet.fill(
             "rule of # #: #\n",
@@ -178,7 +173,7 @@ fn add_counts(sheet: &mut Sheet, cells: CellCounts) {
         large_cells: large,
         wide_cells: wide,
     } = cells;
-    if cells == CellCounts::each(small) {
+    if large == small && wide == small {
         sheet.fill(" #", &[small as u64]);
     } else {
         sheet.fill(" # # #", &[small as u64, large as u64, wide as u64]);

@@ -3,7 +3,7 @@ use Rattle.std.proofs.Common.{◌≡◌, ◌≤◌, ◌<◌, ◌+◌, ◌*◌, �
 use Rattle.std.proofs.lemmas.List.{append_assoc}
 use Rattle.std.proofs.lemmas.List.Elements.{All-append, All-cons, All-nil, All-weaker}
 use Rattle.in_arena.specs.Arenas.{ArenaView, free_of, state_at}
-use Rattle.in_arena.specs.Bags.{AreOfOne}
+use Rattle.in_arena.specs.Bags.{AreOfOne, empty_bag}
 use Rattle.in_arena.specs.Changes.{HasAllCells}
 use Rattle.in_arena.specs.States.{Vacant, Leased, IsLeased}
 use Rattle.in_arena.specs.declared.content.CellClass.{CellClass}
@@ -14,6 +14,7 @@ use Rattle.in_compile.specs.Placing.{PlacedParts}
 use Rattle.in_compile.specs.Stocks.{StockParts, AddsTo, HasRoom, IsStockOf, empty_stock}
 use Rattle.in_compile.proofs.Public.{count_all, cells_all, memory_all, none_in_empty}
 use Rattle.in_claims.specs.Seats.{BoardView}
+use Rattle.in_net.specs.NetFaults.{max_member_agents}
 use Rattle.in_rounds.specs.Holding.{holders}
 use Rattle.in_rounds.proofs.Filling.{Change, Changes, change}
 use Rattle.in_rounds.proofs.Filling.Change.{Lends, Stays}
@@ -37,6 +38,10 @@ empty_stock_of a a' room memory cells = record { memory = sym memory; cells = sy
 
 pub empty_has_room : (a : ArenaView) (share : Need) → HasRoom (empty_stock a share) share
 empty_has_room a share c = let none = (empty_is_of a).2 c in omega (arith, none)
+
+-- a room for a template that is made of this arena is one of a stock of the same arena
+pub empty_room : (s : StockParts) (a : ArenaView) (p : PlacedParts) (room : ℕ) → (s.bag.memory ≡ a.memory) × (s.bag.cells ≡ a.cells) → max_member_agents ≤ room → p ≡ record { cells = []; bag = empty_bag a; room = room } → IsEmptyRoom s p
+empty_room s a p room same large is = subst (IsEmptyRoom s) (sym is) (record { one = (sym same.0, sym same.1); none = none_in_empty a; room = large })
 
 no_more : (k : ℕ) → (0 < k → ⊥) → k ≡ 0
 no_more zero never = refl

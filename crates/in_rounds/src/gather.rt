@@ -58,19 +58,6 @@ fn fresh<'t>(alloc: Global, count: usize) -> Result<Vec<JobState<'t>>, AllocErro
     Ok(slots)
 }
 
-fn copied(
-    alloc: Global,
-    jobs: &[(SymbolNo, SymbolNo)],
-) -> Result<Vec<(SymbolNo, SymbolNo)>, AllocError>
-    ensures { IfOk result (λ v. v.items ≡ jobs.now) }
-{
-    let mut list = Vec::with_capacity(alloc, jobs.len())?;
-    for job in jobs {
-        list.push_reserved(*job);
-    }
-    Ok(list)
-}
-
 /// Whether the list has this job, with these symbols.
 fn has_job(jobs: &[(SymbolNo, SymbolNo)], done: &Done) -> bool
     ensures yes { result ≡ true → slice_get jobs.now done.now.job ≡ Some done.now.heads }
@@ -114,7 +101,7 @@ impl<'t> Gather<'t> {
         ensures { IfOk result (λ g. g ≡ new_gather jobs.now) }
     {
         let slots = fresh(alloc, jobs.len())?;
-        let jobs = copied(alloc, jobs)?;
+        let jobs = Vec::from_slice(alloc, jobs)?;
         Ok(Gather { jobs, slots })
     }
 

@@ -61,6 +61,37 @@ fn place_jobs<'t, R: Threads + Wait, G: Gate + Sync>(
     Ok(threads)
 }
 
+/// The same with a new board.
+fn place_in_seats<'t, R: Threads + Wait, G: Gate + Sync>(
+    rt: &R,
+    alloc: Global,
+    plan: &Plan<'t>,
+    workers: u32,
+    share: Need,
+    arena: &mut Arena,
+    gate: &G,
+    gather: &mut Gather<'t>,
+) -> Result<u32, AllocError>
+    requires some { 1 ≤ workers }
+    requires most { workers ≤ 64 }
+    requires few { length plan.now.jobs < 2 ^ 31 }
+    requires none { NoneLeased arena.old }
+    requires share { IsShare workers share (free_of arena.old) }
+    requires gather { gather.old ≡ new_gather plan.now.jobs }
+    ensures lent { OnOk result (AreLentOut (bags_of gather.new.slots) arena.old arena.new) }
+    ensures jobs { OnOk result (gather.new.jobs ≡ plan.now.jobs) }
+    ensures made { OnOk result (AreMadeWith plan.now.templates gather.new.slots) }
+    ensures threads { IfOk result (λ n. n + 1 ≤ workers) }
+    ensures refused { OnErr result (arena.new ≡ arena.old) }
+{
+    let jobs = plan.jobs.len() as u32;
+    let rooms = jobs / workers + 1;
+    let (board, seats) = Board::new(alloc, jobs, workers)?;
+    place_jobs(
+        rt, alloc, plan, &board, seats, share, rooms, arena, gate, gather,
+    )
+}
+
 /// Lets `workers` workers, 1 to 64, of which the caller is one, claim the plan's jobs and place their templates in cells of the arena, each
 /// with its share of the free ones; and gathers the results. Returns the number of started threads. Each worker claims while its stock holds the most
 /// that a job can need, and passes the gate after each claim. Unused cells are freed.
@@ -87,20 +118,7 @@ pub fn gather_jobs<'t, R: Threads + Wait, G: Gate + Sync>(
     ensures threads { IfOk result (λ r. r.1 + 1 ≤ workers) }
     ensures refused { OnErr result (arena.new ≡ arena.old) }
 {
-    let jobs = plan.jobs.len() as u32;
     let mut gather = Gather::new(alloc, plan.jobs)?;
-    let (board, seats) = Board::new(alloc, jobs, workers)?;
-    let threads = place_jobs(
-        rt,
-        alloc,
-        plan,
-        &board,
-        seats,
-        share,
-        jobs / workers + 1,
-        arena,
-        gate,
-        &mut gather,
-    )?;
+    let threads = place_in_seats(rt, alloc, plan, workers, share, arena, gate, &mut gather)?;
     Ok((gather, threads))
 }

@@ -35,3 +35,17 @@ loop-number-preserved c =
         small = inv.plan.small;
       };
     }
+
+pub heads-requires-clause-net : goal.heads-requires-clause-net
+heads-requires-clause-net c = c.requires.net
+
+pub heads-requires-clause-pair : goal.heads-requires-clause-pair
+heads-requires-clause-pair c = let few = c.requires.count in omega (arith, few)
+
+pub push_reserved-requires : goal.push_reserved-requires
+push_reserved-requires c =
+    let inv = c.loop-number.invariant in
+    omega (arith, inv.room, inv.count, c.loop-number.jobs.ok.0)
+
+pub returns-clause-plan : goal.returns-clause-plan
+returns-clause-plan c = c.loop-number.invariant.plan
