@@ -288,7 +288,7 @@ static void take_message(struct worker *w, int from, int kind, const word *words
   }
   case ASKED:
     if (!team.is_together) hand_in(w, LETTERS);
-    look_at_ends(w, w->end_count);
+    look_at_all_ends(w);
     post_all(w, 1);
     report(w, (int64_t)words[0]);
     break;
@@ -429,7 +429,7 @@ static void serve(struct worker *w) {
     // Nothing is to be done here.
     if (waited == 0) {
       if (w->number && !team.is_together) hand_in(w, LETTERS);
-      look_at_ends(w, w->end_count);
+      look_at_all_ends(w);
       post_all(w, 1);
       if (w->number) {
         report(w, 0);

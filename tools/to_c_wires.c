@@ -345,8 +345,9 @@ static void read_words(struct worker *w, const word *at, size_t count) {
 }
 
 // What has come to stubs of other homes is sent there, and so are two such stubs that lead to each other: the next ones after those that were
-// looked at before.
-static void look_at_ends(struct worker *w, size_t most) {
+// looked at before. Whether any was sent.
+static bool look_at_ends(struct worker *w, size_t most) {
+  bool has_sent = false;
   if (most > w->end_count) most = w->end_count;
   for (; most > 0 && w->end_count; most--) {
     if (w->next_end >= w->end_count) w->next_end = 0;
@@ -356,12 +357,21 @@ static void look_at_ends(struct worker *w, size_t most) {
       struct port port = s->port;
       free_end(w, s);
       send_agent(w, wire, here, port);
+      has_sent = true;
     } else if (is_stub(w, AT(here)) && !is_home(w, STUB(here)->wire)) {
       struct stub *other = STUB(here);
       word next = other->wire;
       free_end(w, s);
       free_end(w, other);
       send_wire(w, wire, next);
+      has_sent = true;
     } else w->next_end++;
   }
+  return has_sent;
+}
+
+// Looks at all ends. Where one goes, the last one takes its place, perhaps one that was looked at, and another isn't reached: so all are looked at
+// again until none goes.
+static void look_at_all_ends(struct worker *w) {
+  while (look_at_ends(w, w->end_count)) {}
 }

@@ -416,7 +416,7 @@ static bool find_work(struct worker *w) {
   if (has_pairs(w) && w->fuel && !LOOK_AT(is_parting)) return true;
   if (worker_count == 1) return false;
   if (!w->is_alone) {
-    look_at_ends(w, w->end_count);
+    look_at_all_ends(w);
     read_letters(w);
   }
   bool found = false;
@@ -444,7 +444,7 @@ static bool find_work(struct worker *w) {
     if (w->in.count) {
       leave();
       read_letters(w);
-      look_at_ends(w, w->end_count);
+      look_at_all_ends(w);
       enter();
       continue;
     }
