@@ -221,7 +221,7 @@ def wrong_tunables(program):
     """What is wrong with what the scripts pass on to the C library: large pages where they pay, but for who says something else."""
     copy = changed(program, show_tunables, "tunables")
     large, usual, own = "glibc.malloc.hugetlb=1", "", "glibc.malloc.hugetlb=0"
-    for words, wanted in (
+    for words, asked_for in (
         (["./inet", "check"], large),
         (["./inet", "run"], usual),
         (["./inet", "run", "--limit", "100"], usual),
@@ -230,7 +230,7 @@ def wrong_tunables(program):
         (["./inet", "run", "--workers=2", "--cells", "100"], usual),
         (["./inet_export"], large),
     ):
-        for passed, wanted in (({}, wanted), ({"GLIBC_TUNABLES": own}, own)):
+        for passed, wanted in (({}, asked_for), ({"GLIBC_TUNABLES": own}, own)):
             answer = asked(copy, words, **passed)
             if answer.output.decode() != f"{wanted}\n":
                 return f"{words} passes {answer.output!r}, not {wanted!r}"
