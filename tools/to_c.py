@@ -5,7 +5,7 @@
 Usage: inet_export < PROGRAM.inet | tools/to_c.py > PROGRAM.c
        cc -std=c11 -O2 -pthread -o PROGRAM PROGRAM.c && ./PROGRAM [--limit N] [--workers N] [NET]
 
-docs/use/COMPILED.md says how the code works and why. No rule tests what acceptance promises, so the steps of a line are checked before.
+docs/work/TO-C.md says how the code works and why. No rule tests what acceptance promises, so the steps of a line are checked before.
 """
 import argparse
 import itertools

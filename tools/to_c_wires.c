@@ -344,6 +344,9 @@ static void read_words(struct worker *w, const word *at, size_t count) {
   }
 }
 
+// Whether two stubs of other homes lead to each other.
+static bool leads_on(struct worker *w, const struct stub *s) { return is_stub(w, AT(s->here)) && !is_home(w, STUB(s->here)->wire); }
+
 // What has come to stubs of other homes is sent there, and so are two such stubs that lead to each other: the next ones after those that were
 // looked at before. Whether any was sent.
 static bool look_at_ends(struct worker *w, size_t most) {
@@ -358,7 +361,7 @@ static bool look_at_ends(struct worker *w, size_t most) {
       free_end(w, s);
       send_agent(w, wire, here, port);
       has_sent = true;
-    } else if (is_stub(w, AT(here)) && !is_home(w, STUB(here)->wire)) {
+    } else if (leads_on(w, s)) {
       struct stub *other = STUB(here);
       word next = other->wire;
       free_end(w, s);
@@ -374,4 +377,8 @@ static bool look_at_ends(struct worker *w, size_t most) {
 // again until none goes.
 static void look_at_all_ends(struct worker *w) {
   while (look_at_ends(w, w->end_count)) {}
+#ifdef STRESS
+  for (size_t k = 0; k < w->end_count; k++)
+    if (TAG(w->ends[k]->here) || leads_on(w, w->ends[k])) abort();
+#endif
 }

@@ -4,7 +4,8 @@ That is tried on the accepted examples, the rows that end normally, generated pr
 for it: wires between free ends, wires from an agent of a pair back to itself, many ports. All that ends is tried in any order; with one worker
 and `--order queue` what is left at a limit has to be the same too. A program is compiled in each form in turn: all rules in one function, or each
 in its own; as it is, or so that several workers give pairs away after each interaction, and part and meet again and again (`-DSTRESS
--DSLICE=1`); one in seven by clang, where it is there. Each runs with one to four workers.
+-DSLICE=1`), and end at once where one of them looked at all its ends and missed one; one in seven by clang, where it is there. Each runs with one
+to four workers.
 
 Generated programs with the same rules are compiled once, and their nets are read. Lines of nets that are changed by chance have to be refused, by
 a program with the sanitizers, where `tools/nets.py` and `tools/steps.py` refuse them, and nowhere else.
