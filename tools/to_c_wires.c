@@ -344,7 +344,7 @@ static void read_words(struct worker *w, const word *at, size_t count) {
   }
 }
 
-// Whether two stubs of other homes lead to each other.
+// Whether a stub of another home leads to another such stub.
 static bool leads_on(struct worker *w, const struct stub *s) { return is_stub(w, AT(s->here)) && !is_home(w, STUB(s->here)->wire); }
 
 // What has come to stubs of other homes is sent there, and so are two such stubs that lead to each other: the next ones after those that were
