@@ -16,7 +16,6 @@ import os
 import re
 import shutil
 import sys
-import tempfile
 import threading
 from concurrent.futures import FIRST_COMPLETED, ThreadPoolExecutor, wait
 from contextlib import nullcontext
@@ -115,7 +114,8 @@ ENDED = re.compile(r"only=(\d+) proved=(\d+)\b")
 MUTANTS = {
     "checked": ["crate", "texts", "flags", "kept"],
     "must_fail": ["crate", "edit", "flags", "kept"],
-    "must_fail_all": ["crate", "edits", "flags"],
+    "seeded": ["crate", "flags", "start"],
+    "add_edits": ["tasks", "crate", "edits", "first", "waits", "is_well", "kept", "start", "in_ci"],
     "read_edit": ["edit", "folder"],
 }
 
@@ -143,10 +143,15 @@ def changed_functions(folder, texts):
     return words
 
 
-def changed_first(checked):
-    """The kit's function of that name, which checks a crate with other texts of some files, but that it tries the changed functions alone first, with
-    those that they call. If one of them isn't proved, neither is the crate; else the whole crate is checked."""
+def changed_first(rt):
+    """The kit's functions that check a crate with other texts of some files, and add the tasks that try a crate's mutants, but that the changed functions
+    are tried alone first, with those that they call. If one of them isn't proved, neither is the crate; else the whole crate is checked. The kit tries
+    mutants over what a check of the crate as it is proved, before and after them: here that is a check of these functions."""
+    checked, add_edits, unchanged = rt.checked, rt.add_edits, {}
+
     def tried(crate, texts, flags, kept):
+        if not texts:
+            return checked(crate, texts, [*flags, *unchanged.get(crate.name, [])], kept)
         only = changed_functions(crate.folder, texts)
         if only:
             ran = checked(crate, texts, [*flags, *only], kept)
@@ -156,23 +161,12 @@ def changed_first(checked):
                 return ran
         return checked(crate, texts, flags, kept)
 
-    return tried
+    def added(tasks, crate, edits, *rest, **named):
+        each = [changed_functions(crate.folder, rt.read_edit(edit, crate.folder)[0] or {}) for edit in edits]
+        unchanged[crate.name] = [word for words in each for word in words] if all(each) else []
+        return add_edits(tasks, crate, edits, *rest, **named)
 
-
-def each_over_the_others(rt, checked):
-    """The kit's function that tries a crate's mutants, each over the work of those before it. It counts what was refused so if the functions that
-    they change are proved over that work as they are: the kit's function asks that of the whole crate."""
-    def tried(crate, edits, flags):
-        if len(edits) < 2:
-            return [rt.must_fail(crate, edit, flags) for edit in edits]
-        with tempfile.TemporaryDirectory(prefix="rt-edits-") as kept:
-            found = [rt.must_fail(crate, edit, flags, kept) for edit in edits]
-            only = [changed_functions(crate.folder, rt.read_edit(edit, crate.folder)[0] or {}) for edit in edits]
-            words = [word for words in only for word in words] if all(only) else []
-            is_sound = not checked(crate, {}, [*flags, *words], kept).returncode
-        return [it if is_sound and it[0] else rt.must_fail(crate, edit, flags) for edit, it in zip(edits, found)]
-
-    return tried
+    return tried, added
 
 
 def loaded(command):
@@ -190,8 +184,7 @@ def loaded(command):
     if all(hasattr(rt, name) for name in ("in_lanes", "processors", "free")) and "RT_JOBS" not in os.environ:
         rt.in_lanes = in_lanes(rt)
     if all(has_parameters(getattr(rt, name, None), names) for name, names in MUTANTS.items()):
-        rt.must_fail_all = each_over_the_others(rt, rt.checked)
-        rt.checked = changed_first(rt.checked)
+        rt.checked, rt.add_edits = changed_first(rt)
     return rt
 
 

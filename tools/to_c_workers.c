@@ -4,6 +4,8 @@
 enum { FIRST_ALONE = 0, LEAST_ALONE = 40, MOST_ALONE = 400, WINDOW = 200, ACCOUNTED = 1, LOOKED_AT = 2, SPIN = 10, SPARE_WORDS = 1 };
 enum { LEAST_PAIRS = 1, MOST_GIVEN = 3, MOST_IN_GIFT = 9, FIRST_PAIRS = 4, REFUSED_TIMES = 1, MOST_PATIENCE = 2, MOST_REVERSED = 32 };
 enum { LASTS = 6, PAIR_LASTS = 3, AGENT_LASTS = 0, LASTS_LONG = 20 };
+// In nanoseconds.
+enum { RAMP = 20000, LOOKED_BACK = 20000 };
 #else
 // In interactions: a run begins with one worker; where within a window of all together it doesn't pay, one goes on alone, for three times as long
 // each time.
@@ -22,6 +24,8 @@ enum { LASTS = 15000, PAIR_LASTS = 500, AGENT_LASTS = 12, LASTS_LONG = 20000 };
 // How often a worker that has nothing to do looks for letters before it waits. And how many words of memory it has before it takes free cells of
 // others.
 enum { SPIN = 500, SPARE_WORDS = 1 << 20 };
+// By the clock, in nanoseconds: once all have begun and so long have been at work, what all did in such a time is compared with what one did alone.
+enum { RAMP = 8000000, LOOKED_BACK = 8000000 };
 #endif
 // What it costs to wait, in interactions, of the first worker, who would have something to do if it were alone, before it ever paid and later, of
 // another, and of all at once, while a letter goes from one to another. All together have to do so many times as much as letters and waiting cost.
@@ -41,6 +45,9 @@ static struct {
   // Since the last judgement interactions of all, those of all but the first worker, and what letters and waiting cost; and the number of those of
   // the first worker at which others begin, and for how many it is alone.
   int64_t done, by_others, cost, begin_at, alone_for;
+  // By the clock: what all have done so far; when the time that is looked back on began and ends, and what had been done when it began; and how long
+  // one worker alone took for its last WINDOW interactions, with when they began and what it had done.
+  int64_t total, back_from, back_to, back_done, alone_took, alone_from, alone_done;
 } team = {.lock = PTHREAD_MUTEX_INITIALIZER, .parted = PTHREAD_COND_INITIALIZER};
 // What a worker looks at without the lock: how many lack pairs; whether all but the first are to park, and whether all have ended; whether there
 // are lists of free cells, and how often somebody looked for one.
@@ -70,6 +77,12 @@ static void enter(void) {
 }
 
 static void leave(void) { pthread_mutex_unlock(&team.lock); }
+
+static int64_t nanoseconds(void) {
+  struct timespec now;
+  clock_gettime(CLOCK_MONOTONIC, &now);
+  return (int64_t)now.tv_sec * 1000000000 + now.tv_nsec;
+}
 
 // ---- Free cells that go from one worker to another. What is called with the lock has (locked) behind it.
 
@@ -250,6 +263,7 @@ static void judge_gift(struct worker *w) {
 
 static void account(struct worker *w) { // (locked)
   team.done += w->done - w->looked;
+  team.total += w->done - w->looked;
   if (w != workers) team.by_others += w->done - w->looked;
   team.cost += w->cost;
   w->looked = w->done;
@@ -262,6 +276,7 @@ static void *work(void *given);
 static void begin(int count) {
   while (team.size < count && !pthread_create(&workers[team.size].thread, 0, work, &workers[team.size])) team.size++;
   team.active = count;
+  if (count == worker_count) team.back_to = 0;
   SET(is_parting, false);
   pthread_cond_broadcast(&team.parted);
 #ifdef STRESS
@@ -275,6 +290,17 @@ static void begin(int count) {
 #endif
 }
 
+// Whether by the clock all together do a tenth more than one did alone: cells that others wrote cost more than letters and waiting tell. (locked)
+static bool is_faster(void) {
+  int64_t now = nanoseconds(), did = team.total - team.back_done;
+  if (team.back_to && now < team.back_to) return true;
+  bool is_first = !team.back_to, is_faster = is_first || !team.back_from || 10 * did * team.alone_took >= 11 * (now - team.back_from) * WINDOW;
+  team.back_from = is_first ? 0 : now;
+  team.back_to = now + (is_first ? RAMP : LOOKED_BACK);
+  team.back_done = team.total;
+  return is_faster;
+}
+
 // Whether it pays that all work together; else all but the first are to park. (locked)
 static void judge(void) {
   // Where it never paid since the others began, little is enough to see that it doesn't.
@@ -285,6 +311,10 @@ static void judge(void) {
   pays = ++judgements % 8 > 0;
   team.by_others = team.done;
 #endif
+  if (pays && team.has_paid && team.active == worker_count && !is_faster()) {
+    pays = false;
+    team.alone_for = MOST_ALONE;
+  }
   team.has_paid = pays && (team.has_paid || team.by_others >= team.done / 8);
   if (pays) {
     // What was before counts too, by half: what is given costs at once, and is done for some while.
@@ -386,6 +416,8 @@ static void begin_alone(struct worker *w) { // (locked)
   // Where it never paid in this order, the next time it is the other one.
   if (!team.paid_before) SET(is_reversed, !LOOK_AT(is_reversed));
   team.begin_at = w->done + team.alone_for;
+  team.alone_from = nanoseconds();
+  team.alone_done = w->done;
   team.alone_for = 3 * team.alone_for < MOST_ALONE ? 3 * team.alone_for : MOST_ALONE;
 }
 
@@ -393,6 +425,12 @@ static void begin_alone(struct worker *w) { // (locked)
 static void look_around(struct worker *w) {
   if (worker_count == 1) return;
   if (w->is_alone) {
+    if (w->done - team.alone_done >= WINDOW) {
+      int64_t now = nanoseconds();
+      team.alone_took = (now - team.alone_from) * WINDOW / (w->done - team.alone_done);
+      team.alone_from = now;
+      team.alone_done = w->done;
+    }
     if (w->done >= team.begin_at && (size_t)(w->sp - w->bottom) / 2 >= LEAST_PAIRS) begin_others(w);
     return;
   }
@@ -537,6 +575,7 @@ static int64_t run(int64_t limit) {
   team.size = 1;
   team.alone_for = LEAST_ALONE;
   team.begin_at = FIRST_ALONE;
+  team.alone_from = nanoseconds();
   forget_worth();
   for (int k = 0; k < worker_count; k++) {
     workers[k].number = k;

@@ -36,7 +36,7 @@ import to_c as tool  # noqa: E402
 SCRIPT = os.path.join(HERE, "..", "..", "inet_c")
 GENERATED = 300
 # Random programs of `tools/compile.py`; and nets that are changed by chance, of each program that is taken for that.
-RANDOM = 50
+RANDOM = 150
 CHANGED = 60
 WORKERS = (1, 2, 3, 4)
 # Interactions of a run of `inet` that is compared, and its cells.
@@ -471,7 +471,7 @@ def to_c(program):
     yield "a deep net", partial(wrong_depth, made)
     for number, form in enumerate(FORMS):
         yield f"many rules: {' '.join(form.values())}", partial(made.wrong_run, f"many{number}", number, many_rules(12), ("-O0",), (1, 3))
-    yield "a thousand rules", partial(made.wrong_run, "thousand", 3, many_rules(32), ("-O0",), (1, 2))
+    yield "four thousand rules", partial(made.wrong_run, "thousands", 3, many_rules(63), ("-O0",), (1, 2))
     yield "512 symbols with sixteen ports", partial(wrong_limits, made)
     if made.has_sanitizers(THREADS):
         for number, text in enumerate(watched()):
