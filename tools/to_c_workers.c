@@ -45,9 +45,10 @@ static struct {
   // Since the last judgement interactions of all, those of all but the first worker, and what letters and waiting cost; and the number of those of
   // the first worker at which others begin, and for how many it is alone.
   int64_t done, by_others, cost, begin_at, alone_for;
-  // By the clock: what all have done so far; when the time that is looked back on began and ends, and what had been done when it began; and how long
-  // one worker alone took for its last WINDOW interactions, with when they began and what it had done.
-  int64_t total, back_from, back_to, back_done, alone_took, alone_from, alone_done;
+  // By the clock: what all have done so far; when the time that is looked back on began and ends, and what had been done when it began; and when one
+  // worker alone began its last WINDOW interactions, what it had done then, and how many it did in a nanosecond.
+  int64_t total, back_from, back_to, back_done, alone_from, alone_done;
+  double alone_speed;
 } team = {.lock = PTHREAD_MUTEX_INITIALIZER, .parted = PTHREAD_COND_INITIALIZER};
 // What a worker looks at without the lock: how many lack pairs; whether all but the first are to park, and whether all have ended; whether there
 // are lists of free cells, and how often somebody looked for one.
@@ -292,13 +293,15 @@ static void begin(int count) {
 
 // Whether by the clock all together do a tenth more than one did alone: cells that others wrote cost more than letters and waiting tell. (locked)
 static bool is_faster(void) {
-  int64_t now = nanoseconds(), did = team.total - team.back_done;
+  int64_t now = nanoseconds();
   if (team.back_to && now < team.back_to) return true;
-  bool is_first = !team.back_to, is_faster = is_first || !team.back_from || 10 * did * team.alone_took >= 11 * (now - team.back_from) * WINDOW;
-  team.back_from = is_first ? 0 : now;
-  team.back_to = now + (is_first ? RAMP : LOOKED_BACK);
+  bool has_begun = team.back_to, pays = true;
+  // The first time is for all to get work.
+  if (has_begun && team.back_from) pays = (double)(team.total - team.back_done) >= 1.1 * team.alone_speed * (double)(now - team.back_from);
+  team.back_from = has_begun ? now : 0;
+  team.back_to = now + (has_begun ? LOOKED_BACK : RAMP);
   team.back_done = team.total;
-  return is_faster;
+  return pays;
 }
 
 // Whether it pays that all work together; else all but the first are to park. (locked)
@@ -427,7 +430,7 @@ static void look_around(struct worker *w) {
   if (w->is_alone) {
     if (w->done - team.alone_done >= WINDOW) {
       int64_t now = nanoseconds();
-      team.alone_took = (now - team.alone_from) * WINDOW / (w->done - team.alone_done);
+      team.alone_speed = (double)(w->done - team.alone_done) / (double)(now - team.alone_from + 1);
       team.alone_from = now;
       team.alone_done = w->done;
     }
