@@ -119,13 +119,10 @@ version() {
   sed -n 's/^pub const VERSION: .*"\(.*\)";$/\1/p' "$top/crates/in_version/src/lib.rt"
 }
 
-# Whether large pages pay for these words of `inet`. A run with the usual cells is small, and a short one takes longer with them; several workers
-# touch new memory again and again.
+# Whether large pages pay for these words of `inet`. A run with the usual cells is small, and a short one takes longer with them.
 want_large_pages() {
   local words=" $* "
-  if [[ $words != *" run "* ]]; then return 0; fi
-  if [[ $words =~ " --workers"[\ =]([0-9]+) ]] && [ "${BASH_REMATCH[1]}" != 1 ]; then return 1; fi
-  [[ $words == *" --"*cells[\ =]* ]]
+  [[ $words != *" run "* || $words == *" --"*cells[\ =]* ]]
 }
 
 # Becomes this program, with these words. Under `set -e` an `exec` that fails would end the script with status 1. The C library is told to ask for

@@ -227,7 +227,8 @@ def wrong_tunables(program):
         (["./inet", "run", "--limit", "100"], usual),
         (["./inet", "run", "--cells", "100"], large),
         (["./inet", "run", "--no-net", "--small-cells=100", "--workers", "1"], large),
-        (["./inet", "run", "--workers=2", "--cells", "100"], usual),
+        (["./inet", "run", "--workers=2"], usual),
+        (["./inet", "run", "--workers=2", "--cells", "100"], large),
         (["./inet_export"], large),
     ):
         for passed, wanted in (({}, asked_for), ({"GLIBC_TUNABLES": own}, own)):

@@ -1,5 +1,6 @@
 -- The templates of a program: the layout of each rule and of the net, and that there is one.
 pub mod Accepted
+pub mod Found
 pub mod Laid
 pub mod Made
 pub mod Narrow

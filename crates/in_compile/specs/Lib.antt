@@ -1,4 +1,5 @@
 pub mod Cells
+pub mod Finding
 pub mod Laws
 pub mod Listing
 pub mod MemberInside
@@ -15,4 +16,5 @@ pub mod Stocks
 pub mod Storing
 pub mod TemplateInside
 pub mod Templates
+pub mod TemplatesInside
 pub mod Wires

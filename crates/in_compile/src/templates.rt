@@ -9,26 +9,33 @@ use in_cover::RuleTable;
 use in_symbols::SymbolNo;
 use sqlite_items::Items;
 use std::marker::Model;
+use std::sync::Arc;
 
 /// The templates of all rules of a program, found by their two symbols, and its initial net. It borrows nothing of the program, so that
 /// threads can share it.
 #[derive(Drop)]
 pub struct Templates {
-    pub(crate) templates: Items<Template>,
+    pub(crate) listed: Items<Arc<Template>>,
     pub(crate) numbers: RuleTable,
+    pub(crate) found: Items<Option<Arc<Template>>>,
+    pub(crate) size: u32,
     pub(crate) start: Member,
     pub(crate) largest: Need,
 }
 
-// Contracts see the templates, how they are found, and the net. The largest need is kept, so that it is computed once.
+// Contracts see the templates, by the numbers of their rules, how these numbers are found, and the net. The largest need is kept, so that it is
+// computed once. Templates are found in a table of their own, so that one read leads to a template, and not to the number of its rule first.
 impl Model for Templates {
-    ghost use Rattle.in_compile.specs.Templates.{TemplatesParts, IsLargestNeed};
+    ghost use Rattle.std.specs.Prelude.{map};
+    ghost use Rattle.std.specs.Arc.{arc_value};
+    ghost use Rattle.in_compile.specs.TemplatesInside.{AreTemplates};
+    ghost use Rattle.in_compile.specs.Templates.{TemplatesParts};
 
     ghost Value = { TemplatesParts };
 
-    ghost view = { λ t. record { templates = t.templates; numbers = t.numbers; start = t.start } };
+    ghost view = { λ t. record { templates = map arc_value t.listed; numbers = t.numbers; start = t.start } };
 
-    ghost invariant = { λ t. IsLargestNeed t.templates t.largest };
+    ghost invariant = { AreTemplates };
 }
 
 impl Templates {
@@ -38,8 +45,12 @@ impl Templates {
         requires { IsSome (template_at self.now c.0 d.0) }
         ensures { template_at self.now c.0 d.0 ≡ Some result.now }
     {
-        let number = self.numbers.rule(c, d);
-        &self.templates.as_slice()[number.0 as usize]
+        let place = c.0 as usize * self.size as usize + d.0 as usize;
+        let Some(template) = &self.found.as_slice()[place] else {
+            // The two have a template.
+            unreachable!()
+        };
+        &**template
     }
 
     /// The program's initial net.

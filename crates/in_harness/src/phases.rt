@@ -4,7 +4,7 @@ ghost use Rattle.std.specs.Prelude.{◌≤◌};
 use crate::rounds::turns;
 use crate::showing::add_printed;
 use in_harness_texts::{Sheet, number, small};
-use in_machine::{Room, Sharing, Worked, phase};
+use in_machine::{MOST_CELLS, Room, Sharing, Worked, phase};
 use in_rounds::Machine;
 use std::alloc::Global;
 use std::thread::Threads;
@@ -49,6 +49,7 @@ fn one_phase<R: Threads>(
     let parts = parts.max(1);
     let sharing = Sharing {
         parts,
+        agents: MOST_CELLS,
         share: share(machine, parts),
         floor: 0,
         most,

@@ -20,8 +20,8 @@ enum Order {
 
 /// A number below the bound that a seed picks in this turn. No product or sum reaches 64 bits.
 fn picked(seed: u32, turn: u32, bound: usize) -> usize {
-    let turned = (turn as u64).wrapping_mul(69_621);
-    let mixed = (seed as u64).wrapping_mul(48_271).wrapping_add(turned) % 2_147_483_647;
+    let turned = turn as u64 * 69_621;
+    let mixed = (seed as u64 * 48_271 + turned) % 2_147_483_647;
     mixed as usize % bound.max(1)
 }
 

@@ -70,6 +70,7 @@ pub fn sample(
     ensures room { KeepsRoom room.old room.new }
     ensures reduces { ReducesTo machine.old result.interactions machine.new }
     ensures agents { result.agents ≤ count_by is_some machine.old.agents }
+    ensures few { result.agents ≤ sharing.agents }
 {
     let sampled = reduce_a_part(
         alloc,

@@ -52,8 +52,8 @@ unsafe impl<T: Send> Send for Cells<T> {}
 
 unsafe impl<T: Sync> Sync for Cells<T> {}
 
-/// The right and the duty to give the block of a row of `len` cells back to `alloc`: it is no `Drop` type, so its owner can't let it go,
-/// and only `deallocate` takes it. It takes no space.
+/// The right to give the block of a row of `len` cells back to `alloc`: only `deallocate` takes it. A block whose right is let go stays
+/// allocated. It takes no space.
 pub struct Deed<T, A: Allocator> {
     mark: PhantomData<*const (T, A)>,
     pub ghost at: { Ptr },

@@ -97,14 +97,14 @@ impl Branch {
         Ok(())
     }
 
-    /// Takes in the agents behind each of its agents, those behind these, and so on.
-    fn take_trees(&mut self, reducer: &Reducer) -> Result<(), AllocError>
+    /// Takes in the agents behind each of its agents, those behind these, and so on, while it has at most `most` agents.
+    fn take_trees(&mut self, reducer: &Reducer, most: u32) -> Result<(), AllocError>
         requires branch { IsBranch reducer.now self.old }
         ensures branch { OnOk result (IsBranch reducer.now self.new) }
         ensures many { length self.new.marks.items ≡ length self.old.marks.items }
     {
         for number in 0..reducer.numbers() as usize {
-            if number >= self.agents.len() {
+            if number >= self.agents.len() || self.agents.len() > most as usize {
                 return Ok(());
             }
             let cell = self.agents[number];
@@ -114,8 +114,14 @@ impl Branch {
     }
 
     /// Forgets its agents, and gathers the trees behind the first `pairs` pairs: both agents of each, each agent whose principal port is joined
-    /// to an auxiliary port of one of them, and so on. Few wires lead out of them. Refused only when out of memory.
-    pub(crate) fn gather(&mut self, reducer: &Reducer, pairs: u32) -> Result<(), AllocError>
+    /// to an auxiliary port of one of them, and so on, while there are at most `most` agents. Few wires lead out of whole trees. Refused only when
+    /// out of memory.
+    pub(crate) fn gather(
+        &mut self,
+        reducer: &Reducer,
+        pairs: u32,
+        most: u32,
+    ) -> Result<(), AllocError>
         requires reached { AreNumbersBelow reducer.now (length self.old.marks.items) }
         requires pairs { pairs ≤ length reducer.now.queue }
         ensures branch { OnOk result (IsBranch reducer.now self.new) }
@@ -123,6 +129,6 @@ impl Branch {
     {
         self.clear();
         self.take_pairs(reducer, pairs)?;
-        self.take_trees(reducer)
+        self.take_trees(reducer, most)
     }
 }

@@ -14,11 +14,12 @@ use in_reducer::Reducer;
 use std::alloc::Global;
 use std::thread::{Threads, join_mut};
 
-/// The sharing of a net: into at most `parts` parts, the rest among them; each part gets `share` free cells of each class besides those of
-/// its agents; `floor` cells of each class stay free in the rest; and at most `most` interactions are done together.
+/// The sharing of a net: into at most `parts` parts, the rest among them; each other part has at most `agents` agents, and gets `share` free cells of
+/// each class besides theirs; `floor` cells of each class stay free in the rest; and at most `most` interactions are done together.
 #[derive(Clone, Copy, Debug, PartialEq, Eq)]
 pub struct Sharing {
     pub parts: u32,
+    pub agents: u32,
     pub share: u32,
     pub floor: u32,
     pub most: u64,
@@ -124,6 +125,7 @@ pub fn reduce_in_parts<R: Threads>(
         reducer,
         templates,
         pairs,
+        sharing.agents,
         sharing.share,
         sharing.floor,
         room,
@@ -133,6 +135,7 @@ pub fn reduce_in_parts<R: Threads>(
     let own_most = sharing.most / u64::from(sharing.parts);
     let rest = Sharing {
         parts: sharing.parts - 1,
+        agents: sharing.agents,
         share: sharing.share,
         floor: sharing.floor + taken.cells,
         most: sharing.most - own_most,

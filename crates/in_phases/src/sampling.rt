@@ -21,8 +21,8 @@ pub struct Sampled {
 }
 
 /// Splits off the trees behind the first `pairs` pairs as a part, reduces it on this thread, and glues it on again. So it costs little to see how many
-/// interactions a part does for each agent that is moved. It is never refused: if memory or cells run out, there is no interaction. The cells that have
-/// to stay free are free before.
+/// interactions a part does for each agent that is moved. It is never refused: if the trees have more than `sharing.agents` agents, or memory or cells
+/// run out, there is no interaction. The cells that have to stay free are free before.
 pub fn reduce_a_part(
     alloc: Global,
     reducer: &mut Reducer,
@@ -40,12 +40,14 @@ pub fn reduce_a_part(
     ensures floor { HasFree reducer.new sharing.floor }
     ensures room { KeepsRoom room.old room.new }
     ensures agents { result.agents ≤ count_by is_some reducer.old.agents }
+    ensures few { result.agents ≤ sharing.agents }
 {
     let Some(mut taken) = take_part(
         alloc,
         reducer,
         templates,
         pairs,
+        sharing.agents,
         sharing.share,
         sharing.floor,
         room,

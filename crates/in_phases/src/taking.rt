@@ -94,29 +94,36 @@ pub(crate) fn bring_back(reducer: &mut Reducer, taken: Taken, names: &mut [CellI
     join_up(reducer, cuts);
 }
 
-/// Gathers the trees behind the first `pairs` pairs, with room for the numbers that they get in a part with `share` free cells of each class besides
-/// those of its agents. Refused only when out of memory.
-fn gather(reducer: &Reducer, pairs: u32, share: u32, room: &mut Room) -> Result<(), AllocError>
+/// Gathers the trees behind the first `pairs` pairs, while there are at most `most` agents. Refused only when out of memory.
+fn gather(reducer: &Reducer, pairs: u32, most: u32, room: &mut Room) -> Result<(), AllocError>
     requires pairs { pairs ≤ length reducer.now.queue }
     ensures branch { OnOk result (IsBranch reducer.now room.new.branch) }
     ensures grown { KeepsRoom room.old room.new }
 {
-    let bound = reducer.bound();
-    room.reach(bound)?;
-    room.branch.gather(reducer, pairs)?;
+    room.reach(reducer.bound())?;
+    room.branch.gather(reducer, pairs, most)
+}
+
+/// Makes room for the numbers that the gathered agents get in a part with `share` free cells of each class besides theirs. Refused only when out of
+/// memory.
+fn reach_names(reducer: &Reducer, share: u32, room: &mut Room) -> Result<(), AllocError>
+    ensures branch { room.new.branch ≡ room.old.branch }
+    ensures grown { KeepsRoom room.old room.new }
+{
     let cells = room.branch.agents.len() + share as usize;
     let part = CellClass::ALL.len() * cells.min(MOST_CELLS as usize);
-    room.reach_names(part.max(bound as usize))
+    room.reach_names(part.max(reducer.bound() as usize))
 }
 
 /// Takes the trees behind the first `pairs` pairs out of a net, as a part with `share` free cells of each class besides those of its agents. `floor`
-/// cells of each class stay free in the rest, besides as many as the part has. `None` if memory or cells run out for that: then the net is as
-/// before, up to the numbers of its agents.
+/// cells of each class stay free in the rest, besides as many as the part has. `None` if they have more than `most` agents, or memory or cells run
+/// out for that: then the net is as before, up to the numbers of its agents.
 pub(crate) fn take_part<'a>(
     alloc: Global,
     reducer: &mut Reducer<'a>,
     templates: &Templates,
     pairs: u32,
+    most: u32,
     share: u32,
     floor: u32,
     room: &mut Room,
@@ -131,9 +138,16 @@ pub(crate) fn take_part<'a>(
     ensures room { KeepsRoom room.old room.new }
     ensures fits { IfSome result (λ t. length classes * t.cells ≤ length room.new.names.items) }
     ensures branch { IfSome result (λ _. IsBranch reducer.old room.new.branch) }
+    ensures few { IfSome result (λ _. length room.new.branch.agents.items ≤ most) }
 {
     use_promise!(reducer.pairs());
-    let Ok(()) = gather(reducer, pairs, share, room) else {
+    let Ok(()) = gather(reducer, pairs, most, room) else {
+        return None;
+    };
+    if room.branch.agents.len() > most as usize {
+        return None;
+    }
+    let Ok(()) = reach_names(reducer, share, room) else {
         return None;
     };
     let cuts = cut_off(reducer, &room.branch);

@@ -12,7 +12,7 @@ use Rattle.in_program.specs.declared.reading.Input.TheVariants as input
 abbrev pub most_reads : ℕ
 most_reads = text_limit + 1
 
--- there was at least one read, at most one more than bytes, and no more than suffice for a text
+-- there was at least one read (which a full count does not show), at most one more than bytes, and no more than suffice for a text
 pub record AreFewReads (old new : Reader) (bytes : List ℕ) : Type 0 where
   pub some : one_more old.reads ≤ new.reads
   pub each : new.reads ≤ old.reads + length bytes + 1

@@ -18,6 +18,8 @@ use Rattle.in_typing.specs.TypedNets.{type_in}
 use Rattle.in_interaction.specs.Queues.{IsQueueOf, agents_at, both}
 use Rattle.in_interaction.proofs.Public.{net_wire, symbol_is, symbol_number}
 use Rattle.in_gluing.specs.Joining.{CutsWire, JoinsEnds}
+use Rattle.in_arena.specs.Arenas.{ArenaView, state_at}
+use Rattle.in_arena.specs.States.{IsLeased}
 use Rattle.in_check.specs.Programs.{Program}
 use Rattle.in_check.specs.Runs.{IsRenamed}
 use Rattle.in_check.specs.Systems.{System, system_of}
@@ -26,6 +28,7 @@ use Rattle.in_cells.proofs.Public.{past_first}
 use Rattle.in_compile.specs.Cells.{agents_of, count_of, IsEnough}
 use Rattle.in_compile.proofs.Public.{same_need}
 use Rattle.in_reducer.specs.Cutting.{JoinsLast, net_in}
+use Rattle.in_reducer.specs.Lent.{AreSettled, SettledLeasesAreOne}
 use Rattle.in_reducer.specs.Machines.{MachineParts, parts_of}
 use Rattle.in_reducer.specs.PartingLaws.{AreSameTwo}
 use Rattle.in_reducer.specs.Reducers.{IsReducer}
@@ -54,6 +57,17 @@ heads_are_one m i g h a b =
     let one : g.0 ≡ h.0 = same_Some g.0 h.0 (sym a.one ∙ ap (λ (q : ℕ × ℕ). symbol_in (parts_of m) q.0) pair ∙ b.one) in
     let two : g.1 ≡ h.1 = same_Some g.1 h.1 (sym a.two ∙ ap (λ (q : ℕ × ℕ). symbol_in (parts_of m) q.1) pair ∙ b.two) in
     λ j. (one j, two j)
+
+-- ---- cells on lease
+
+stays_leased : (bag a b c : ArenaView) → AreSettled bag a b → AreSettled bag a c → (n : ℕ) → n < length a.states → IsLeased (state_at b n) → IsLeased (state_at c n)
+stays_leased bag a b c s t n small leased =
+    let was = s.none n small leased in
+    t.stay n was.0 was.1
+
+pub settled_leases_are_one : SettledLeasesAreOne
+settled_leases_are_one bag a b c s t =
+    (s.memory ∙ sym t.memory, s.cells ∙ sym t.cells, λ n small. (stays_leased bag a b c s t n small, stays_leased bag a c b t s n small))
 
 -- ---- first pairs
 

@@ -1,6 +1,7 @@
 //! Laws on reducers, for proofs above them. No function here does anything.
 
 ghost use Rattle.in_reducer.specs.Cutting.{JointsUndoCuts};
+ghost use Rattle.in_reducer.specs.Lent.{SettledLeasesAreOne};
 ghost use Rattle.in_reducer.specs.Laws.{ReducersAsPromised, StepsKeepReducers, StartsAreReducers};
 ghost use Rattle.in_reducer.specs.PartingLaws.{CutsAreUndone, GluingsAreAlike, PartsReduceTheWhole, ReductionsGoOn, SplitsAreAlike, StaysReduce, StepsReduce};
 ghost use Rattle.in_reducer.specs.ResultLaws.{CutsAreOne, FirstStepsAreOne, HeadsAreOne, JointsAreOne, NeedsAreOne};
@@ -87,4 +88,9 @@ pub fn joints_are_one()
 /// `take_first` has one result: one number of interactions, and one reducer up to the numbers of its agents.
 pub fn first_steps_are_one()
     ensures { FirstStepsAreOne }
+{}
+
+/// After a stitch, the arena before and the bag determine which cells stay on lease. Which of the others are free is open.
+pub fn settled_leases_are_one()
+    ensures { SettledLeasesAreOne }
 {}

@@ -71,7 +71,7 @@ fn lay(alloc: Global, start: &Member, fresh: &mut Fresh) -> Result<Vec<EndWord>,
 impl<'a> Reducer<'a> {
     /// A reducer of the program's net with that many cells of each class. The net must fit: no class has more agents than cells.
     /// Its pairs are queued in the order of the places of their wires, which is this project's own choice, as are the sizes of cells. The
-    /// templates are those of the program. Refused only when out of memory; no other call takes memory.
+    /// templates are those of the program. Refused only when out of memory.
     pub fn new(
         alloc: Global,
         checked: &'a Checked,

@@ -96,7 +96,7 @@ fn spend_all(mut slots: Vec<JobState>, arena: &mut Arena)
 
 impl<'t> Gather<'t> {
     /// A gather without results. The list has for each job, by its number, the symbols of its pair, the constructor first. Refused only when out
-    /// of memory; no other call takes memory.
+    /// of memory.
     pub fn new(alloc: Global, jobs: &[(SymbolNo, SymbolNo)]) -> Result<Gather<'t>, AllocError>
         ensures { IfOk result (λ g. g ≡ new_gather jobs.now) }
     {

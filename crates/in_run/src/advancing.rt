@@ -48,7 +48,7 @@ fn by_parts<R: Threads>(
     if pace.waits(interactions) {
         return take_alone(machine, limits, TURN.min(left));
     }
-    let Some(sharing) = sharing(machine, limits, interactions, left) else {
+    let Some(sharing) = sharing(machine, limits, interactions, left, pace.for_each) else {
         return machine.take_first(TURN.min(left));
     };
     if !pace.is_worth {
@@ -60,7 +60,11 @@ fn by_parts<R: Threads>(
             sampling(sharing, left),
             &mut pace.room,
         );
-        pace.note_sample(sampled, interactions.saturating_add(sampled.interactions));
+        pace.note_sample(
+            sampled,
+            sharing.parts,
+            interactions.saturating_add(sampled.interactions),
+        );
         return sampled.interactions;
     }
     let agents = machine.agents();

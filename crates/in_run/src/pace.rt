@@ -40,8 +40,11 @@ const LEAST_LEFT: u64 = 27_200;
 /// No phase is tried if the free cells above the floor are fewer than this part of the floor.
 const LEAST_SPARE: u32 = 16;
 
-/// The most interactions of a part, for each agent of the net, and a number besides: a part that would run on alone is stopped then.
-const MOST_FOR_EACH_AGENT: u64 = 16;
+/// The most interactions of a part, for each agent of the net, and a number besides: a part that would run on alone is stopped then. In a phase
+/// after one whose parts did alike they may do more.
+const FIRST_FOR_EACH_AGENT: u32 = 32;
+
+const MOST_FOR_EACH_AGENT: u32 = 64;
 
 const MOST_BESIDES: u64 = 32_768;
 
@@ -53,8 +56,13 @@ const SAMPLE_MOST: u64 = 8_192;
 
 const SAMPLE_SHARE: u32 = 4_096;
 
-/// The interactions of a sample for each agent that is moved, so that a phase is tried.
-const WORTH: u64 = 16;
+/// The interactions of a sample for each agent that is moved, so that a phase of two parts is tried, and the most other parts that divide this number.
+const WORTH: u64 = 24;
+
+const MOST_OTHERS: u64 = 3;
+
+/// The most agents of a sample: more can't be worth it, so none is moved then.
+const SAMPLE_AGENTS: u32 = (SAMPLE_MOST * MOST_OTHERS / WORTH) as u32;
 
 /// The cost of a sample besides that of its agents, in interactions.
 const COST_OF_A_SAMPLE: u64 = 2_000;
@@ -63,7 +71,7 @@ const COST_OF_A_SAMPLE: u64 = 2_000;
 const SMALL_NET: u32 = 65_536;
 
 /// The cost of a phase for each agent of the net, some of which are copied there and back, in interactions.
-const COST_OF_AN_AGENT: u64 = 8;
+const COST_OF_AN_AGENT: u64 = 3;
 
 /// .. and besides for each thread.
 const COST_OF_A_THREAD: u64 = 8_000;
@@ -72,11 +80,13 @@ const COST_OF_A_THREAD: u64 = 8_000;
 const FIRST_WAIT: u64 = 16;
 
 /// The state of a run of several workers between two tests: the number of interactions from which on a phase is considered, the wait after the next
-/// phase that doesn't pay, in multiples of its cost, and the room for phases; and the number of phases, and the most threads of one.
+/// phase that doesn't pay, in multiples of its cost, how many interactions for each agent a part may do, and the room for phases; and the number of
+/// phases, and the most threads of one.
 #[derive(Drop)]
 pub(crate) struct Pace {
     phase_from: u64,
     wait: u64,
+    pub(crate) for_each: u32,
     pub(crate) is_worth: bool,
     pub(crate) phases: u64,
     pub(crate) threads: u32,
@@ -89,6 +99,7 @@ impl Pace {
         Pace {
             phase_from: PHASES_FROM,
             wait: FIRST_WAIT,
+            for_each: FIRST_FOR_EACH_AGENT,
             is_worth: false,
             phases: 0,
             threads: 1,
@@ -117,6 +128,11 @@ impl Pace {
         self.phases = self.phases.saturating_add(1);
         self.threads = self.threads.max(worked.parts);
         let gain = worked.interactions.saturating_sub(worked.longest);
+        self.for_each = if are_alike(worked, gain) {
+            MOST_FOR_EACH_AGENT
+        } else {
+            FIRST_FOR_EACH_AGENT
+        };
         let cost = COST_OF_AN_AGENT * u64::from(agents)
             + COST_OF_A_THREAD * u64::from(worked.parts);
         if gain >= 2 * cost && gain >= worked.interactions / 4 {
@@ -127,9 +143,12 @@ impl Pace {
         }
     }
 
-    /// Notes a sample, after which `interactions` interactions are done. It was worth it if it did many interactions for each agent that was moved.
-    pub(crate) fn note_sample(&mut self, sampled: Sampled, interactions: u64) {
-        self.is_worth = sampled.agents > 0 && sampled.interactions / WORTH >= sampled.agents;
+    /// Notes a sample for a phase of that many parts, after which `interactions` interactions are done. It was worth it if it did many interactions for
+    /// each agent that was moved: fewer where more parts will be reduced at once.
+    pub(crate) fn note_sample(&mut self, sampled: Sampled, parts: u32, interactions: u64) {
+        let others = u64::from(parts).saturating_sub(1).min(MOST_OTHERS);
+        let worth = sampled.interactions.saturating_mul(others) / WORTH;
+        self.is_worth = sampled.agents > 0 && worth >= sampled.agents;
         if !self.is_worth {
             let cost = sampled.agents.saturating_mul(COST_OF_AN_AGENT);
             self.put_off(cost.saturating_add(COST_OF_A_SAMPLE), interactions);
@@ -142,6 +161,12 @@ impl Pace {
         self.phase_from = interactions.saturating_add(self.wait.saturating_mul(cost));
         self.wait = self.wait.saturating_mul(2);
     }
+}
+
+/// Whether the other parts of a phase did three quarters of what they would have if all had done as much as the longest one.
+fn are_alike(worked: Worked, gain: u64) -> bool {
+    let others = u64::from(worked.parts).saturating_sub(1).max(1);
+    gain / others >= worked.longest / 4 * 3
 }
 
 /// Whether the newest pairs are taken while no phase is tried: a large net stays small that way, and its newest agents are in the cache.
@@ -158,6 +183,7 @@ pub(crate) fn sampling(sharing: Sharing, left: u64) -> Sharing
 {
     Sharing {
         parts: 1,
+        agents: SAMPLE_AGENTS,
         share: sharing.share.min(SAMPLE_SHARE),
         floor: sharing.floor,
         most: left.min(SAMPLE_MOST),
@@ -176,6 +202,13 @@ fn is_put_off(machine: &Machine, interactions: u64) -> bool {
     machine.pairs() < MOST_PAIRS_PUT_OFF && u64::from(machine.reducer.bound()) > done
 }
 
+/// How many of the spare cells of a class the parts get besides those of their agents: those that the agents don't need to come back, or all of them
+/// if fewer than `least` are left so. Then there are fewer parts.
+fn shared(spare: u32, agents: u32, least: u32) -> u32 {
+    let besides = spare.saturating_sub(agents);
+    if besides < least { spare } else { besides }
+}
+
 /// The sharing of a machine's net among the workers, after `interactions` interactions, with `left` left; `None` if a phase can't pay. Half of the
 /// cells are kept back, so the order in which pairs are taken is no reason to stop.
 pub(crate) fn sharing(
@@ -183,6 +216,7 @@ pub(crate) fn sharing(
     limits: Limits,
     interactions: u64,
     left: u64,
+    for_each: u32,
 ) -> Option<Sharing>
     ensures parts { IfSome result (λ s. 1 ≤ s.parts) }
     ensures share { IfSome result (λ s. s.share ≤ most_cells) }
@@ -199,14 +233,17 @@ pub(crate) fn sharing(
         return None;
     }
     let spare = free - floor;
-    if spare < floor / LEAST_SPARE {
+    let least = floor / LEAST_SPARE;
+    if spare < least {
         return None;
     }
-    let most = MOST_FOR_EACH_AGENT * u64::from(machine.agents()) + MOST_BESIDES;
+    let agents = machine.agents();
+    let most = u64::from(for_each) * u64::from(agents) + MOST_BESIDES;
     Some(Sharing {
         parts,
-        share: MOST_CELLS.min(spare / parts),
+        agents: MOST_CELLS,
+        share: MOST_CELLS.min(shared(spare, agents, least) / parts),
         floor,
-        most: left.min(most * u64::from(parts)),
+        most: left.min(most.saturating_mul(u64::from(parts))),
     })
 }

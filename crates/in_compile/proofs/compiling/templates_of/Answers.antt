@@ -1,9 +1,12 @@
-use Rattle.std.proofs.Common.{◌≤◌, length, sym, subst}
+use Rattle.std.proofs.Common.{◌≡◌, ◌≤◌, [], ◌∷◌, ◌++◌, length, sym, ap, ◌∙◌, subst}
+use Rattle.std.specs.Arc.{arc_value}
+use Rattle.std.proofs.lemmas.List.{map-append}
 use Rattle.in_syntax.specs.Grammar.{max_symbols}
 use Rattle.in_symbols.specs.Tables.{Tables}
 use Rattle.in_net.specs.Rules.{IsRuleOver}
 use Rattle.in_open_nets_of_programs.specs.OpeningRules.{IsRuleWhole}
-use Rattle.in_compile.specs.Templates.{IsTemplateOf}
+use Rattle.in_compile.specs.Finding.{listed}
+use Rattle.in_compile.specs.Templates.{IsTemplateOf, TemplateParts}
 use Rattle.in_compile.proofs.Compiled.Accepted.{few_symbols, rule_over, whole_rule}
 use Rattle.in_compile.proofs.Compiled.Made.{one_more}
 use Rattle.in_compile.proofs.compiling.templates_of.Goals as goal
@@ -25,5 +28,10 @@ pub loop-number-preserved : goal.loop-number-preserved
 loop-number-preserved c =
     let p = c.args.checked.now in
     let r = c.rule-rule.result.now in
-    one_more p.tables p.rules c.loop-number.number r c.in_ok-template.field-0 c.loop-number.templates c.push.new.self c.rule-rule.ensures
-    (subst (λ (t : Tables). IsTemplateOf t r c.in_ok-template.field-0) c.symbols.ensures c.in_ok-template.ensures) c.loop-number.invariant c.in_ok-push.ensures.ok
+    let made = c.in_ok-made.made in
+    let old = c.loop-number.templates in
+    let a = c.in_ok-new.field-0 in
+    let more : listed c.push.new.self ≡ listed old ++ made ∷ [] =
+    ap listed c.in_ok-push.ensures.ok ∙ map-append arc_value old (a ∷ []) ∙ ap (λ (z : TemplateParts). listed old ++ z ∷ []) c.in_ok-new.ensures.ok in
+    one_more p.tables p.rules c.loop-number.number r made (listed old) (listed c.push.new.self) c.rule-rule.ensures
+    (subst (λ (t : Tables). IsTemplateOf t r made) c.symbols.ensures c.in_ok-made.ensures) c.loop-number.invariant more

@@ -12,13 +12,15 @@ use Rattle.in_reducer.proofs.Public.{stays_reduce}
 use Rattle.std.specs.Vec.{with_items}
 use Rattle.in_phases.proofs.Coming.{comes_at_once, lent_back}
 use Rattle.in_phases.proofs.CutTimes.{ends_more, gathered_on, times_stay}
+use Rattle.in_phases.specs.declared.branch.Branch.{Branch}
+use Rattle.in_phases.specs.Branches.{IsBranch}
 use Rattle.in_phases.proofs.taking.take_part.Goals as goal
 
 pub split-requires-clause-branch : goal.split-requires-clause-branch
 split-requires-clause-branch c =
-    let b = c.gather.new.room.branch in
+    let b = c.reach_names.new.room.branch in
     gathered_on c.args.reducer.now c.cut_off-cuts.new.reducer (times_stay c.args.reducer.now c.cut_off-cuts.new.reducer c.cut_off-cuts.result c.cut_off-cuts.ensures.cuts) b.agents.items b.marks.items
-    c.in-Ok.ensures.branch
+    (subst (λ (z : Branch). IsBranch c.args.reducer.now z) (sym c.reach_names.ensures.branch) c.in-Ok.ensures.branch)
 
 pub split-requires-clause-cuts : goal.split-requires-clause-cuts
 split-requires-clause-cuts c =
@@ -26,7 +28,13 @@ split-requires-clause-cuts c =
     omega (arith, more)
 
 pub returns-in_default : goal.returns-in_default
-returns-in_default c = record { taken = (stays_reduce c.args.reducer.now, c.requires.floor); templates = c.requires.templates; part_templates = tt; room = c.gather.ensures.grown; fits = tt; branch = tt }
+returns-in_default c = record { taken = (stays_reduce c.args.reducer.now, c.requires.floor); templates = c.requires.templates; part_templates = tt; room = c.gather.ensures.grown; fits = tt; branch = tt; few = tt }
+
+pub returns-then-len-most-clause-taken : goal.returns-then-len-most-clause-taken
+returns-then-len-most-clause-taken c = (stays_reduce c.args.reducer.now, c.requires.floor)
+
+pub returns-in_default-reach_names-clause-taken : goal.returns-in_default-reach_names-clause-taken
+returns-in_default-reach_names-clause-taken c = (stays_reduce c.args.reducer.now, c.requires.floor)
 
 pub join_up-requires : goal.join_up-requires
 join_up-requires c =
@@ -47,11 +55,12 @@ returns-in_default-split c =
       templates = subst (λ (p : Program). AreTemplatesOf p c.args.templates.now) (sym reduced.program) c.requires.templates;
       part_templates = tt;
       room = (
-        c.gather.ensures.grown.0,
-        (let grown = c.gather.ensures.grown.1 in let lent = lent_back c.gather.new.room.names c.split.new.names (c.in_default-split.ensures.names ∙ ap length c.as_mut_slice-names.ensures.value) in omega (arith, grown, lent)),
+        (let gathered = c.gather.ensures.grown.0 in let reached = c.reach_names.ensures.grown.0 in omega (arith, gathered, reached)),
+        (let gathered = c.gather.ensures.grown.1 in let grown = c.reach_names.ensures.grown.1 in let lent = lent_back c.reach_names.new.room.names c.split.new.names (c.in_default-split.ensures.names ∙ ap length c.as_mut_slice-names.ensures.value) in omega (arith, gathered, grown, lent)),
       );
       fits = tt;
       branch = tt;
+      few = tt;
     }
 
 pub overflow_add-floor : goal.overflow_add-floor
@@ -72,7 +81,7 @@ bring_back-requires c =
     let m = c.args.reducer.now in
     let cut = c.cut_off-cuts.new.reducer in
     let t = c.in-Some.taken in
-    let once = lent_back c.gather.new.room.names c.split.new.names (c.in-Some.ensures.names ∙ ap length c.as_mut_slice-names.ensures.value) in
+    let once = lent_back c.reach_names.new.room.names c.split.new.names (c.in-Some.ensures.names ∙ ap length c.as_mut_slice-names.ensures.value) in
     let same = ap length c.as_mut_slice.ensures.value in
     let long = c.in-Some.ensures.names ∙ ap length c.as_mut_slice-names.ensures.value in
     let fits = c.in-Some.ensures.fits in
@@ -101,16 +110,18 @@ returns c =
       templates = subst (λ (p : Program). AreTemplatesOf p c.args.templates.now) (sym reduced.program) c.requires.templates;
       part_templates = tt;
       room = (
-        c.gather.ensures.grown.0,
+        (let gathered = c.gather.ensures.grown.0 in let reached = c.reach_names.ensures.grown.0 in omega (arith, gathered, reached)),
         (
-            let grown = c.gather.ensures.grown.1 in
-            let lent = lent_back c.gather.new.room.names c.split.new.names (c.in-Some.ensures.names ∙ ap length c.as_mut_slice-names.ensures.value) in
-            let back = lent_back (with_items c.gather.new.room.names c.split.new.names) c.bring_back.new.names (c.bring_back.ensures.names ∙ ap length c.as_mut_slice.ensures.value) in
-            omega (arith, grown, lent, back)
+            let gathered = c.gather.ensures.grown.1 in
+            let grown = c.reach_names.ensures.grown.1 in
+            let lent = lent_back c.reach_names.new.room.names c.split.new.names (c.in-Some.ensures.names ∙ ap length c.as_mut_slice-names.ensures.value) in
+            let back = lent_back (with_items c.reach_names.new.room.names c.split.new.names) c.bring_back.new.names (c.bring_back.ensures.names ∙ ap length c.as_mut_slice.ensures.value) in
+            omega (arith, gathered, grown, lent, back)
             ),
       );
       fits = tt;
       branch = tt;
+      few = tt;
     }
 
 -- a part and the rest are of the program

@@ -1,0 +1,10 @@
+-- The invariant of the fields of a program's templates: the largest need is kept, and each template is found by its symbols.
+use Rattle.std.specs.Prelude.{length}
+use Rattle.in_compile.specs.Finding.{AreFoundBySymbols, AreNumberedBySymbols, listed}
+use Rattle.in_compile.specs.Templates.{IsLargestNeed}
+use Rattle.in_compile.specs.declared.templates.Templates.TheInside.{Inside}
+
+pub record AreTemplates (t : Inside) : Type 0 where
+  pub largest : IsLargestNeed (listed t.listed) t.largest
+  pub numbered : AreNumberedBySymbols (listed t.listed) t.numbers t.size
+  pub found : AreFoundBySymbols (listed t.listed) t.size (length t.listed) t.found
