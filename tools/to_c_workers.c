@@ -25,7 +25,7 @@ enum { LASTS = 15000, PAIR_LASTS = 500, AGENT_LASTS = 12, LASTS_LONG = 20000 };
 // others.
 enum { SPIN = 500, SPARE_WORDS = 1 << 20 };
 // By the clock, in nanoseconds: once all have begun and so long have been at work, what all did in such a time is compared with what one did alone.
-enum { RAMP = 8000000, LOOKED_BACK = 8000000 };
+enum { RAMP = 3000000, LOOKED_BACK = 4000000 };
 #endif
 // What it costs to wait, in interactions, of the first worker, who would have something to do if it were alone, before it ever paid and later, of
 // another, and of all at once, while a letter goes from one to another. All together have to do so many times as much as letters and waiting cost.

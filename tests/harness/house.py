@@ -1,4 +1,5 @@
-"""What no proof says of the house: which lemmas a crate may cite of another, that a name of a type has one home, and which words are gone."""
+"""What no proof says of the house: which lemmas a crate may cite of another, that a name of a type has one home, that mutants can be tried, and which
+words are gone."""
 import glob
 import os
 import re
@@ -9,6 +10,7 @@ HERE = os.path.dirname(os.path.abspath(__file__))
 TOP = os.path.join(HERE, "..", "..")
 CRATES = os.path.join(TOP, "crates")
 sys.path.insert(0, os.path.join(TOP, "tools"))
+import edits
 import layers
 import libraries
 # The lemmas on lists and graphs are for everybody: this crate has them by subject, in no module Public.
@@ -82,6 +84,19 @@ def wrong_layers():
     return ", ".join(os.path.relpath(path, TOP) for path, text in layers.made().items() if layers.read(path) != text)
 
 
+def wrong_mutants():
+    """Mutants that can't be tried: each old text has to stand once in its file."""
+    wrong = []
+    for path in sorted(glob.glob(os.path.join(CRATES, "*", "*", "*.edit"))):
+        crate = os.path.dirname(os.path.dirname(path))
+        for name, old, new in edits.changes(path):
+            with open(os.path.join(crate, name), encoding="utf-8") as file:
+                times = file.read().count(old)
+            if times != 1 or old == new:
+                wrong.append(f"{os.path.relpath(path, TOP)}: its old text stands {times} times in {name}" if times != 1 else f"{os.path.relpath(path, TOP)} changes nothing")
+    return "; ".join(wrong)
+
+
 def prose():
     """What people read: each file of the crates, the documents, the tests and the measurements, as one line without the marks of comments."""
     patterns = ["README.md", "crates.txt", "docs/**/*.md", "tests/**/*", "bench/**/*", "tools/*", "include/*"]
@@ -111,4 +126,5 @@ def house(_program):
     yield "one name, one crate", wrong_exports
     yield "crates.txt lists what each crate names", wrong_libraries
     yield "the layers of the crates are as crates.txt has them", wrong_layers
+    yield "each mutant can be tried", wrong_mutants
     yield "words of the field", retired_words
