@@ -24,7 +24,7 @@ enum { LASTS = 15000, PAIR_LASTS = 500, AGENT_LASTS = 12, LASTS_LONG = 20000 };
 // How often a worker that has nothing to do looks for letters before it waits. And how many words of memory it has before it takes free cells of
 // others.
 enum { SPIN = 500, SPARE_WORDS = 1 << 20 };
-// By the clock, in nanoseconds: once all have begun and so long have been at work, what all did in such a time is compared with what one did alone.
+// By the clock, in nanoseconds: all work so long before it is seen whether they do more than one did alone, and then each time so long.
 enum { RAMP = 3000000, LOOKED_BACK = 4000000 };
 #endif
 // What it costs to wait, in interactions, of the first worker, who would have something to do if it were alone, before it ever paid and later, of

@@ -92,8 +92,10 @@ def wrong_mutants():
         for name, old, new in edits.changes(path):
             with open(os.path.join(crate, name), encoding="utf-8") as file:
                 times = file.read().count(old)
-            if times != 1 or old == new:
-                wrong.append(f"{os.path.relpath(path, TOP)}: its old text stands {times} times in {name}" if times != 1 else f"{os.path.relpath(path, TOP)} changes nothing")
+            if times != 1:
+                wrong.append(f"{os.path.relpath(path, TOP)}: its old text stands {times} times in {name}")
+            if old == new:
+                wrong.append(f"{os.path.relpath(path, TOP)} changes nothing")
     return "; ".join(wrong)
 
 

@@ -1,13 +1,10 @@
 -- An edge within a blob is on a cycle, and an edge between two blobs is a bridge.
 use Rattle.std.proofs.Common.{◌≡◌, ◌≢◌, ◌⊎◌, ◌↔◌, ◌≤◌, ℕ, suc, Bool, true, false, List, refl, sym, subst, ap, inl, inr, ◌∙◌, arith}
-use Rattle.std.proofs.lemmas.Bool.{cases_eq}
+use Rattle.std.proofs.lemmas.Bool.{cases_eq, true≢false}
 use Rattle.in_simple_bridges.specs.Walks.{EdgeWalk, done, along, HasTwoEnds, IsOnCycle, Other}
 use Rattle.in_simple_bridges.proofs.Public.{joins_same}
 use Rattle.in_growing_graphs.specs.Blobs.{AreBlobs, AreInOneBlob, GoesUp, there, over}
 use Rattle.in_growing_graphs.proofs.Walks.{back, of_cycle, on_cycle, walk_on}
-
-pub not_both : (b : Bool) → b ≡ true → b ≡ false → ⊥
-not_both b h k = cc
 
 pub one_up : (up : ℕ → ℕ) (x p q : ℕ) → up x ≡ suc p → up x ≡ suc q → p ≡ q
 one_up up x p q h k = omega (arith, h, k)
@@ -28,7 +25,7 @@ module _ (edges : List (ℕ × ℕ)) (up via depth : ℕ → ℕ) (covered : ℕ
   module _ (x p : ℕ) (is_up : up x ≡ suc p) (bare : covered x ≡ false) where
     to_head : (v y : ℕ) → GoesUp up (λ z. covered z ≡ true) v y → IsUnder x v → IsUnder x y
     to_head v _ (there _) u = u
-    to_head v y (over _ q _ c f r) u = to_head q y r (under_up x v q (λ s. not_both (covered x) (subst (λ z. covered z ≡ true) s c) bare) f u)
+    to_head v y (over _ q _ c f r) u = to_head q y r (under_up x v q (λ s. true≢false (sym (subst (λ z. covered z ≡ true) s c) ∙ bare)) f u)
 
     from_head : (v y : ℕ) → GoesUp up (λ z. covered z ≡ true) v y → IsUnder x y → IsUnder x v
     from_head v _ (there _) u = u

@@ -1,13 +1,10 @@
 -- In the forest of the earliest edges the way between the ends of an edge has no later one: the end with the greater number goes up.
-use Rattle.std.proofs.Common.{◌≡◌, ◌<◌, ◌≤◌, ◌+◌, ℕ, zero, suc, List, refl, sym, subst, inl, inr, arith}
+use Rattle.std.proofs.Common.{◌≡◌, ◌<◌, ◌≤◌, ◌+◌, ℕ, zero, suc, pred, List, sym, subst, inl, inr, arith}
+use Rattle.std.proofs.Math.Nat.{suc-pred-eq_of_pos}
 use Rattle.std.proofs.lemmas.Bool.{cases_lt, cases_order}
 use Rattle.in_growing_graphs.specs.Blobs.{GoesUp, IsEarliest, over, there}
 use Rattle.in_growing_graphs.specs.Laws.{WaysAreEarlier}
 use Rattle.in_growing_graphs.proofs.Walks.{ends_turned}
-
-one_more : (n : ℕ) → 0 < n → (p : ℕ) × (n ≡ suc p)
-one_more zero l = absurd (omega (arith, l))
-one_more (suc p) l = (p, refl)
 
 module _ (edges : List (ℕ × ℕ)) (up via : ℕ → ℕ) (early : IsEarliest edges up via) (k : ℕ) where
   -- the edges above the vertices after u and up to v are no later than k
@@ -24,7 +21,7 @@ module _ (edges : List (ℕ × ℕ)) (up via : ℕ → ℕ) (early : IsEarliest 
     | inr o ↦ elim o [
       | inl l ↦
           let h = all v l (omega arith) in
-          let r = one_more (up v) h.0 in
+          let r : (p : ℕ) × (up v ≡ suc p) = (pred (up v), sym (suc-pred-eq_of_pos h.0)) in
           let d : r.0 < v = early.rooted.deeper v r.0 r.1 in
           elim (cases_lt r.0 u) [
             | inl below ↦

@@ -1,21 +1,21 @@
 -- How one more edge changes the blobs.
 use Rattle.std.proofs.Common.{◌≡◌, ◌≢◌, ◌⊎◌, ◌<◌, ℕ, zero, suc, Bool, true, false, nat_eq, List, [], length, refl, sym, subst, ap, inl, inr, ◌∙◌, arith}
-use Rattle.std.proofs.lemmas.Bool.{cases_Bool, cases_eq}
+use Rattle.std.proofs.lemmas.Bool.{cases_Bool, cases_eq, false≢true}
 use Rattle.std.proofs.lemmas.Bool.Decides.{eqb_tells}
 use Rattle.in_base.proofs.Places.{last_at}
 use Rattle.in_simple_bridges.specs.Walks.{EdgeWalk, done, along, HasTwoEnds, IsOnCycle, Other}
 use Rattle.in_simple_bridges.proofs.Public.{joins_same}
 use Rattle.in_growing_graphs.specs.Blobs.{AreBlobs, AreInOneBlob, CoversWay, GoesUp, HasHead, IsOnOneWay, IsRooted, LeadsFromHead, over, there, with_value}
 use Rattle.in_growing_graphs.specs.Laws.{NoEdgeHasBlobs, added}
-use Rattle.in_growing_graphs.proofs.Bridges.{not_both, one_up}
+use Rattle.in_growing_graphs.proofs.Bridges.{one_up}
 use Rattle.in_growing_graphs.proofs.Walks.{back, cycle_kept, ends_cases, ends_kept, new_edge, on_cycle, small, walk_on}
 
 pub no_edge : NoEdgeHasBlobs
 no_edge via depth = record {
   rooted = record { tree = λ x p e. absurd (omega (arith, e)); deeper = λ x p e. absurd (omega (arith, e)) };
-  above = λ x e. absurd (not_both false e refl);
+  above = λ x e. absurd (false≢true e);
   edge = λ k u v h. absurd (none k u v h);
-  cycle = λ x e. absurd (not_both false e refl);
+  cycle = λ x e. absurd (false≢true e);
 }
   where
     none : (k u v : ℕ) → HasTwoEnds [] k u v → ⊥

@@ -40,8 +40,8 @@ const LEAST_LEFT: u64 = 27_200;
 /// No phase is tried if the free cells above the floor are fewer than this part of the floor.
 const LEAST_SPARE: u32 = 16;
 
-/// The most interactions of a part, for each agent of the net, and a number besides: a part that would run on alone is stopped then. In a phase
-/// after one whose parts did alike they may do more.
+/// The most interactions of a part, for each agent of the net, and a number besides: a part that would run on alone is stopped then. Parts
+/// may do more after a phase whose parts did alike.
 const FIRST_FOR_EACH_AGENT: u32 = 32;
 
 const MOST_FOR_EACH_AGENT: u32 = 64;
@@ -56,12 +56,13 @@ const SAMPLE_MOST: u64 = 8_192;
 
 const SAMPLE_SHARE: u32 = 4_096;
 
-/// The interactions of a sample for each agent that is moved, so that a phase of two parts is tried, and the most other parts that divide this number.
+/// The interactions that a sample has to do for each agent that is moved, if there will be two parts. With more parts this number is divided by that
+/// of the other parts, up to `MOST_OTHERS`.
 const WORTH: u64 = 24;
 
 const MOST_OTHERS: u64 = 3;
 
-/// The most agents of a sample: more can't be worth it, so none is moved then.
+/// A sample of more agents can't be worth it, so it isn't moved.
 const SAMPLE_AGENTS: u32 = (SAMPLE_MOST * MOST_OTHERS / WORTH) as u32;
 
 /// The cost of a sample besides that of its agents, in interactions.
@@ -202,8 +203,8 @@ fn is_put_off(machine: &Machine, interactions: u64) -> bool {
     machine.pairs() < MOST_PAIRS_PUT_OFF && u64::from(machine.reducer.bound()) > done
 }
 
-/// How many of the spare cells of a class the parts get besides those of their agents: those that the agents don't need to come back, or all of them
-/// if fewer than `least` are left so. Then there are fewer parts.
+/// The free cells of each class for all parts: the spare ones, without as many as the agents that come back. If fewer than `least` are left so, all
+/// spare ones: then there are fewer parts.
 fn shared(spare: u32, agents: u32, least: u32) -> u32 {
     let besides = spare.saturating_sub(agents);
     if besides < least { spare } else { besides }
