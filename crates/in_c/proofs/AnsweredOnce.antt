@@ -1,8 +1,8 @@
 -- Each call has one result on a text, if memory didn't run out.
 use Rattle.std.proofs.Common.{◌≡◌, ◌≢◌, ◌⊎◌, inl, inr, ℕ, List, ◌++◌, take, drop, length, Bool, true, false, Ok, Err, refl, sym, ◌∙◌, ap, subst}
 use Rattle.in_syntax.specs.declared.faults.Fault.TheVariants.{Refused}
-use Rattle.in_check.specs.Checking.{IsAccepted}
-use Rattle.in_check.specs.Programs.{Program}
+use Rattle.in_check.specs.Checking.{IsCertified}
+use Rattle.in_check.specs.Programs.{Certified}
 use Rattle.in_check.proofs.Public.{checked_once}
 use Rattle.in_limits.specs.declared.limits.Limits.{Limits}
 use Rattle.in_limits.proofs.Public.{one_limits}
@@ -133,19 +133,19 @@ not_true : false ≡ true → ⊥
 not_true e = subst only_false e tt
 
 module _ (law : StepsAreJudgedOnce) (text : List ℕ) (k : ℕ) (given : List GivenStep) (parts : List ℕ) where
-  abbrev Builds : Program → Type 0
-  Builds p = AreStepsOf (shape_of p (item_of p k)) (steps_of parts given)
+  abbrev Builds : Certified → Type 0
+  Builds p = AreStepsOf (shape_of p (item_of p.program k)) (steps_of parts given)
 
-  yes : (p : Program) → IsAccepted text p → Builds p → Verifies text k given parts (Ok true)
+  yes : (p : Certified) → IsCertified text p → Builds p → Verifies text k given parts (Ok true)
   yes p accepts steps = (p, accepts, (λ e. steps, λ x. refl))
 
-  no : (p : Program) → IsAccepted text p → (Builds p → ⊥) → Verifies text k given parts (Ok false)
+  no : (p : Certified) → IsCertified text p → (Builds p → ⊥) → Verifies text k given parts (Ok false)
   no p accepts never = (p, accepts, (λ e. absurd (not_true e), λ x. absurd (never x)))
 
-  not_both : (p q : Program) → IsAccepted text p → Builds p → IsAccepted text q → (Builds q → ⊥) → ⊥
+  not_both : (p q : Certified) → IsCertified text p → Builds p → IsCertified text q → (Builds q → ⊥) → ⊥
   not_both p q accepts steps accepts_too never = not_true (law text k given parts (Ok false) (Ok true) (no q accepts_too never) (yes p accepts steps))
 
-  judged : (p q : Program) (s t : Status) → IsAccepted text p → IsAccepted text q → SaysWhether (Builds p) s → SaysWhether (Builds q) t → s ≡ t
+  judged : (p q : Certified) (s t : Status) → IsCertified text p → IsCertified text q → SaysWhether (Builds p) s → SaysWhether (Builds q) t → s ≡ t
   judged p q s t accepts accepts_too (inl h) (inl g) = h.1 ∙ sym g.1
   judged p q s t accepts accepts_too (inl h) (inr g) = absurd (not_both p q accepts h.0 accepts_too g.0)
   judged p q s t accepts accepts_too (inr h) (inl g) = absurd (not_both q p accepts_too g.0 accepts h.0)

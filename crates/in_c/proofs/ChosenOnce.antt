@@ -7,7 +7,7 @@ use Rattle.in_syntax.specs.declared.faults.Fault.TheVariants.{Refused}
 use Rattle.in_check.specs.Checking.{IsAccepted}
 use Rattle.in_check.specs.Laws.{AreOneProgram}
 use Rattle.in_check.specs.Programs.{Program}
-use Rattle.in_check.proofs.Public.{checked_once}
+use Rattle.in_check.proofs.Public.{never_both, programs_once}
 use Rattle.in_limits.specs.declared.limits.Limits.{Limits}
 use Rattle.in_limits.proofs.Public.{one_limits}
 use Rattle.in_reducer.specs.Machines.{MachineParts, parts_of}
@@ -35,7 +35,7 @@ use Rattle.in_c.proofs.AnsweredOnce.{given_alike, number_of}
 
 module _ (q : Program) where
   abbrev numbered : Program → Program
-  numbered p = record { tables = p.tables; rules = p.rules; net = p.net; numbers = q.numbers; rule_certificates = p.rule_certificates; net_certificate = p.net_certificate }
+  numbered p = record { tables = p.tables; rules = p.rules; net = p.net; numbers = q.numbers }
 
   abbrev renumbered : MachineParts → MachineParts
   renumbered m = record { program = numbered m.program; agents = m.agents; free = m.free; queue = m.queue; vacant = m.vacant }
@@ -93,7 +93,7 @@ module _ (q : Program) where
 
   module _ (p : Program) (same : AreOneProgram p q) where
     is_it : numbered p ≡ q
-    is_it = λ i. record { tables = same.tables i; rules = same.rules i; net = same.net i; numbers = q.numbers; rule_certificates = same.rule_certificates i; net_certificate = same.net_certificate i }
+    is_it = λ i. record { tables = same.tables i; rules = same.rules i; net = same.net i; numbers = q.numbers }
 
     start_kept : (cells : CellCounts) (m : MachineParts) → IsStart p cells m → IsStart q cells (renumbered m)
     start_kept cells m h =
@@ -149,10 +149,10 @@ given_out a b bytes more n m s t same alike one h g = (h.0 ∙ same ∙ sym g.0,
 module _ (ends : ChosenRunsAreOne) (machines : ChosenRunsAreMachines) (starts : StartsAreRefusedOnce) (texts : TextsAreSame) (text choices : List ℕ) (l : Limits) (a b : Shown) where
   module _ (p q : Program) (accepted : IsAccepted text p) (accepted_too : IsAccepted text q) where
     one_program : AreOneProgram p q
-    one_program = checked_once text (Ok p) (Ok q) accepted accepted_too
+    one_program = programs_once text p q accepted accepted_too
 
     back : AreOneProgram q p
-    back = checked_once text (Ok q) (Ok p) accepted_too accepted
+    back = programs_once text q p accepted_too accepted
 
     module _ (o u : Chosen) (h : IsAsChosen p choices l.limit l.cells o) (g : IsAsChosen q choices l.limit l.cells u) where
       kept : IsAsChosen q choices l.limit l.cells (ended q o)
@@ -193,9 +193,9 @@ module _ (ends : ChosenRunsAreOne) (machines : ChosenRunsAreMachines) (starts : 
 
   text_once : ShowsText text choices l a → a.status ≢ memory_status → ShowsText text choices l b → b.status ≢ memory_status → AreAlike a b
   text_once (inl (p, accepts, h)) had (inl (q, accepts_too, g)) has = shown_once p q accepts accepts_too h had g has
-  text_once (inl (p, accepts, h)) had (inr (inl (r, refuses, given))) has = absurd (checked_once text (Ok p) (Err (Refused r)) accepts refuses)
+  text_once (inl (p, accepts, h)) had (inr (inl (r, refuses, given))) has = absurd (never_both text p r accepts refuses)
   text_once (inl h) had (inr (inr wants)) has = absurd (has wants.2)
-  text_once (inr (inl (r, refuses, given))) had (inl (q, accepts, g)) has = absurd (checked_once text (Err (Refused r)) (Ok q) refuses accepts)
+  text_once (inr (inl (r, refuses, given))) had (inl (q, accepts, g)) has = absurd (never_both text q r accepts refuses)
   text_once (inr (inl (r, refuses, given))) had (inr (inl (e, refuses_too, gives))) has = (given.0 ∙ sym gives.0, given.1 ∙ sym gives.1, given.2 ∙ sym gives.2)
   text_once (inr (inl h)) had (inr (inr wants)) has = absurd (has wants.2)
   text_once (inr (inr wants)) had y has = absurd (had wants.2)

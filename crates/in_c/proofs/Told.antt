@@ -1,8 +1,8 @@
 -- Diagnoses as data, refusals and steps, each with its status.
 use Rattle.std.proofs.Common.{◌≡◌, List, ℕ, [], Vec, Global, Bool, true, false, Some, None, Ok, inl, inr, refl, subst}
 use Rattle.in_syntax.specs.declared.faults.Refusal.{Refusal}
-use Rattle.in_check.specs.Checking.{IsAccepted, IsRefused}
-use Rattle.in_check.specs.Programs.{Program}
+use Rattle.in_check.specs.Checking.{IsCertified, IsRefused}
+use Rattle.in_check.specs.Programs.{Certified}
 use Rattle.in_diagnosis.specs.Data.{IsToldAsData}
 use Rattle.in_certificates.specs.declared.given.GivenStep.{GivenStep}
 use Rattle.in_certificates.specs.Verifying.{Verifies}
@@ -17,7 +17,7 @@ data_told text line (r, refuses, is) = inl (r, refuses, (is, refl))
 pub nothing_told : (text bytes : List ℕ) → IsToldAsData text None → bytes ≡ [] → IsDiagnosisData text bytes (status 0)
 nothing_told text bytes (p, accepts) none = inr (inl (p, accepts, (none, refl)))
 
-pub not_refused : (text : List ℕ) (p : Program) (n : Numbers) → IsAccepted text p → n ≡ no_numbers → IsRefusedAs text n (status 0)
+pub not_refused : (text : List ℕ) (p : Certified) (n : Numbers) → IsCertified text p → n ≡ no_numbers → IsRefusedAs text n (status 0)
 not_refused text p n accepts none = inr (inl (p, accepts, (none, refl)))
 
 pub refused_as : (text : List ℕ) (r : Refusal) (n : Numbers) → IsRefused text r → n ≡ numbers_of r → IsRefusedAs text n (status 1)

@@ -1,8 +1,8 @@
 -- The result of a call on a text. The output on a text is the program's: see the definitions of `in_program`.
 use Rattle.std.specs.Prelude.{◌≡◌, ◌⊎◌, ℕ, true, false, List, [], Some, None}
 use Rattle.in_syntax.specs.declared.faults.Refusal.{Refusal}
-use Rattle.in_check.specs.Checking.{IsAccepted, IsRefused}
-use Rattle.in_check.specs.Programs.{Program}
+use Rattle.in_check.specs.Checking.{IsCertified, IsRefused}
+use Rattle.in_check.specs.Programs.{Certified}
 use Rattle.in_export.specs.Programs.{program_line}
 use Rattle.in_certificates.specs.declared.given.GivenStep.{GivenStep}
 use Rattle.in_certificates.specs.Given.{steps_of}
@@ -39,8 +39,8 @@ pub data IsDiagnosis (text words : List ℕ) (s : Status) : Type 0 where
   wanting : words ≡ [] → s ≡ memory_status → IsDiagnosis text words s
 
 -- the text is accepted, and its program has this property
-abbrev pub OfProgram : List ℕ → (Program → Type 0) → Type 0
-OfProgram text So = (p : Program) × IsAccepted text p × So p
+abbrev pub OfProgram : List ℕ → (Certified → Type 0) → Type 0
+OfProgram text So = (c : Certified) × IsCertified text c × So c
 
 -- the text is refused, and its refusal has this property
 abbrev pub OfRefusal : List ℕ → (Refusal → Type 0) → Type 0
@@ -49,17 +49,17 @@ OfRefusal text So = (r : Refusal) × IsRefused text r × So r
 -- the diagnosis as data of a refused text; nothing for an accepted one; or nothing, when out of memory
 abbrev pub IsDiagnosisData : List ℕ → List ℕ → Status → Type 0
 IsDiagnosisData text line s =
-    OfRefusal text (λ r. IsDataOf r line × (s ≡ status 1)) ⊎ (OfProgram text (λ p. (line ≡ []) × (s ≡ status 0)) ⊎ ((line ≡ []) × (s ≡ memory_status)))
+    OfRefusal text (λ r. IsDataOf r line × (s ≡ status 1)) ⊎ (OfProgram text (λ c. (line ≡ []) × (s ≡ status 0)) ⊎ ((line ≡ []) × (s ≡ memory_status)))
 
 -- the line of the text's program, or that of its refusal, or that memory ran out
 abbrev pub IsExported : List ℕ → List ℕ → Status → Type 0
 IsExported text line s =
-    OfProgram text (λ p. (line ≡ program_line p) × (s ≡ status 0)) ⊎ (OfRefusal text (λ r. (line ≡ refused_line text r) × (s ≡ status 1)) ⊎ WantsMemory line s)
+    OfProgram text (λ c. (line ≡ program_line c) × (s ≡ status 0)) ⊎ (OfRefusal text (λ r. (line ≡ refused_line text r) × (s ≡ status 1)) ⊎ WantsMemory line s)
 
 -- the numbers of the text's refusal; none if it is accepted, or when out of memory
 abbrev pub IsRefusedAs : List ℕ → Numbers → Status → Type 0
 IsRefusedAs text n s =
-    OfRefusal text (λ r. (n ≡ numbers_of r) × (s ≡ status 1)) ⊎ (OfProgram text (λ p. (n ≡ no_numbers) × (s ≡ status 0)) ⊎ ((n ≡ no_numbers) × (s ≡ memory_status)))
+    OfRefusal text (λ r. (n ≡ numbers_of r) × (s ≡ status 1)) ⊎ (OfProgram text (λ c. (n ≡ no_numbers) × (s ≡ status 0)) ⊎ ((n ≡ no_numbers) × (s ≡ memory_status)))
 
 -- status 0 if this holds, and that of wrong words if it doesn't
 abbrev pub SaysWhether : Type 0 → Status → Type 0
@@ -68,7 +68,7 @@ SaysWhether So s = (So × (s ≡ status 0)) ⊎ ((So → ⊥) × (s ≡ status 2
 -- the status says whether these numbers are steps that build the rule of that number, or the net, of the text's program; or there is no program
 abbrev pub IsVerified : List ℕ → ℕ → List GivenStep → List ℕ → Status → Type 0
 IsVerified text k given parts s =
-    OfProgram text (λ p. SaysWhether (AreStepsOf (shape_of p (item_of p k)) (steps_of parts given)) s) ⊎ (OfRefusal text (λ r. s ≡ status 1) ⊎ (s ≡ memory_status))
+    OfProgram text (λ c. SaysWhether (AreStepsOf (shape_of c (item_of c.program k)) (steps_of parts given)) s) ⊎ (OfRefusal text (λ r. s ≡ status 1) ⊎ (s ≡ memory_status))
 
 -- bytes with this relation to this status are given, and their count is `count`
 abbrev pub GivesAnswer : (List ℕ → Status → Type 0) → List ℕ → List ℕ → ℕ → ℕ → Type 0

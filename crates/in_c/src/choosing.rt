@@ -122,7 +122,7 @@ fn shown_of(alloc: Global, outcome: &Chosen, choices: &[u32], limit: u64) -> Sho
 
 /// Runs an accepted program by these choices, and returns the view of its end.
 fn run_by(alloc: Global, checked: &Checked, choices: &[u32], limits: Limits) -> Shown
-    ensures { ShowsProgram checked.now choices.now limits result }
+    ensures { ShowsProgram checked.now.program choices.now limits result }
 {
     match run_chosen(alloc, checked, choices, limits.limit(), limits.cells()) {
         Ok(outcome) => {

@@ -3,8 +3,8 @@ use Rattle.std.proofs.Common.{◌≡◌, ◌↔◌, ◌∙◌, ℕ, Bool, IsTrue
 use Rattle.in_syntax.specs.declared.faults.Fault.TheVariants.{Refused, Memory}
 use Rattle.in_open_nets.specs.OpenNets.{OpenNet}
 use Rattle.in_open_nets.proofs.Public.{same_test}
-use Rattle.in_check.specs.Laws.{AreOneProgram}
-use Rattle.in_check.specs.Programs.{Program}
+use Rattle.in_check.specs.Laws.{AreOneCertified}
+use Rattle.in_check.specs.Programs.{Certified}
 use Rattle.in_check.specs.declared.checked.Certificate.{Certificate}
 use Rattle.in_check.specs.declared.checked.Item.{Item}
 use Rattle.in_check.specs.declared.checked.Item.TheVariants.{RuleItem, NetItem}
@@ -14,19 +14,19 @@ use Rattle.in_certificates.specs.Given.{steps_of}
 use Rattle.in_certificates.specs.Laws.{StepsAreJudgedOnce}
 use Rattle.in_certificates.specs.Verifying.{AreStepsOf, item_of, shape_of}
 
-module _ (p q : Program) (one : AreOneProgram p q) (k : ℕ) where
-  item_same : item_of p k ≡ item_of q k
-  item_same = let e = one.rules in cc
+module _ (p q : Certified) (one : AreOneCertified p q) (k : ℕ) where
+  item_same : item_of p.program k ≡ item_of q.program k
+  item_same = let e = one.program.rules in cc
 
   shapes : (i : Option Item) → shape_of p i ≡ shape_of q i
   shapes None = refl
   shapes (Some NetItem) = ap (λ (c : Certificate). let z : Option OpenNet = Some c.shape in z) one.net_certificate
   shapes (Some (RuleItem n)) = ap (λ (c : List Certificate). option_map (λ (z : Certificate). z.shape) (slice_get c n.0)) one.rule_certificates
 
-  shape_same : shape_of p (item_of p k) ≡ shape_of q (item_of q k)
-  shape_same = shapes (item_of p k) ∙ ap (shape_of q) item_same
+  shape_same : shape_of p (item_of p.program k) ≡ shape_of q (item_of q.program k)
+  shape_same = shapes (item_of p.program k) ∙ ap (shape_of q) item_same
 
-  pub judged_alike : (given : List GivenStep) (parts : List ℕ) (b c : Bool) → (IsTrue b ↔ AreStepsOf (shape_of p (item_of p k)) (steps_of parts given)) → (IsTrue c ↔ AreStepsOf (shape_of q (item_of q k)) (steps_of parts given)) → b ≡ c
+  pub judged_alike : (given : List GivenStep) (parts : List ℕ) (b c : Bool) → (IsTrue b ↔ AreStepsOf (shape_of p (item_of p.program k)) (steps_of parts given)) → (IsTrue c ↔ AreStepsOf (shape_of q (item_of q.program k)) (steps_of parts given)) → b ≡ c
   judged_alike given parts b c h g =
       let same = λ (z : Option OpenNet). AreStepsOf z (steps_of parts given) in
       same_test b c (λ yes. g.1 (subst same shape_same (h.0 yes))) (λ yes. h.1 (subst same (sym shape_same) (g.0 yes)))

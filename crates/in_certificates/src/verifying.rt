@@ -13,7 +13,7 @@ use std::alloc::{AllocError, Global};
 
 /// The rule of that number, or the net, which has the number after the last rule's.
 fn item_of(checked: &Checked, number: u32) -> Option<Item>
-    ensures { result ≡ item_of checked.now number }
+    ensures { result ≡ item_of checked.now.program number }
 {
     if number < checked.rules() {
         Some(Item::RuleItem(RuleNo(number)))
@@ -47,7 +47,7 @@ fn builds_item(
     given: &[GivenStep],
     parts: &[u32],
 ) -> Result<bool, AllocError>
-    ensures { IfOk result (λ yes. IsTrue yes ↔ AreStepsOf (shape_of checked.now (item_of checked.now number)) (steps_of parts.now given.now)) }
+    ensures { IfOk result (λ yes. IsTrue yes ↔ AreStepsOf (shape_of checked.now (item_of checked.now.program number)) (steps_of parts.now given.now)) }
 {
     match item_of(checked, number) {
         Some(item) => are_steps_of(alloc, checked.shape(item), given, parts),

@@ -1,5 +1,5 @@
 -- A chain of passes: the first one refuses, or the result is that of the others.
-use Rattle.std.proofs.Common.{◌≡◌, inl, inr, List, length, ℕ, ◌<◌, ◌^◌, Result, Ok, Err, sym, subst, arith}
+use Rattle.std.proofs.Common.{◌≡◌, inl, inr, List, length, ℕ, ◌<◌, ◌^◌, Result, Ok, Err, ap, sym, subst, ◌∙◌, arith}
 use Rattle.std.specs.Prelude.{None, Some}
 use Rattle.std.specs.Result.{result_err}
 use Rattle.in_syntax.specs.declared.faults.Fault.{Fault}
@@ -10,8 +10,8 @@ use Rattle.in_syntax.specs.Parsing.{IsOfText, Parses}
 use Rattle.in_syntax.proofs.Public.{tree_sized}
 use Rattle.in_symbols.specs.Tables.{Tables}
 use Rattle.in_net.specs.Rules.{RuleParts}
-use Rattle.in_check.specs.Checking.{BuildsRules, ChecksNames, IsAccepted, IsChecked, IsProgramOf}
-use Rattle.in_check.specs.Programs.{Program}
+use Rattle.in_check.specs.Checking.{BuildsRules, ChecksNames, IsAccepted, IsCertified, IsChecked, IsProgramOf}
+use Rattle.in_check.specs.Programs.{Certified, Program}
 
 pub then_refused : {A B : Type 0} (P : Result A Fault → Type 0) (Q : A → Result B Fault → Type 0) (e : Fault) → P (Err e) → Then P Q (Err e)
 then_refused P Q (Refused r) h = inl h
@@ -25,8 +25,8 @@ then_rest P Q a (Err (Memory e)) p h = tt
 -- the results of all passes for an accepted program
 pub program_of : (text : List ℕ) (p : Program) → IsAccepted text p → IsProgramOf text p
 unfolding IsChecked
-program_of text p (s, parses, (t, tabulates, (rules, builds_rules, (n, builds, (u, fits, (numbers, covers, (cs, simple_rules, (c, simple_net, e)))))))) =
-    subst (IsProgramOf text) (sym e) (record {
+program_of text p (x, is_it, (s, parses, (t, tabulates, (rules, builds_rules, (n, builds, (u, fits, (numbers, covers, (cs, simple_rules, (c, simple_net, e))))))))) =
+    subst (IsProgramOf text) (sym (ap (λ (z : Certified). z.program) e) ∙ is_it) (record {
       source = s;
       parses = parses;
       tabulates = tabulates;
@@ -34,12 +34,14 @@ program_of text p (s, parses, (t, tabulates, (rules, builds_rules, (n, builds, (
       builds = builds;
       fits = fits;
       covers = covers;
+      rule_certificates = cs;
       simple_rules = simple_rules;
+      net_certificate = c;
       simple_net = simple_net;
     })
 
 -- the whole chain
-pub chain_of : (text : List ℕ) (x : Result Program Fault) → Then (Parses text) ChecksNames x → IsChecked text x
+pub chain_of : (text : List ℕ) (x : Result Certified Fault) → Then (Parses text) ChecksNames x → IsChecked text x
 unfolding IsChecked
 chain_of text x h = h
 
@@ -51,8 +53,10 @@ few_rules s t rules tree builds = let sized = tree_sized tree.text s tree.tree i
 pub few_rules_of : (text : List ℕ) (p : Program) → IsAccepted text p → length p.rules < 2 ^ 32
 few_rules_of text p h = let a = program_of text p h in few_rules a.source p.tables p.rules (record { text = text; tree = a.parses }) a.builds_rules
 
-pub certified_each : (text : List ℕ) (p : Program) → IsAccepted text p → length p.rule_certificates ≡ length p.rules
-certified_each text p h = (program_of text p h).simple_rules.count
+pub certified_each : (text : List ℕ) (x : Certified) → IsCertified text x → length x.rule_certificates ≡ length x.program.rules
+unfolding IsChecked
+certified_each text x (s, parses, (t, tabulates, (rules, builds_rules, (n, builds, (u, fits, (numbers, covers, (cs, simple_rules, (c, simple_net, e)))))))) =
+    subst (λ (z : Certified). length z.rule_certificates ≡ length z.program.rules) (sym e) simple_rules.count
 
 -- a result that isn't refused is there
 pub some_accepted : {A : Type 0} (P : Result A Fault → Type 0) (x : Result A Fault) → P x → result_err x ≡ None → (a : A) × P (Ok a)

@@ -8,7 +8,7 @@ use Rattle.in_symbols.specs.Tables.{Tabulates}
 use Rattle.in_net.specs.Built.{Builds}
 use Rattle.in_check.specs.declared.checking.DeclaredText.{DeclaredText}
 use Rattle.in_check.specs.Checking.{AreOfText, BuildsRules, ChecksNames, ChecksNet, ChecksRules, ChecksTypes, DeclaresNames, DeclaresText, IsChecked}
-use Rattle.in_check.specs.Programs.{Program}
+use Rattle.in_check.specs.Programs.{Certified}
 use Rattle.in_check.proofs.Chain.{chain_of, then_rest}
 
 -- all declared parts are of one tree
@@ -23,7 +23,7 @@ declared_of s d tree (t, tabulates, (rules, builds_rules, (n, builds, e))) =
     })
 
 -- a tree that declares parts, and the passes over these
-pub names_checked : (s : Source) (d : DeclaredText) (x : Result Program Fault) → DeclaresNames s (Ok d) → ChecksTypes d.symbols d.rules d.net x → ChecksNames s x
+pub names_checked : (s : Source) (d : DeclaredText) (x : Result Certified Fault) → DeclaresNames s (Ok d) → ChecksTypes d.symbols d.rules d.net x → ChecksNames s x
 names_checked s d x (t, tabulates, (rules, builds_rules, (n, builds, e))) h =
     let typed : ChecksTypes t rules n x = subst (λ (z : DeclaredText). ChecksTypes z.symbols z.rules z.net x) e h in
     then_rest (Tabulates s) (ChecksRules s) t x tabulates
@@ -42,7 +42,7 @@ names_refused s (Memory e) h = tt
 pub text_declared : (text : List ℕ) (d : DeclaredText) → DeclaresText text (Ok d) → AreOfText d.symbols d.rules d.net
 text_declared text d (s, parses, h) = declared_of s d (record { text = text; tree = parses }) h
 
-pub text_checked : (text : List ℕ) (d : DeclaredText) (x : Result Program Fault) → DeclaresText text (Ok d) → ChecksTypes d.symbols d.rules d.net x → IsChecked text x
+pub text_checked : (text : List ℕ) (d : DeclaredText) (x : Result Certified Fault) → DeclaresText text (Ok d) → ChecksTypes d.symbols d.rules d.net x → IsChecked text x
 text_checked text d x (s, parses, h) typed = chain_of text x (then_rest (Parses text) ChecksNames s x parses (names_checked s d x h typed))
 
 pub text_refused : (text : List ℕ) (e : Fault) → DeclaresText text (Err e) → IsChecked text (Err e)

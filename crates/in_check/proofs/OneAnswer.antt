@@ -24,15 +24,15 @@ use Rattle.in_cover.proofs.Public.{covered_once}
 use Rattle.in_syntax.specs.declared.faults.Code.TheVariants.{E12, E13}
 use Rattle.in_check.specs.declared.checked.Certificate.{Certificate}
 use Rattle.in_check.specs.Certificates.{CertifiesRules, CertifiesNet}
-use Rattle.in_check.specs.Checking.{BuildsRules, ChecksNames, ChecksNet, ChecksNetSteps, ChecksPairs, ChecksRules, ChecksRuleSteps, ChecksTypes, IsChecked, IsFound, KeepsAnswers, TypePasses}
-use Rattle.in_check.specs.Laws.{AreOneProgram, TextsAreCheckedOnce}
-use Rattle.in_check.specs.Programs.{Program}
+use Rattle.in_check.specs.Checking.{BuildsRules, ChecksNames, ChecksNet, ChecksNetSteps, ChecksPairs, ChecksRules, ChecksRuleSteps, ChecksTypes, IsAccepted, IsChecked, IsFound, IsRefused, KeepsAnswers, TypePasses}
+use Rattle.in_check.specs.Laws.{AreOneCertified, AreOneProgram, TextsAreCheckedOnce}
+use Rattle.in_check.specs.Programs.{Certified, Program}
 use Rattle.in_check.proofs.OnePass.{AllOne, one_certified, one_rules, one_rules_steps, one_types}
 
-kept : (t : Tables) (rules : List RuleParts) (n : Parts) (a b : Cells) (cs : List Certificate) (c : Certificate) → AreOneTable a b → (x y : Result Program Fault) → KeepsAnswers t rules n a cs c x → KeepsAnswers t rules n b cs c y → AgreeBy AreOneProgram x y
+kept : (t : Tables) (rules : List RuleParts) (n : Parts) (a b : Cells) (cs : List Certificate) (c : Certificate) → AreOneTable a b → (x y : Result Certified Fault) → KeepsAnswers t rules n a cs c x → KeepsAnswers t rules n b cs c y → AgreeBy AreOneCertified x y
 kept t rules n a b cs c e (Ok p) (Ok q) h k =
-    subst (λ p. AreOneProgram p q) (sym h) (subst (AreOneProgram (record { tables = t; rules = rules; net = n; numbers = a; rule_certificates = cs; net_certificate = c })) (sym k)
-    (record { tables = refl; rules = refl; net = refl; numbers = e; rule_certificates = refl; net_certificate = refl }))
+    subst (λ p. AreOneCertified p q) (sym h) (subst (AreOneCertified (record { program = record { tables = t; rules = rules; net = n; numbers = a }; rule_certificates = cs; net_certificate = c })) (sym k)
+    (record { program = record { tables = refl; rules = refl; net = refl; numbers = e }; rule_certificates = refl; net_certificate = refl }))
 kept t rules n a b cs c e (Ok p) (Err (Refused r)) h k = k
 kept t rules n a b cs c e (Ok p) (Err (Memory m)) h k = tt
 kept t rules n a b cs c e (Err (Refused q)) y h k = absurd h
@@ -53,30 +53,37 @@ module _ (s : Source) (t : Tables) (of_text : IsOfText s) (tabled : Tabulates s 
   all_one rules builds i p is =
       one_certified (OpensRule t p) E12 (λ o opens. rule_opens s t i p o tabled (builds.each i p is) opens) (λ o u g h. opened_once t p o u (builds.each i p is).2.1.member.whole (builds.each i p is).2.0 g h)
 
-  steps_once : (rules : List RuleParts) (n : Parts) (a b : Cells) → BuildsRules s t (Ok rules) → Builds s t (Ok n) → AreOneTable a b → (x y : Result Program Fault) → ChecksRuleSteps t rules n a x → ChecksRuleSteps t rules n b y →
-      AgreeBy AreOneProgram x y
+  steps_once : (rules : List RuleParts) (n : Parts) (a b : Cells) → BuildsRules s t (Ok rules) → Builds s t (Ok n) → AreOneTable a b → (x y : Result Certified Fault) → ChecksRuleSteps t rules n a x → ChecksRuleSteps t rules n b y →
+      AgreeBy AreOneCertified x y
   steps_once rules n a b rs net e =
-      then_two (λ cs ds. cs ≡ ds) AreOneProgram (CertifiesRules t rules) (ChecksNetSteps t rules n a) (ChecksNetSteps t rules n b) (one_rules_steps t rules (all_one rules rs))
+      then_two (λ cs ds. cs ≡ ds) AreOneCertified (CertifiesRules t rules) (ChecksNetSteps t rules n a) (ChecksNetSteps t rules n b) (one_rules_steps t rules (all_one rules rs))
       (λ cs ds f h k x y l r. net_steps cs x y l (subst (λ ds. ChecksNetSteps t rules n b ds y) (sym f) r))
     where
-      net_steps : (cs : List Certificate) (x y : Result Program Fault) → ChecksNetSteps t rules n a cs x → ChecksNetSteps t rules n b cs y → AgreeBy AreOneProgram x y
+      net_steps : (cs : List Certificate) (x y : Result Certified Fault) → ChecksNetSteps t rules n a cs x → ChecksNetSteps t rules n b cs y → AgreeBy AreOneCertified x y
       net_steps cs =
-          then_two (λ c d. c ≡ d) AreOneProgram (CertifiesNet t n) (KeepsAnswers t rules n a cs) (KeepsAnswers t rules n b cs) (one_certified (Opens t n) E13 (λ o opens. net_opens s t n o tabled net opens) (λ o u l r. one_open_net t n o u l r))
+          then_two (λ c d. c ≡ d) AreOneCertified (CertifiesNet t n) (KeepsAnswers t rules n a cs) (KeepsAnswers t rules n b cs) (one_certified (Opens t n) E13 (λ o opens. net_opens s t n o tabled net opens) (λ o u l r. one_open_net t n o u l r))
           (λ c d g h k x y l r. kept t rules n a b cs c e x y l (subst (λ d. KeepsAnswers t rules n b cs d y) (sym g) r))
 
-  pub rules_and_net_once : IsOneBy AreOneProgram (ChecksRules s t)
+  pub rules_and_net_once : IsOneBy AreOneCertified (ChecksRules s t)
   rules_and_net_once =
-      then_same AreOneProgram (BuildsRules s t) (ChecksNet s t) (one_rules s t (λ i. rules_once s t i of_text tabled)) (λ rules rs.
-      then_same AreOneProgram (Builds s t) (ChecksTypes t rules) (nets_once s t of_text tabled) (λ n net.
-      then_two (λ u v. Unit {0}) AreOneProgram (TypePasses t rules n) (λ u. ChecksPairs t rules n) (λ u. ChecksPairs t rules n) (one_types t rules n) (λ u v w h k.
-      then_two AreOneTable AreOneProgram (Covers t rules) (ChecksRuleSteps t rules n) (ChecksRuleSteps t rules n) (covered_once t rules) (λ a b e l r. steps_once rules n a b rs net e))))
+      then_same AreOneCertified (BuildsRules s t) (ChecksNet s t) (one_rules s t (λ i. rules_once s t i of_text tabled)) (λ rules rs.
+      then_same AreOneCertified (Builds s t) (ChecksTypes t rules) (nets_once s t of_text tabled) (λ n net.
+      then_two (λ u v. Unit {0}) AreOneCertified (TypePasses t rules n) (λ u. ChecksPairs t rules n) (λ u. ChecksPairs t rules n) (one_types t rules n) (λ u v w h k.
+      then_two AreOneTable AreOneCertified (Covers t rules) (ChecksRuleSteps t rules n) (ChecksRuleSteps t rules n) (covered_once t rules) (λ a b e l r. steps_once rules n a b rs net e))))
 
 pub checked_once : TextsAreCheckedOnce
 unfolding IsChecked
 checked_once text =
-    then_same AreOneProgram (Parses text) ChecksNames (parsed_once text) (λ s tree.
+    then_same AreOneCertified (Parses text) ChecksNames (parsed_once text) (λ s tree.
     let of_text : IsOfText s = record { text = text; tree = tree } in
-    then_same AreOneProgram (Tabulates s) (ChecksRules s) (one_tables s (texts_begin_apart text s tree)) (λ t tabled. rules_and_net_once s t of_text tabled))
+    then_same AreOneCertified (Tabulates s) (ChecksRules s) (one_tables s (texts_begin_apart text s tree)) (λ t tabled. rules_and_net_once s t of_text tabled))
+
+-- .. so an accepted text has one program, and no refusal
+pub programs_once : (text : List ℕ) (p q : Program) → IsAccepted text p → IsAccepted text q → AreOneProgram p q
+programs_once text p q (c, is, h) (d, was, k) = subst (AreOneProgram p) was (subst (λ z. AreOneProgram z d.program) is (checked_once text (Ok c) (Ok d) h k).program)
+
+pub never_both : (text : List ℕ) (p : Program) (r : Refusal) → IsAccepted text p → IsRefused text r → ⊥
+never_both text p r (c, is, h) k = checked_once text (Ok c) (Err (Refused r)) h k
 
 -- ---- findings
 

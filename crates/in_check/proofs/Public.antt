@@ -1,6 +1,6 @@
 -- The lemmas that proofs of other crates cite. They import this module alone, so all others may be renamed and cut anew.
 pub use Rattle.in_check.proofs.Chain.{chain_of, program_of, then_refused, then_rest}
-pub use Rattle.in_check.proofs.OneAnswer.{checked_once}
+pub use Rattle.in_check.proofs.OneAnswer.{checked_once, never_both, programs_once}
 pub use Rattle.in_check.proofs.Reached.FromText.{is_sound}
 pub use Rattle.in_check.proofs.Reached.Holds.{Tops, higher}
 pub use Rattle.in_check.proofs.Reached.HoldsEach.{few_tops, tops_of}

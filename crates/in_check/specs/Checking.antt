@@ -18,7 +18,7 @@ use Rattle.in_cover.specs.Cover.{Covers}
 use Rattle.in_check.specs.declared.checked.Certificate.{Certificate}
 use Rattle.in_check.specs.declared.checking.DeclaredText.{DeclaredText}
 use Rattle.in_check.specs.Certificates.{CertifiesRules, CertifiesNet}
-use Rattle.in_check.specs.Programs.{Program}
+use Rattle.in_check.specs.Programs.{Certified, Program}
 
 -- ---- rule by rule
 
@@ -65,42 +65,42 @@ TypePasses t rules n (Err (Memory e)) = ⊥
 
 module _ (t : Tables) (rules : List RuleParts) (n : Parts) where
   -- the results of the passes are kept
-  abbrev pub KeepsAnswers : Cells → List Certificate → Certificate → Result Program Fault → Type 0
-  KeepsAnswers numbers cs c (Ok p) = p ≡ record { tables = t; rules = rules; net = n; numbers = numbers; rule_certificates = cs; net_certificate = c }
+  abbrev pub KeepsAnswers : Cells → List Certificate → Certificate → Result Certified Fault → Type 0
+  KeepsAnswers numbers cs c (Ok x) = x ≡ record { program = record { tables = t; rules = rules; net = n; numbers = numbers }; rule_certificates = cs; net_certificate = c }
   KeepsAnswers numbers cs c (Err (Refused r)) = ⊥
   KeepsAnswers numbers cs c (Err (Memory e)) = Unit {0}
 
   -- the steps of the net
-  abbrev pub ChecksNetSteps : Cells → List Certificate → Result Program Fault → Type 0
+  abbrev pub ChecksNetSteps : Cells → List Certificate → Result Certified Fault → Type 0
   ChecksNetSteps numbers cs = Then (CertifiesNet t n) (KeepsAnswers numbers cs)
 
   -- the steps of the rules, and the rest
-  abbrev pub ChecksRuleSteps : Cells → Result Program Fault → Type 0
+  abbrev pub ChecksRuleSteps : Cells → Result Certified Fault → Type 0
   ChecksRuleSteps numbers = Then (CertifiesRules t rules) (ChecksNetSteps numbers)
 
   -- one rule for each pair, and the rest
-  abbrev pub ChecksPairs : Result Program Fault → Type 0
+  abbrev pub ChecksPairs : Result Certified Fault → Type 0
   ChecksPairs = Then (Covers t rules) ChecksRuleSteps
 
   -- the types, and the rest
-  abbrev pub ChecksTypes : Result Program Fault → Type 0
+  abbrev pub ChecksTypes : Result Certified Fault → Type 0
   ChecksTypes = Then (TypePasses t rules n) (λ u. ChecksPairs)
 
 -- the net, and the rest
-abbrev pub ChecksNet : Source → Tables → List RuleParts → Result Program Fault → Type 0
+abbrev pub ChecksNet : Source → Tables → List RuleParts → Result Certified Fault → Type 0
 ChecksNet s t rules = Then (Builds s t) (ChecksTypes t rules)
 
 -- the rules, and the rest
-abbrev pub ChecksRules : Source → Tables → Result Program Fault → Type 0
+abbrev pub ChecksRules : Source → Tables → Result Certified Fault → Type 0
 ChecksRules s t = Then (BuildsRules s t) (ChecksNet s t)
 
 -- the names, and the rest
-abbrev pub ChecksNames : Source → Result Program Fault → Type 0
+abbrev pub ChecksNames : Source → Result Certified Fault → Type 0
 ChecksNames s = Then (Tabulates s) (ChecksRules s)
 
--- the tree, and the rest: the program that all passes accept, or the refusal of the first that refuses. (A proof that only has a program
--- need not look inside.)
-unfoldable pub IsChecked : List ℕ → Result Program Fault → Type 0
+-- the tree, and the rest: the program that all passes accept, with its certificates, or the refusal of the first that refuses. (A proof that
+-- only has a program need not look inside.)
+unfoldable pub IsChecked : List ℕ → Result Certified Fault → Type 0
 IsChecked text = Then (Parses text) ChecksNames
 
 -- ---- the parts that a text declares, before the passes over them
@@ -124,9 +124,13 @@ DeclaresText text = Then (Parses text) DeclaresNames
 
 -- ---- all passes
 
--- the program of a text that all passes accept
+-- the program of a text that all passes accept, with its certificates
+abbrev pub IsCertified : List ℕ → Certified → Type 0
+IsCertified text c = IsChecked text (Ok c)
+
+-- .. and the program alone
 abbrev pub IsAccepted : List ℕ → Program → Type 0
-IsAccepted text p = IsChecked text (Ok p)
+IsAccepted text p = (c : Certified) × (c.program ≡ p) × IsCertified text c
 
 -- the first pass that refuses the text gives this refusal
 abbrev pub IsRefused : List ℕ → Refusal → Type 0
@@ -149,8 +153,10 @@ pub record IsProgramOf (text : List ℕ) (p : Program) : Type 0 where
   pub builds : Builds source p.tables (Ok p.net)
   pub fits : TypesAll p.tables p.rules p.net (Ok tt)
   pub covers : Covers p.tables p.rules (Ok p.numbers)
-  pub simple_rules : CertifiesRules p.tables p.rules (Ok p.rule_certificates)
-  pub simple_net : CertifiesNet p.tables p.net (Ok p.net_certificate)
+  pub rule_certificates : List Certificate
+  pub simple_rules : CertifiesRules p.tables p.rules (Ok rule_certificates)
+  pub net_certificate : Certificate
+  pub simple_net : CertifiesNet p.tables p.net (Ok net_certificate)
 
 -- the tables, the rules and the net are those of one tree
 pub record AreOfText (t : Tables) (rules : List RuleParts) (n : Parts) : Type 0 where

@@ -5,7 +5,7 @@ use Rattle.in_syntax.specs.declared.faults.Refusal.{Refusal}
 use Rattle.in_syntax.specs.Answers.{IsOneBy}
 use Rattle.in_cover.specs.Laws.{AreOneTable}
 use Rattle.in_check.specs.Checking.{IsChecked, IsFound}
-use Rattle.in_check.specs.Programs.{Program}
+use Rattle.in_check.specs.Programs.{Certified, Program}
 
 -- two programs of one text: their values for each accessor are equal
 pub record AreOneProgram (p q : Program) : Type 0 where
@@ -13,12 +13,16 @@ pub record AreOneProgram (p q : Program) : Type 0 where
   pub rules : p.rules ≡ q.rules
   pub net : p.net ≡ q.net
   pub numbers : AreOneTable p.numbers q.numbers
-  pub rule_certificates : p.rule_certificates ≡ q.rule_certificates
-  pub net_certificate : p.net_certificate ≡ q.net_certificate
+
+-- .. with their certificates
+pub record AreOneCertified (c d : Certified) : Type 0 where
+  pub program : AreOneProgram c.program d.program
+  pub rule_certificates : c.rule_certificates ≡ d.rule_certificates
+  pub net_certificate : c.net_certificate ≡ d.net_certificate
 
 -- all results that checking may have for a text agree
 abbrev pub TextsAreCheckedOnce : Type 0
-TextsAreCheckedOnce = (text : List ℕ) → IsOneBy AreOneProgram (IsChecked text)
+TextsAreCheckedOnce = (text : List ℕ) → IsOneBy AreOneCertified (IsChecked text)
 
 -- after a fault there is one finding
 abbrev pub FindingsAreOne : Type 0

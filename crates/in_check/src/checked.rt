@@ -1,5 +1,5 @@
 ghost use Rattle.std.specs.Prelude.{◌≡◌, ◌<◌, ℕ, List, length, slice_get, option_map, Some};
-ghost use Rattle.in_check.specs.Checking.{IsAccepted};
+ghost use Rattle.in_check.specs.Checking.{IsAccepted, IsCertified};
 ghost use Rattle.in_cover.specs.Cover.{IsPair, IsRuleFor};
 ghost use Rattle.in_check.specs.Programs.{IsItemOf, certificate_of, counts_of};
 
@@ -46,18 +46,20 @@ pub(crate) struct Passed {
     pub(crate) net_certificate: Certificate,
 }
 
-// Contracts see the program.
+// Contracts see the program and its certificates.
 impl Model for Passed {
     ghost use Rattle.in_check.specs.Programs as programs;
     ghost use Rattle.std.specs.Prelude.{◌≡◌, ◌^◌, ◌<◌, length};
 
-    ghost Value = { programs.Program };
+    ghost Value = { programs.Certified };
 
     ghost view = { λ c. record {
-      tables = c.symbols;
-      rules = c.rules;
-      net = c.net;
-      numbers = c.numbers;
+      program = record {
+        tables = c.symbols;
+        rules = c.rules;
+        net = c.net;
+        numbers = c.numbers;
+      };
       rule_certificates = c.rule_certificates;
       net_certificate = c.net_certificate;
     } };
@@ -71,45 +73,46 @@ pub struct Checked {
     pub(crate) passed: Passed,
 }
 
-// Contracts see the program, which is that of some text.
+// Contracts see the program of some text, and its certificates.
 impl Model for Checked {
     ghost use Rattle.in_check.specs.Programs as programs;
     ghost use Rattle.in_check.specs.Checking as checking;
     ghost use Rattle.std.specs.Prelude.{◌≡◌, ◌^◌, ◌<◌, List, ℕ, length};
 
-    ghost Value = { programs.Program };
+    ghost Value = { programs.Certified };
 
     ghost view = { λ c. c.passed };
 
-    ghost invariant = { λ c. (length c.passed.rules < 2 ^ 32) × (length c.passed.rule_certificates ≡ length c.passed.rules) × ((text : List ℕ) × checking.IsAccepted text c.passed) };
+    ghost invariant = { λ c. (length c.passed.program.rules < 2 ^ 32) × (length c.passed.rule_certificates ≡ length c.passed.program.rules) × ((text : List ℕ) × checking.IsCertified text c.passed) };
 }
 
 impl Checked {
-    /// The program is the accepted one of some text, for proofs. The call does nothing.
+    /// The program is the accepted one of some text, and certified, for proofs. The call does nothing.
     pub fn is_accepted(&self)
-        ensures { (text : List ℕ) × IsAccepted text self.now }
+        ensures accepted { (text : List ℕ) × IsAccepted text self.now.program }
+        ensures certified { (text : List ℕ) × IsCertified text self.now }
     {
         use_invariant!(self.passed);
     }
 
     /// The tables of the program's names.
     pub fn symbols(&self) -> &Symbols
-        ensures { result.now ≡ self.now.tables }
+        ensures { result.now ≡ self.now.program.tables }
     {
         &self.passed.symbols
     }
 
     /// The number of the program's rules.
     pub fn rules(&self) -> u32
-        ensures { result ≡ length self.now.rules }
+        ensures { result ≡ length self.now.program.rules }
     {
         self.passed.rules.len() as u32
     }
 
     /// The rule of that number, from 0 in the order of the text.
     pub fn rule(&self, number: RuleNo) -> &Rule
-        requires { number.0 < length self.now.rules }
-        ensures { slice_get self.now.rules number.0 ≡ Some result.now }
+        requires { number.0 < length self.now.program.rules }
+        ensures { slice_get self.now.program.rules number.0 ≡ Some result.now }
     {
         &self.passed.rules.as_slice()[number.0 as usize]
     }
@@ -117,29 +120,29 @@ impl Checked {
     /// The number of the one rule of two symbols, in either order. The two have to match: one of them is a constructor,
     /// the other a destructor, of one type.
     pub fn rule_of(&self, one: SymbolNo, other: SymbolNo) -> RuleNo
-        requires { IsPair self.now.tables one.0 other.0 }
-        ensures { IsRuleFor self.now.rules result.0 one.0 other.0 }
+        requires { IsPair self.now.program.tables one.0 other.0 }
+        ensures { IsRuleFor self.now.program.rules result.0 one.0 other.0 }
     {
         self.passed.numbers.rule(one, other)
     }
 
     /// The numbers of the rules by their two symbols.
     pub fn numbers(&self) -> &RuleTable
-        ensures { result.now ≡ self.now.numbers }
+        ensures { result.now ≡ self.now.program.numbers }
     {
         &self.passed.numbers
     }
 
     /// The initial net.
     pub fn net(&self) -> &Net
-        ensures { result.now ≡ self.now.net }
+        ensures { result.now ≡ self.now.program.net }
     {
         &self.passed.net
     }
 
     /// The open net of a rule or of the net, with its steps.
     fn certified(&self, item: Item) -> &Certificate
-        requires { IsItemOf self.now item }
+        requires { IsItemOf self.now.program item }
         ensures { certificate_of self.now item ≡ Some result.now }
     {
         match item {
@@ -150,7 +153,7 @@ impl Checked {
 
     /// The open net of a rule or of the net.
     pub fn shape(&self, item: Item) -> &OpenNet
-        requires { IsItemOf self.now item }
+        requires { IsItemOf self.now.program item }
         ensures { option_map (λ c. c.shape) (certificate_of self.now item) ≡ Some result.now }
     {
         &self.certified(item).shape
@@ -158,7 +161,7 @@ impl Checked {
 
     /// The steps that build the open net of a rule or of the net.
     pub fn certificate(&self, item: Item) -> &Derivation
-        requires { IsItemOf self.now item }
+        requires { IsItemOf self.now.program item }
         ensures { option_map (λ c. c.derivation) (certificate_of self.now item) ≡ Some result.now }
     {
         &self.certified(item).derivation
@@ -166,7 +169,7 @@ impl Checked {
 
     /// The size of the program.
     pub fn counts(&self) -> ProgramCounts
-        ensures { result ≡ counts_of self.now }
+        ensures { result ≡ counts_of self.now.program }
     {
         ProgramCounts {
             types: self.passed.symbols.types(),

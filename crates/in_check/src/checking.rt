@@ -25,7 +25,7 @@ ghost use Rattle.in_net.specs.Built.{IsOver};
 ghost use Rattle.in_net.specs.Rules.{IsRuleOver};
 ghost use Rattle.in_cover.specs.Cover.{IsRuleOfPair};
 ghost use Rattle.in_check.specs.Certificates.{CertifiesRules};
-ghost use Rattle.in_check.specs.Programs.{Program};
+ghost use Rattle.in_check.specs.Programs.{Certified};
 ghost use Rattle.in_check.specs.Promises.{ReachesAsPromised};
 ghost use Rattle.in_check.specs.Systems.{system_of};
 ghost use Rattle.in_check.specs.Checking.{AreOfText, BuildsRules, ChecksNames, ChecksNetSteps, ChecksPairs, ChecksRuleSteps, ChecksTypes, DeclaresNames, DeclaresNet, DeclaresRules, DeclaresText, IsChecked, IsFound, TypePasses, TypesAll, TypesRules};
@@ -337,7 +337,7 @@ fn check_text(alloc: Global, text: &[u8], findings: &mut Findings) -> Result<Pas
 /// The program of a text that all passes accept.
 fn checked_text(alloc: Global, text: &[u8], findings: &mut Findings) -> Result<Checked, Fault>
     ensures checked { IsChecked text.now result }
-    ensures promised { IfOk result (λ p. ReachesAsPromised (system_of p)) }
+    ensures promised { IfOk result (λ c. ReachesAsPromised (system_of c.program)) }
     ensures kept { findings.new ≡ findings.old }
 {
     let passed = check_text(alloc, text, findings)?;
@@ -357,7 +357,7 @@ fn checked_text(alloc: Global, text: &[u8], findings: &mut Findings) -> Result<C
 /// leads on from each agent to an active pair or to a free end at which it waits; and is written whole.
 pub fn check(alloc: Global, text: &[u8]) -> Result<Checked, Fault>
     ensures checked { IsChecked text.now result }
-    ensures promised { IfOk result (λ p. ReachesAsPromised (system_of p)) }
+    ensures promised { IfOk result (λ c. ReachesAsPromised (system_of c.program)) }
 {
     check_finding(alloc, text, &mut Findings::none())
 }
@@ -366,7 +366,7 @@ pub fn check(alloc: Global, text: &[u8]) -> Result<Checked, Fault>
 /// any.
 pub fn check_finding(alloc: Global, text: &[u8], findings: &mut Findings) -> Result<Checked, Fault>
     ensures checked { IsChecked text.now result }
-    ensures promised { IfOk result (λ p. ReachesAsPromised (system_of p)) }
+    ensures promised { IfOk result (λ c. ReachesAsPromised (system_of c.program)) }
     ensures found { IfErr result (IsFound findings.old findings.new) }
     ensures accepted { IfOk result (λ _. findings.new ≡ findings.old) }
 {
@@ -389,7 +389,7 @@ pub fn refusal_of(
     evidence: &mut Option<Evidence>,
 ) -> Result<Option<Refusal>, AllocError>
     requires { IsOfText source.now }
-    ensures found { IfOk result (λ found. MatchOption found ((p : Program) × ChecksNames source.now (Ok p)) (λ r. ChecksNames source.now (Err (Refused r)))) }
+    ensures found { IfOk result (λ found. MatchOption found ((c : Certified) × ChecksNames source.now (Ok c)) (λ r. ChecksNames source.now (Err (Refused r)))) }
     ensures refused { OnErr result (evidence.new ≡ evidence.old) }
 {
     let mut at_hand = None;

@@ -25,15 +25,15 @@ impl<'a> Model for Plain<'a> {
 
     ghost Value = { PlainParts };
 
-    ghost view = { λ p. record { program = p.checked.now; net = p.net } };
+    ghost view = { λ p. record { program = p.checked.now.program; net = p.net } };
 
-    ghost invariant = { λ p. IsPlain (record { program = p.checked.now; net = p.net }) };
+    ghost invariant = { λ p. IsPlain (record { program = p.checked.now.program; net = p.net }) };
 }
 
 impl<'a> Plain<'a> {
     /// The initial net of an accepted program, which is reached by no interaction. Refused only when out of memory.
     pub fn new(alloc: Global, checked: &'a Checked) -> Result<Plain<'a>, AllocError>
-        ensures starts { IfOk result (λ p. (p.program ≡ checked.now) × (p.net ≡ checked.now.net) × IsReachedBy p 0) }
+        ensures starts { IfOk result (λ p. (p.program ≡ checked.now.program) × (p.net ≡ checked.now.program.net) × IsReachedBy p 0) }
         ensures promised { IfOk result (λ p. IsAsPromised (system_of p.program) (net_of p.net)) }
     {
         use_promise!(checked.is_accepted());

@@ -37,7 +37,7 @@ pub fn run_chosen<'a>(
     cells: CellCounts,
 ) -> Result<Chosen<'a>, StartFault>
     requires { AreAllowed cells }
-    ensures { RunsAsChosen checked.now choices.now limit cells result }
+    ensures { RunsAsChosen checked.now.program choices.now limit cells result }
 {
     let mut machine = Machine::with_counts(alloc, checked, cells)?;
     let chosen = choose(&mut machine, choices);

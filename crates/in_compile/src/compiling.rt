@@ -20,7 +20,7 @@ use std::sync::Arc;
 
 /// The template of each rule, by number.
 fn templates_of(alloc: Global, checked: &Checked) -> Result<Items<Arc<Template>>, AllocError>
-    ensures { IfOk result (λ ts. HaveTemplates checked.now.tables checked.now.rules (listed ts)) }
+    ensures { IfOk result (λ ts. HaveTemplates checked.now.program.tables checked.now.program.rules (listed ts)) }
 {
     use_promise!(checked.is_accepted());
     let mut templates = Items::new(alloc);
@@ -34,7 +34,7 @@ fn templates_of(alloc: Global, checked: &Checked) -> Result<Items<Arc<Template>>
 
 /// The number of the rule of each two symbols.
 fn numbers_of(alloc: Global, checked: &Checked) -> Result<RuleTable, AllocError>
-    ensures { IfOk result (λ t. IsTableOf checked.now.tables checked.now.rules t) }
+    ensures { IfOk result (λ t. IsTableOf checked.now.program.tables checked.now.program.rules t) }
 {
     use_promise!(checked.is_accepted());
     checked.numbers().copy(alloc)
@@ -42,7 +42,7 @@ fn numbers_of(alloc: Global, checked: &Checked) -> Result<RuleTable, AllocError>
 
 /// The initial net.
 fn start_of(alloc: Global, checked: &Checked) -> Result<Member, AllocError>
-    ensures { IfOk result (λ m. IsMemberOf checked.now.tables checked.now.net m) }
+    ensures { IfOk result (λ m. IsMemberOf checked.now.program.tables checked.now.program.net m) }
 {
     use_promise!(checked.is_accepted());
     member_of(alloc, checked.symbols(), checked.net())
@@ -110,7 +110,7 @@ fn by_symbols(
 /// The templates of an accepted program: for each rule its right member, which is found by the rule's two symbols, and the initial net. So
 /// every two matching symbols have one template. Refused only when out of memory.
 pub fn compile(alloc: Global, checked: &Checked) -> Result<Templates, AllocError>
-    ensures { IfOk result (λ ts. AreTemplatesOf checked.now ts) }
+    ensures { IfOk result (λ ts. AreTemplatesOf checked.now.program ts) }
 {
     use_promise!(checked.is_accepted());
     let templates = templates_of(alloc, checked)?;

@@ -3,8 +3,8 @@ use Rattle.std.specs.Prelude.{◌≡◌, ℕ, List, [], ◌∷◌, ◌++◌, cod
 use Rattle.std.specs.Global.{Global}
 use Rattle.in_syntax.specs.declared.faults.Refusal.{Refusal}
 use Rattle.in_syntax.specs.Refusals.{code_number}
-use Rattle.in_check.specs.Checking.{IsAccepted, IsRefused}
-use Rattle.in_check.specs.Programs.{Program}
+use Rattle.in_check.specs.Checking.{IsCertified, IsRefused}
+use Rattle.in_check.specs.Programs.{Certified}
 
 -- the name of a member of an object, and a colon
 abbrev member : List ℕ → List ℕ
@@ -24,4 +24,4 @@ IsDataOf r line = (rest : List ℕ) × (line ≡ data_head r ++ rest)
 -- a refused text has such a line, and an accepted text has none
 abbrev pub IsToldAsData : List ℕ → Option (Vec ℕ Global) → Type 0
 IsToldAsData text (Some line) = (r : Refusal) × IsRefused text r × IsDataOf r line.items
-IsToldAsData text None = (p : Program) × IsAccepted text p
+IsToldAsData text None = (c : Certified) × IsCertified text c

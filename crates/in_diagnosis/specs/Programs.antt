@@ -3,20 +3,20 @@ use Rattle.std.specs.Prelude.{Bool, true, false, List, ℕ, Ok, Err, Option, Som
 use Rattle.in_syntax.specs.declared.faults.Refusal.{Refusal}
 use Rattle.in_syntax.specs.declared.faults.Fault.TheVariants.{Refused}
 use Rattle.in_syntax.specs.declared.tree.Source.{Source}
-use Rattle.in_check.specs.Checking.{ChecksNames, IsAccepted, IsRefused}
-use Rattle.in_check.specs.Programs.{Program}
+use Rattle.in_check.specs.Checking.{ChecksNames, IsCertified, IsRefused}
+use Rattle.in_check.specs.Programs.{Certified}
 
 -- a refused text has a diagnosis, and an accepted text has none
 abbrev pub IsToldOfText : List ℕ → Bool → Type 0
 IsToldOfText text true = (r : Refusal) × IsRefused text r
-IsToldOfText text false = (p : Program) × IsAccepted text p
+IsToldOfText text false = (c : Certified) × IsCertified text c
 
 -- a text has this refusal, or is accepted
 abbrev pub Refuses : List ℕ → Option Refusal → Type 0
 Refuses text (Some r) = IsRefused text r
-Refuses text None = (p : Program) × IsAccepted text p
+Refuses text None = (c : Certified) × IsCertified text c
 
 -- .. and so for a text's tree
 abbrev pub RefusesTree : Source → Option Refusal → Type 0
 RefusesTree s (Some r) = ChecksNames s (Err (Refused r))
-RefusesTree s None = (p : Program) × ChecksNames s (Ok p)
+RefusesTree s None = (c : Certified) × ChecksNames s (Ok c)

@@ -3,8 +3,8 @@ use Rattle.std.specs.Prelude.{◌≡◌, ℕ, Bool, true, false, List}
 use Rattle.in_syntax.specs.declared.faults.Code.{Code}
 use Rattle.in_syntax.specs.declared.faults.Code.TheVariants.{E12, E13}
 use Rattle.in_syntax.specs.declared.faults.Refusal.{Refusal}
-use Rattle.in_check.specs.Checking.{IsAccepted, IsRefused}
-use Rattle.in_check.specs.Programs.{Program}
+use Rattle.in_check.specs.Checking.{IsCertified, IsRefused}
+use Rattle.in_check.specs.Programs.{Certified}
 use Rattle.in_diagnosis.specs.declared.remedies.Verdict.{Verdict}
 use Rattle.in_diagnosis.specs.declared.remedies.Verdict.TheVariants.{Accepted, Stuck, Refused}
 
@@ -16,6 +16,6 @@ is_stuck c = false
 
 -- accepted, or refused at this byte for a rule or a net that no steps build, or refused otherwise
 abbrev pub IsAnsweredWith : List ℕ → Verdict → Type 0
-IsAnsweredWith text Accepted = (p : Program) × IsAccepted text p
+IsAnsweredWith text Accepted = (c : Certified) × IsCertified text c
 IsAnsweredWith text (Stuck at) = (r : Refusal) × IsRefused text r × (is_stuck r.code ≡ true) × (r.place.from ≡ at)
 IsAnsweredWith text Refused = (r : Refusal) × IsRefused text r × (is_stuck r.code ≡ false)

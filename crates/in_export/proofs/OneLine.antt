@@ -3,16 +3,16 @@ use Rattle.std.proofs.Common.{◌≡◌, ℕ, List, Ok, Err, sym, ◌∙◌}
 use Rattle.in_syntax.specs.declared.faults.Fault.{Fault}
 use Rattle.in_syntax.specs.declared.faults.Fault.TheVariants.{Refused, Memory}
 use Rattle.in_check.specs.Checking.{IsChecked}
-use Rattle.in_check.specs.Laws.{AreOneProgram}
-use Rattle.in_check.specs.Programs.{Program}
+use Rattle.in_check.specs.Laws.{AreOneCertified}
+use Rattle.in_check.specs.Programs.{Certified}
 use Rattle.in_check.proofs.Public.{checked_once}
 use Rattle.in_export.specs.Programs.{program_line}
 use Rattle.in_export.specs.Exporting.{Exports, TextsAreExportedOnce}
 
 -- the line doesn't depend on the table of rules
-same_line : (p q : Program) → AreOneProgram p q → program_line p ≡ program_line q
+same_line : (p q : Certified) → AreOneCertified p q → program_line p ≡ program_line q
 same_line p q same =
-    λ i. program_line (record { tables = same.tables i; rules = same.rules i; net = same.net i; numbers = p.numbers; rule_certificates = same.rule_certificates i; net_certificate = same.net_certificate i })
+    λ i. program_line (record { program = record { tables = same.program.tables i; rules = same.program.rules i; net = same.program.net i; numbers = p.program.numbers }; rule_certificates = same.rule_certificates i; net_certificate = same.net_certificate i })
 
 pub exported_once : TextsAreExportedOnce
 exported_once text (Ok one) (Ok other) (p, valid, is) (q, too, was) = is ∙ same_line p q (checked_once text (Ok p) (Ok q) valid too) ∙ sym was

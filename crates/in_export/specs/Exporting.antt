@@ -4,8 +4,8 @@ use Rattle.std.specs.Global.{Global}
 use Rattle.in_syntax.specs.declared.faults.Fault.{Fault}
 use Rattle.in_syntax.specs.declared.faults.Fault.TheVariants.{Refused, Memory}
 use Rattle.in_syntax.specs.Answers.{IsOne}
-use Rattle.in_check.specs.Checking.{IsAccepted, IsRefused}
-use Rattle.in_check.specs.Programs.{Program}
+use Rattle.in_check.specs.Checking.{IsCertified, IsRefused}
+use Rattle.in_check.specs.Programs.{Certified}
 use Rattle.in_export.specs.Programs.{program_line}
 
 -- the result with the bytes of the line
@@ -15,7 +15,7 @@ as_bytes (Err f) = Err f
 
 -- the line is that of the text's program, or the text has this refusal
 abbrev pub Exports : List ℕ → Result (List ℕ) Fault → Type 0
-Exports text (Ok line) = (p : Program) × IsAccepted text p × (line ≡ program_line p)
+Exports text (Ok line) = (c : Certified) × IsCertified text c × (line ≡ program_line c)
 Exports text (Err (Refused r)) = IsRefused text r
 Exports text (Err (Memory e)) = Unit {0}
 

@@ -56,7 +56,7 @@ fn add_item(
     checked: &Checked,
     item: Item,
 ) -> Result<(), AllocError>
-    requires { IsItemOf checked.now item }
+    requires { IsItemOf checked.now.program item }
     ensures { OnOk result (bytes.new.items ≡ bytes.old.items ++ item_text checked.now item) }
 {
     add_certificate(bytes, alloc, checked.shape(item), checked.certificate(item))
@@ -69,8 +69,8 @@ fn add_rule(
     checked: &Checked,
     number: RuleNo,
 ) -> Result<(), AllocError>
-    requires { number.0 < length checked.now.rules }
-    ensures { OnOk result (bytes.new.items ≡ bytes.old.items ++ rule_text checked.now number.0 (slice_get checked.now.rules number.0)) }
+    requires { number.0 < length checked.now.program.rules }
+    ensures { OnOk result (bytes.new.items ≡ bytes.old.items ++ rule_text checked.now number.0 (slice_get checked.now.program.rules number.0)) }
 {
     let rule = checked.rule(number);
     bytes.push(b'{')?;
@@ -118,7 +118,7 @@ fn add_net(bytes: &mut Vec<u8>, alloc: Global, checked: &Checked) -> Result<(), 
 
 /// Adds the types and the symbols, as two members.
 fn add_tables(bytes: &mut Vec<u8>, alloc: Global, checked: &Checked) -> Result<(), AllocError>
-    ensures { OnOk result (bytes.new.items ≡ bytes.old.items ++ tables_text checked.now) }
+    ensures { OnOk result (bytes.new.items ≡ bytes.old.items ++ tables_text checked.now.program) }
 {
     add_key(bytes, "types")?;
     add_types(bytes, checked.symbols())?;

@@ -1,4 +1,4 @@
 pub mod Bridges
-pub mod Earliest
 pub mod Growing
+pub mod Public
 pub mod Walks

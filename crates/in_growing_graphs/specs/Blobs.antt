@@ -18,12 +18,6 @@ pub data GoesUp (up : ℕ → ℕ) (P : ℕ → Type 0) : ℕ → ℕ → Type 0
   there : (x : ℕ) → GoesUp up P x x
   over : (x p y : ℕ) → P x → up x ≡ suc p → GoesUp up P p y → GoesUp up P x y
 
--- .. where the vertices are numbered from the roots on, and the edge above a vertex is the first in the list of those that lead from lower numbers
--- to its own or a higher one
-pub record IsEarliest (edges : List (ℕ × ℕ)) (up via : ℕ → ℕ) : Type 0 where
-  pub rooted : IsRooted edges up via (λ x. x)
-  pub first : (x k u v : ℕ) → HasTwoEnds edges k u v → u < x → x ≤ v → (0 < up x) × (via x ≤ k)
-
 -- ---- its blobs
 
 -- from x the covered edges lead up to y, and no further: it is the head of the blob of x. The edge above a vertex is covered if the vertex is

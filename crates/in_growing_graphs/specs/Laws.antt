@@ -1,7 +1,7 @@
 -- The laws of graphs that grow edge by edge, over the definitions alone.
 use Rattle.std.specs.Prelude.{◌≡◌, ◌≢◌, ◌⊎◌, ◌↔◌, ℕ, suc, ◌<◌, ◌≤◌, Bool, false, List, [], ◌∷◌, ◌++◌, length}
 use Rattle.in_simple_bridges.specs.Walks.{EdgeWalk, HasTwoEnds, IsOnCycle, Other}
-use Rattle.in_growing_graphs.specs.Blobs.{AreBlobs, AreInOneBlob, AreJoinedTwice, CoversWay, GoesUp, IsEarliest, with_value}
+use Rattle.in_growing_graphs.specs.Blobs.{AreBlobs, AreInOneBlob, AreJoinedTwice, CoversWay, with_value}
 
 -- an edge is on a cycle exactly when its ends are joined by two ways
 abbrev pub TwoWaysAreCycles : Type 0
@@ -43,7 +43,3 @@ BlobsAreLinked = (edges : List (ℕ × ℕ)) (up via depth : ℕ → ℕ) (cover
 -- an edge between two vertices of a tree covers the way between them
 abbrev pub BlobsAreMerged : Type 0
 BlobsAreMerged = (edges : List (ℕ × ℕ)) (up via depth : ℕ → ℕ) (old new : ℕ → Bool) (a b : ℕ) → AreBlobs edges up via depth old → CoversWay up old new a b → AreBlobs (added edges a b) up via depth new
-
--- in the forest of the earliest edges the way between the ends of an edge has no later edge
-abbrev pub WaysAreEarlier : Type 0
-WaysAreEarlier = (edges : List (ℕ × ℕ)) (up via : ℕ → ℕ) → IsEarliest edges up via → (k u v : ℕ) → HasTwoEnds edges k u v → (z : ℕ) × GoesUp up (λ x. via x ≤ k) u z × GoesUp up (λ x. via x ≤ k) v z

@@ -1,6 +1,6 @@
 //! Laws on graphs that grow edge by edge, for proofs above them. No function here does anything.
 
-ghost use Rattle.in_growing_graphs.specs.Laws.{BlobsAreLinked, BlobsAreMerged, BlobsDecideCycles, BlobsStay, GrownWalks, NoEdgeHasBlobs, TwoWaysAreCycles, WaysAreEarlier};
+ghost use Rattle.in_growing_graphs.specs.Laws.{BlobsAreLinked, BlobsAreMerged, BlobsDecideCycles, BlobsStay, GrownWalks, NoEdgeHasBlobs, TwoWaysAreCycles};
 
 /// An edge is on a cycle exactly when its ends are joined by two ways.
 pub fn two_ways_are_cycles()
@@ -36,9 +36,4 @@ pub fn blobs_are_linked()
 /// An edge between two blobs of a tree makes one blob of those on the way between them.
 pub fn blobs_are_merged()
     ensures { BlobsAreMerged }
-{}
-
-/// In the forest of the earliest edges no edge on the way between the ends of an edge is later than that one.
-pub fn ways_are_earlier()
-    ensures { WaysAreEarlier }
 {}

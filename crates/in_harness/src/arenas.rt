@@ -11,7 +11,7 @@ use std::thread::Threads;
 
 /// Adds the answers to a row of puts and takes over 20 cells of each class.
 fn add_in_few(sheet: &mut Sheet, program: &Checked, templates: &Templates, words: &[String])
-    requires { AreTemplatesOf program.now templates.now }
+    requires { AreTemplatesOf program.now.program templates.now }
 {
     match fresh(sheet.alloc, 20) {
         Ok(mut arena) => {
@@ -30,7 +30,7 @@ fn add_in_many<R: Threads + Wait>(
     templates: &Templates,
     words: &[String],
 )
-    requires { AreTemplatesOf program.now templates.now }
+    requires { AreTemplatesOf program.now.program templates.now }
 {
     match fresh(sheet.alloc, 600) {
         Ok(mut arena) => {

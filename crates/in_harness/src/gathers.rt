@@ -24,7 +24,7 @@ fn pair_at(words: &[String], at: usize) -> (SymbolNo, SymbolNo) {
 
 /// Whether two symbols match, so there is a template for them.
 pub fn is_pair(checked: &Checked, templates: &Templates, c: SymbolNo, d: SymbolNo) -> bool
-    requires { AreTemplatesOf checked.now templates.now }
+    requires { AreTemplatesOf checked.now.program templates.now }
     ensures { IsTrue result → IsSome (template_at templates.now c.0 d.0) }
 {
     let symbols = checked.symbols();
@@ -115,7 +115,7 @@ fn answered<'t>(
     words: &[String],
     at: usize,
 ) -> &'static str
-    requires of { AreTemplatesOf program.now templates.now }
+    requires of { AreTemplatesOf program.now.program templates.now }
     requires all { HaveAllLeased (stock.old.bag ∷ bags_of gather.old.slots) arena.old }
     ensures { HaveAllLeased (stock.new.bag ∷ bags_of gather.new.slots) arena.new }
 {
@@ -144,7 +144,7 @@ fn add_answers<'t>(
     gather: &mut Gather<'t>,
     words: &[String],
 )
-    requires of { AreTemplatesOf program.now templates.now }
+    requires of { AreTemplatesOf program.now.program templates.now }
     requires all { HaveAllLeased (stock.old.bag ∷ bags_of gather.old.slots) arena.old }
     ensures { HaveAllLeased (stock.new.bag ∷ bags_of gather.new.slots) arena.new }
 {
@@ -181,7 +181,7 @@ pub fn add_gather(
     words: &[String],
 )
     requires whole { NoneLeased arena.old }
-    requires of { AreTemplatesOf program.now templates.now }
+    requires of { AreTemplatesOf program.now.program templates.now }
     ensures { NoneLeased arena.new }
 {
     let need = Need::each(16);

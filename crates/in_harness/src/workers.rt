@@ -68,7 +68,7 @@ fn add_done<R: Threads + Wait>(
     requires some { 1 ≤ workers }
     requires most { workers ≤ 64 }
     requires whole { NoneLeased arena.old }
-    requires of { AreTemplatesOf program.now templates.now }
+    requires of { AreTemplatesOf program.now.program templates.now }
     requires next { IsSome (template_at templates.now 1 2) }
     ensures { NoneLeased arena.new }
 {
@@ -111,7 +111,7 @@ pub fn add_workers<R: Threads + Wait>(
     words: &[String],
 )
     requires whole { NoneLeased arena.old }
-    requires of { AreTemplatesOf program.now templates.now }
+    requires of { AreTemplatesOf program.now.program templates.now }
     ensures { NoneLeased arena.new }
 {
     let workers = small(words, 2);

@@ -170,8 +170,8 @@ fn first_pair(symbols: &Symbols, net: &Net) -> Option<(AgentNo, AgentNo)>
 
 /// The interaction of a pair, if there is one whose first agent is a constructor.
 fn step(alloc: Global, program: &Checked, plain: &mut Plain) -> Option<Result<(), AllocError>>
-    requires { plain.old.program ≡ program.now }
-    ensures { plain.new.program ≡ program.now }
+    requires { plain.old.program ≡ program.now.program }
+    ensures { plain.new.program ≡ program.now.program }
 {
     let (a, b) = first_pair(program.symbols(), plain.net())?;
     let symbol = plain.net().symbol(a)?;
@@ -196,7 +196,7 @@ fn are_same(net: &Net, other: &Net) -> bool {
 
 /// The result of the first step after a refused one, which has to leave the program's net as before.
 fn stepped_then(alloc: Global, program: &Checked, plain: &mut Plain) -> Came
-    requires { plain.old.program ≡ program.now }
+    requires { plain.old.program ≡ program.now.program }
 {
     if !are_same(plain.net(), program.net()) {
         return Came::Wrong;
@@ -210,7 +210,7 @@ fn stepped_then(alloc: Global, program: &Checked, plain: &mut Plain) -> Came
 
 /// The result of the first step.
 fn stepped(alloc: Global, program: &Checked, plain: &mut Plain) -> Came
-    requires { plain.old.program ≡ program.now }
+    requires { plain.old.program ≡ program.now.program }
 {
     match step(alloc, program, plain) {
         Some(Ok(())) => Came::Done,

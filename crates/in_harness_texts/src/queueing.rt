@@ -17,7 +17,7 @@ pub type Pair = (AgentNo, AgentNo);
 
 /// The pairs that wait at first: those of the program's net, in the order of their wires.
 pub fn first_pairs(alloc: Global, checked: &Checked, plain: &Plain) -> Result<Vec<Pair>, AllocError>
-    requires { plain.now.program ≡ checked.now }
+    requires { plain.now.program ≡ checked.now.program }
 {
     let mut pairs = Vec::new(alloc);
     for wire in 0..plain.net().wires() {
@@ -30,9 +30,9 @@ pub fn first_pairs(alloc: Global, checked: &Checked, plain: &Plain) -> Result<Ve
 
 /// The rule of that number.
 fn rule_at(checked: &Checked, number: u32) -> &Rule
-    requires { number < length checked.now.rules }
-    ensures over { IsRuleOver checked.now.tables result.now }
-    ensures declared { HasTypesOfHeads checked.now.tables result.now }
+    requires { number < length checked.now.program.rules }
+    ensures over { IsRuleOver checked.now.program.tables result.now }
+    ensures declared { HasTypesOfHeads checked.now.program.tables result.now }
 {
     use_promise!(checked.is_accepted());
     checked.rule(RuleNo(number))
@@ -84,7 +84,7 @@ pub fn waiting_after(
     waiting: &[Pair],
     pair: Pair,
 ) -> Result<Vec<Pair>, AllocError>
-    requires program { plain.now.program ≡ checked.now }
+    requires program { plain.now.program ≡ checked.now.program }
     requires active { AreActive plain.now.net pair.0 pair.1 }
 {
     let mut after = without(alloc, waiting, pair)?;

@@ -54,8 +54,8 @@ fn next_pair(
     order: Order,
     turn: u32,
 ) -> Result<Option<Pair>, AllocError>
-    requires { plain.now.program ≡ checked.now }
-    ensures { IfOk result (λ found. IfSome found (λ q. IsActivePair checked.now.tables plain.now.net q)) }
+    requires { plain.now.program ≡ checked.now.program }
+    ensures { IfOk result (λ found. IfSome found (λ q. IsActivePair checked.now.program.tables plain.now.net q)) }
 {
     let pairs = plain.net().active_pairs(alloc, checked.symbols())?;
     let at = place_of(pairs.as_slice(), next_of(waiting, order, turn));
@@ -74,8 +74,8 @@ fn step(
     order: Order,
     turn: u32,
 ) -> Result<bool, AllocError>
-    requires { plain.old.program ≡ checked.now }
-    ensures { plain.new.program ≡ checked.now }
+    requires { plain.old.program ≡ checked.now.program }
+    ensures { plain.new.program ≡ checked.now.program }
 {
     let Some((a, b)) = next_pair(alloc, checked, plain, waiting.as_slice(), order, turn)? else {
         return Ok(false);
@@ -100,8 +100,8 @@ fn turned(
     order: Order,
     turns: u32,
 ) -> Result<u32, AllocError>
-    requires { plain.old.program ≡ checked.now }
-    ensures { plain.new.program ≡ checked.now }
+    requires { plain.old.program ≡ checked.now.program }
+    ensures { plain.new.program ≡ checked.now.program }
 {
     for steps in 0..turns {
         if !step(alloc, checked, plain, waiting, order, steps)? {
@@ -122,7 +122,7 @@ fn order_in(words: &[String]) -> Order {
 
 /// Adds the end of a run: the number of interactions, the number of agents of the program's net, the net that was reached, and its active pairs.
 fn add_reached(sheet: &mut Sheet, checked: &Checked, plain: &Plain, waiting: &[Pair], turns: u32)
-    requires { plain.now.program ≡ checked.now }
+    requires { plain.now.program ≡ checked.now.program }
 {
     let numbers = [turns as u64, checked.net().agents() as u64];
     sheet.fill("# interactions from # agents\n", &numbers);
@@ -137,7 +137,7 @@ fn add_turned(
     plain: &mut Plain,
     words: &[String],
 ) -> Result<(), AllocError>
-    requires { plain.old.program ≡ checked.now }
+    requires { plain.old.program ≡ checked.now.program }
 {
     let alloc = sheet.alloc;
     let mut waiting = first_pairs(alloc, checked, plain)?;

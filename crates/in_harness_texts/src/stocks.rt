@@ -202,7 +202,7 @@ fn add_in_new(sheet: &mut Sheet, cells: u32, template: &Template) {
 
 /// The same for the template of two symbols, by their numbers.
 fn add_of(sheet: &mut Sheet, program: &Checked, templates: &Templates, words: &[String])
-    requires { AreTemplatesOf program.now templates.now }
+    requires { AreTemplatesOf program.now.program templates.now }
 {
     let first = SymbolNo(small(words, 2));
     let second = SymbolNo(small(words, 3));

@@ -78,7 +78,7 @@ pub fn template_of<'a>(
     c: SymbolNo,
     d: SymbolNo,
 ) -> Option<&'a Template>
-    requires { AreTemplatesOf checked.now templates.now }
+    requires { AreTemplatesOf checked.now.program templates.now }
 {
     let symbols = checked.symbols();
     if c.0 >= symbols.symbols() || d.0 >= symbols.symbols() {
@@ -92,7 +92,7 @@ pub fn template_of<'a>(
 
 /// The template of each two symbols that match, in either order.
 fn add_all(sheet: &mut Sheet, program: &Checked, templates: &Templates)
-    requires { AreTemplatesOf program.now templates.now }
+    requires { AreTemplatesOf program.now.program templates.now }
 {
     for one in 0..program.symbols().symbols() {
         for other in 0..program.symbols().symbols() {

@@ -51,7 +51,7 @@ impl<'a> Machine<'a> {
     pub fn new(alloc: Global, checked: &'a Checked, cells: u32) -> Result<Machine<'a>, StartFault>
         requires least { least_cells ≤ cells }
         requires most { cells ≤ most_cells }
-        ensures { Starts checked.now (each cells) result }
+        ensures { Starts checked.now.program (each cells) result }
     {
         Machine::with_counts(alloc, checked, CellCounts::each(cells))
     }
@@ -67,7 +67,7 @@ impl<'a> Machine<'a> {
         cells: CellCounts,
     ) -> Result<Machine<'a>, StartFault>
         requires { AreAllowed cells }
-        ensures { Starts checked.now cells result }
+        ensures { Starts checked.now.program cells result }
     {
         use_promise!(checked.is_accepted());
         let need = need_of_net(checked.symbols(), checked.net());

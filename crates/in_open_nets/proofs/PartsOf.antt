@@ -6,5 +6,4 @@ pub mod Marks
 pub mod Members
 pub mod Places
 pub mod Slots
-pub mod SortedMembers
 pub mod Sums

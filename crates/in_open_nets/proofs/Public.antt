@@ -1,13 +1,12 @@
 -- The lemmas that proofs of other crates cite. They import this module alone, so all others may be renamed and cut anew.
-pub use Rattle.in_open_nets.proofs.PartsOf.Absent.{has_all}
 pub use Rattle.in_open_nets.proofs.Built.Balance.{wire_turn, wire_within}
 pub use Rattle.in_open_nets.proofs.Built.Both.{all_one, derivable_no_circle, derivable_splits, one_first_stuck}
 pub use Rattle.in_open_nets.proofs.Built.Forest.{Agrees, Forest, beside, close, different_of, earlier_app, get_cases, get_past, length_app}
 pub use Rattle.in_open_nets.proofs.Built.Forest.{nothing, or_sum, times_app, times_in_app}
 pub use Rattle.in_open_nets.proofs.Built.Grow.{Constructions, agent_or_class, class_is_place, pair_same, splits_built}
+pub use Rattle.in_open_nets.proofs.Graphs.ClassWalks.{has_class, net_off_cycles, wire_back}
 pub use Rattle.in_open_nets.proofs.Reached.Links.{Decided, at_most, both_decided, least, link_back, link_first, link_join, link_map}
 pub use Rattle.in_open_nets.proofs.Reached.Links.{same_nat}
-pub use Rattle.in_open_nets.proofs.PartsOf.Members.{next_in, none_after, none_between, past, past_below, past_next}
 pub use Rattle.in_open_nets.proofs.Passages.{passage_to}
 pub use Rattle.in_open_nets.proofs.Splits.OkValues.{if_ok, if_ok_both}
 pub use Rattle.in_open_nets.proofs.Splits.OneAnswer.{one_listing}

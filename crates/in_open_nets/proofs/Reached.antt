@@ -2,4 +2,3 @@
 pub mod Links
 pub mod OnePiece
 pub mod Reaching
-pub mod Spreading

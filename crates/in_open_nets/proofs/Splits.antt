@@ -5,4 +5,3 @@ pub mod OneAnswer
 pub mod Search
 pub mod SplittingPorts
 pub mod StuckNodes
-pub mod Tried

@@ -8,7 +8,7 @@ use Rattle.in_open_nets.specs.Splitting.{SplitsAt}
 use Rattle.in_open_nets.specs.ClassGraphs.{Vertex, HasClass, HubEdgesAreBridges, HubEdgesAreOffCycles, IsClassGraph}
 use Rattle.in_open_nets.specs.OpenNets.{OpenNet, IsOpenNet, IsDerivable, NetSplits, open_graph}
 use Rattle.in_open_nets.specs.Stuck.{IsFirstStuck, IsListed}
-use Rattle.in_open_nets.specs.Tries.{IsFirstIn}
+use Rattle.in_open_nets.specs.Parts.{IsFirstIn}
 
 -- an open net splits exactly when it is derivable
 abbrev pub SplitsWhereDerivable : Type 0

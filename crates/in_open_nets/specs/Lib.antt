@@ -9,4 +9,3 @@ pub mod Parts
 pub mod Pieces
 pub mod Splitting
 pub mod Stuck
-pub mod Tries

@@ -58,40 +58,6 @@ IsNeighbour o within n i near = MatchOption near
     ((w l j : ℕ) → IsWire o w (Port n i) (Port l j) → IsIn l (nodes_in within) → ⊥)
     (λ l. (w : ℕ) × (j : ℕ) × IsWire o w (Port n i) (Port l j) × IsIn l (nodes_in within) × (l < length o.nodes))
 
--- l is reached; it is pending if it wasn't reached before
-abbrev pub Reaches : ℕ → List Bool → List ℕ → List Bool → List ℕ → Type 0
-Reaches l reached pending reached' pending' =
-    (IsIn l (nodes_in reached) × (reached' ≡ reached) × (pending' ≡ pending))
-    ⊎ ((nodes_in reached l ≡ false) × (reached' ≡ slice_set reached l true) × (pending' ≡ pending ++ l ∷ []))
-
--- the neighbours of n at its ports below b are reached
-pub record Spreads (o : OpenNet) (within : List Bool) (n b : ℕ) (reached : List Bool) (pending : List ℕ) (reached' : List Bool) (pending' : List ℕ) : Type 0 where
-  pub size : length reached' ≡ length reached
-  pub kept : (k : ℕ) → IsIn k (nodes_in reached) → IsIn k (nodes_in reached')
-  pub kept_pending : (k : ℕ) → Among k pending → Among k pending'
-  pub fresh : (k : ℕ) → IsIn k (nodes_in reached') → IsIn k (nodes_in reached) ⊎ (Among k pending' × IsIn k (nodes_in within) × ((i : ℕ) × (w : ℕ) × (j : ℕ) × IsWire o w (Port n i) (Port k j)))
-  pub fresh_pending : (k : ℕ) → Among k pending' → Among k pending ⊎ (IsIn k (nodes_in reached') × (k < length reached'))
-  pub all : (i w l j : ℕ) → i < b → IsWire o w (Port n i) (Port l j) → IsIn l (nodes_in within) → IsIn l (nodes_in reached')
-  pub fewer : 2 * missing reached' + length pending' ≤ 2 * missing reached + length pending
-
--- .. for any place of the search among the found nodes
-pub record SpreadsOver (o : OpenNet) (within : List Bool) (n b : ℕ) (reached : List Bool) (found : List ℕ) (reached' : List Bool) (found' : List ℕ) : Type 0 where
-  pub size : length reached' ≡ length reached
-  pub longer : length found ≤ length found'
-  pub each : (place : ℕ) → place ≤ length found → Spreads o within n b reached (drop place found) reached' (drop place found')
-
--- these are the nodes that are reached
-abbrev pub AreReachedNodes : List Bool → List ℕ → Type 0
-AreReachedNodes reached found = (n : ℕ) → IsIn n (nodes_in reached) ↔ Among n found
-
--- the nodes that a search from a node has reached, and those whose neighbours it has not visited yet
-pub record IsSearch (o : OpenNet) (within : List Bool) (from : ℕ) (reached : List Bool) (queue : List ℕ) : Type 0 where
-  pub size : length reached ≡ length o.nodes
-  pub start : IsIn from (nodes_in reached)
-  pub sound : (k : ℕ) → IsIn k (nodes_in reached) → Linked (open_graph o) (λ m. IsIn m (nodes_in within)) from k
-  pub pending : (k : ℕ) → Among k queue → IsIn k (nodes_in reached) × (k < length o.nodes)
-  pub closed : (k : ℕ) → IsIn k (nodes_in reached) → Among k queue ⊎ ((i w l j : ℕ) → IsWire o w (Port k i) (Port l j) → IsIn l (nodes_in within) → IsIn l (nodes_in reached))
-
 -- the component of a node in a sub-net
 abbrev pub IsReached : OpenNet → List Bool → ℕ → List Bool → Type 0
 IsReached o within from c = (k : ℕ) → IsIn k (nodes_in c) ↔ Linked (open_graph o) (λ m. IsIn m (nodes_in within)) from k
@@ -108,10 +74,6 @@ pub record PortSplits (o : OpenNet) (rest : List Bool) (n i : ℕ) : Type 0 wher
   pub touched : (j w v l m k h : ℕ) → IsWire o w (Port n i) (Port l k) → IsWire o v (Port n j) (Port m h) → Linked (open_graph o) (λ m. IsIn m (nodes_in rest)) l m → class_in o n i ≡ class_in o n j
 
 module _ (o : OpenNet) (part : List Bool) where
-  -- the ports of n below b that lead into the part are of one class, which has been met
-  abbrev pub AreOfClass : ℕ → ℕ → Option ℕ → Type 0
-  AreOfClass n b met = (i : ℕ) → i < b → Touches o n (nodes_in part) i → met ≡ Some (class_in o n i)
-
   -- a node of the part splits it; it is the first one that does; and none of the nodes below b does
   abbrev pub SplitsIt : ℕ → Type 0
   SplitsIt n = IsIn n (nodes_in part) × SplitsAt (open_graph o) n (nodes_in part)
@@ -121,3 +83,7 @@ module _ (o : OpenNet) (part : List Bool) where
 
   abbrev pub NoneSplits : ℕ → Type 0
   NoneSplits b = (m : ℕ) → m < b → SplitsIt m → ⊥
+
+-- this is the first node that splits the part, or none does
+abbrev pub IsFirstIn : OpenNet → List Bool → Option ℕ → Type 0
+IsFirstIn o part found = MatchOption found (NoneSplits o part (length o.nodes)) (IsFirst o part)

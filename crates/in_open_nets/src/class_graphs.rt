@@ -15,18 +15,18 @@ use std::alloc::{AllocError, Global};
 
 /// The number of a node's hub, which the numbers of its classes follow, and that of its first hub edge.
 #[derive(Clone, Copy, Drop)]
-pub(crate) struct HubNumbers {
-    pub(crate) vertex: usize,
-    pub(crate) edge: usize,
+pub struct HubNumbers {
+    pub vertex: usize,
+    pub edge: usize,
 }
 
 /// The class graph of some nodes: the numbers of each of them, how many vertices there are, and the edges, hub edges first. It is made once
 /// for all parts, so that the numbers of other nodes are left from parts before.
 #[derive(Drop)]
-pub(crate) struct ClassGraph {
-    pub(crate) hubs: Items<HubNumbers>,
-    pub(crate) count: usize,
-    pub(crate) edges: Items<(usize, usize)>,
+pub struct ClassGraph {
+    pub hubs: Items<HubNumbers>,
+    pub count: usize,
+    pub edges: Items<(usize, usize)>,
 }
 
 /// An edge from a hub to each of `width` classes.
@@ -53,7 +53,7 @@ fn comes_first(node: usize, port: usize, other: usize, far: usize) -> bool
 
 impl ClassGraph {
     /// Of no nodes.
-    pub(crate) fn new(alloc: Global) -> ClassGraph {
+    pub fn new(alloc: Global) -> ClassGraph {
         ClassGraph {
             hubs: Items::new(alloc),
             count: 0,
@@ -161,7 +161,7 @@ impl ClassGraph {
     }
 
     /// The class graph of a part.
-    pub(crate) fn list(&mut self, alloc: Global, part: &Part) -> Result<(), AllocError>
+    pub fn list(&mut self, alloc: Global, part: &Part) -> Result<(), AllocError>
         ensures { OnOk result (IsGraphOf part.now.wired.now part.now.nodes.now self.new) }
     {
         use_promise!(part.wired.nodes());

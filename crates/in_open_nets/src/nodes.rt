@@ -2,7 +2,7 @@
 ghost use Rattle.std.specs.Prelude.{◌≡◌, ◌<◌, length, IfOk, IsTrue, false, true, ℕ};
 ghost use Rattle.in_open_nets.specs.Members.{IsUnion, missing, nodes_in};
 ghost use Rattle.in_open_nets.specs.Constructions.{IsIn};
-ghost use Rattle.in_open_nets.specs.Parts.{AreReachedNodes, IsRest};
+ghost use Rattle.in_open_nets.specs.Parts.{IsRest};
 ghost use Rattle.in_open_nets.specs.Stuck.{IsListed};
 
 use crate::scratch::Scratch;
@@ -62,31 +62,6 @@ impl NodeList {
         ensures { IsListed (nodes_in self.now) result.now }
     {
         self.members.as_slice()
-    }
-
-    /// A copy of these nodes.
-    fn copy(&self, alloc: Global) -> Result<NodeList, AllocError>
-        ensures { IfOk result (λ set. set ≡ self.now) }
-    {
-        let members = Items::from_slice(alloc, self.members.as_slice())?;
-        Ok(NodeList {
-            members,
-            count: self.count,
-        })
-    }
-
-    /// The nodes of a set, which were found in some order.
-    fn sorted(tests: &Scratch, found: Vec<u32>) -> NodeList
-        requires { AreReachedNodes tests.now found.items }
-        ensures { result ≡ tests.now }
-    {
-        let mut members = found;
-        members.sort_unstable();
-        members.dedup();
-        NodeList {
-            members: Items::from_vec(members),
-            count: tests.len(),
-        }
     }
 
     /// The nodes of a set, each of them one of these.
@@ -208,14 +183,6 @@ impl NodeSet {
         Ok(NodeSet { list, tests })
     }
 
-    /// The set that was lent.
-    pub fn into_tests(self) -> Scratch
-        ensures { result ≡ self }
-    {
-        let NodeSet { list: _, tests } = self;
-        tests
-    }
-
     /// Whether the node is a member. A node past the tests isn't one.
     pub fn has(&self, node: usize) -> bool
         ensures { result ≡ nodes_in self.now node }
@@ -223,52 +190,11 @@ impl NodeSet {
         self.tests.has(node)
     }
 
-    /// A copy of the list of these nodes.
-    pub(crate) fn copy(&self, alloc: Global) -> Result<NodeList, AllocError>
-        ensures { IfOk result (λ set. set ≡ self.now) }
-    {
-        self.list.copy(alloc)
-    }
-
-    /// How many members there are.
-    pub(crate) fn count(&self) -> usize {
-        self.list.members.len()
-    }
-
-    /// How many nodes are no members.
-    pub fn absent(&self) -> usize
-        ensures { result ≡ missing self.now }
-    {
-        self.tests.absent()
-    }
-
     /// The members in rising order.
     pub fn members(&self) -> &[u32]
         ensures { IsListed (nodes_in self.now) result.now }
     {
         self.list.members()
-    }
-
-    /// The nodes of a set, each of them one of these, which were found in some order.
-    pub(crate) fn narrowed(
-        &self,
-        alloc: Global,
-        tests: &Scratch,
-        found: Vec<u32>,
-    ) -> Result<NodeList, AllocError>
-        requires size { length tests.now ≡ length self.now }
-        requires within { (n : ℕ) → IsIn n (nodes_in tests.now) → IsIn n (nodes_in self.now) }
-        requires found { AreReachedNodes tests.now found.items }
-        ensures { IfOk result (λ set. set ≡ tests.now) }
-    {
-        // Mostly a node is taken out of one component. All nodes are visited only for a good part of them.
-        if tests.absent() <= self.absent() {
-            self.list.copy(alloc)
-        } else if found.len() < self.count() / 16 {
-            Ok(NodeList::sorted(tests, found))
-        } else {
-            self.list.narrowed(alloc, tests)
-        }
     }
 
     /// These without one, and the list of these.

@@ -2,37 +2,14 @@ ghost use Rattle.std.specs.Prelude.{◌≡◌, ◌<◌, ◌↔◌, length, IfOk,
 ghost use Rattle.in_simple_bridges.specs.Cycles.{AreCycles};
 ghost use Rattle.in_open_nets.specs.ClassEdges.{IsGraphOf};
 ghost use Rattle.in_open_nets.specs.OpenNets.{IsOrderly};
-ghost use Rattle.in_open_nets.specs.Tries.{AreTried, IsFirstIn, IsTried};
-ghost use Rattle.in_open_nets.specs.Parts.{SplitsIt};
+ghost use Rattle.in_open_nets.specs.Parts.{IsFirstIn, SplitsIt};
 
 use crate::class_graphs::ClassGraph;
-use crate::components::neighbour;
-use crate::parts::{Candidate, Part};
-use crate::trials::Trials;
+use crate::parts::Part;
 use in_base::use_promise;
 use in_simple_bridges::on_cycles;
 use sqlite_items::Items;
 use std::alloc::{AllocError, Global};
-
-/// Whether all ports of the candidate that lead into the part are of one class: then it splits the part, for any other wires.
-fn touches_by_one_class(candidate: &Candidate) -> bool
-    ensures splits { IsTrue result → SplitsIt candidate.now.part.wired.now candidate.now.part.nodes.now candidate.now.node }
-    ensures net { IsOrderly candidate.now.part.wired.now }
-{
-    let wired = candidate.part.wired;
-    let node = candidate.node;
-    let mut met: Option<usize> = None;
-    for port in 0..wired.ports(node) {
-        if neighbour(&candidate.part, node, port).is_some() {
-            let class = wired.class(node, port);
-            if met.unwrap_or(class) != class {
-                return false;
-            }
-            met = Some(class);
-        }
-    }
-    true
-}
 
 /// Whether the node is in the part and splits it: each of its hub edges is a bridge.
 fn splits(part: &Part, graph: &ClassGraph, cycles: &Items<bool>, node: usize) -> bool
@@ -75,51 +52,8 @@ fn first_in(alloc: Global, part: &Part, graph: &ClassGraph) -> Result<Option<usi
     Ok(first_off_cycles(part, graph, &cycles))
 }
 
-/// Whether the candidate splits the part, by the cycle through it that was found before, or by its own ports, or by a search from it.
-fn tried(
-    alloc: Global,
-    candidate: &Candidate,
-    trials: &mut Trials,
-) -> Result<Option<bool>, AllocError>
-    requires { trials.old.cycles ≡ candidate.now.part.wired.now }
-    ensures same { trials.new.cycles ≡ trials.old.cycles }
-    ensures tried { IfOk result (IsTried candidate.now.part.wired.now candidate.now.part.nodes.now candidate.now.node) }
-{
-    if trials.has_cycle(candidate) {
-        Ok(Some(false))
-    } else if touches_by_one_class(candidate) {
-        Ok(Some(true))
-    } else {
-        trials.find(alloc, candidate)
-    }
-}
-
-/// The first node of the part that splits it, by trying one after another, if that decides it.
-fn first_by_trials(
-    alloc: Global,
-    part: &Part,
-    trials: &mut Trials,
-) -> Result<Option<Option<usize>>, AllocError>
-    requires { trials.old.cycles ≡ part.now.wired.now }
-    ensures same { trials.new.cycles ≡ trials.old.cycles }
-    ensures net { IfOk result (λ found. IsOrderly part.now.wired.now) }
-    ensures found { IfOk result (AreTried part.now.wired.now part.now.nodes.now) }
-{
-    use_promise!(part.wired.nodes());
-    for member in part.nodes.members() {
-        let node = *member as usize;
-        let candidate = Candidate { part: *part, node };
-        match tried(alloc, &candidate, trials)? {
-            Some(true) => return Ok(Some(Some(node))),
-            Some(false) => {}
-            None => return Ok(None),
-        }
-    }
-    Ok(Some(None))
-}
-
-/// The first node of the part that splits it, by the part's class graph.
-fn first_by_bridges(
+/// The first node of the part, by number, that splits it: each of its hub edges in the part's class graph is a bridge. The graph is listed anew.
+pub fn first_splitting(
     alloc: Global,
     part: &Part,
     graph: &mut ClassGraph,
@@ -129,22 +63,4 @@ fn first_by_bridges(
 {
     graph.list(alloc, part)?;
     first_in(alloc, part, graph)
-}
-
-/// The first node of the part that splits it. Its class graph is listed only if trying its nodes one by one takes too long.
-pub fn first_splitting(
-    alloc: Global,
-    part: &Part,
-    trials: &mut Trials,
-) -> Result<Option<usize>, AllocError>
-    requires { trials.old.cycles ≡ part.now.wired.now }
-    ensures same { trials.new.cycles ≡ trials.old.cycles }
-    ensures net { IfOk result (λ found. IsOrderly part.now.wired.now) }
-    ensures found { IfOk result (IsFirstIn part.now.wired.now part.now.nodes.now) }
-{
-    trials.begin(part.nodes);
-    match first_by_trials(alloc, part, trials)? {
-        Some(found) => Ok(found),
-        None => first_by_bridges(alloc, part, &mut trials.graph),
-    }
 }

@@ -225,7 +225,7 @@ impl<'a> Wired<'a> {
     }
 
     /// How many class numbers the node has: an agent's principal port is class 0.
-    pub(crate) fn width(&self, node: usize) -> usize
+    pub fn width(&self, node: usize) -> usize
         requires { node < length self.now.nodes }
         ensures width { result ≡ width_of self.now node }
         ensures few { result ≤ 256 }

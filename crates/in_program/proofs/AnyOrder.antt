@@ -11,7 +11,7 @@ use Rattle.in_check.specs.NetText.{text}
 use Rattle.in_check.specs.Programs.{Program}
 use Rattle.in_check.specs.Runs.{Reached}
 use Rattle.in_check.specs.Systems.{System, rule_in, system_of}
-use Rattle.in_check.proofs.Public.{checked_once}
+use Rattle.in_check.proofs.Public.{programs_once}
 use Rattle.in_order.specs.Ends.{words_in, Ends, EndsOnce}
 use Rattle.in_limits.specs.declared.limits.Limits.{Limits}
 use Rattle.in_run.specs.declared.running.Outcome.{Outcome}
@@ -43,8 +43,8 @@ ends_kept p q k written h e = record {
   agents = e.agents;
   are_agents = e.are_agents;
   is_text = e.is_text
-      ∙ ap (λ t. text (signature_of t) (words_in (record { tables = t; rules = p.rules; net = p.net; numbers = p.numbers; rule_certificates = p.rule_certificates; net_certificate = p.net_certificate })) nat_eq e.net (length e.agents) []) h.tables
-      ∙ ap (λ n. text (signature_of q.tables) (words_in (record { tables = q.tables; rules = p.rules; net = n; numbers = p.numbers; rule_certificates = p.rule_certificates; net_certificate = p.net_certificate })) nat_eq e.net (length e.agents) []) h.net;
+      ∙ ap (λ t. text (signature_of t) (words_in (record { tables = t; rules = p.rules; net = p.net; numbers = p.numbers })) nat_eq e.net (length e.agents) []) h.tables
+      ∙ ap (λ n. text (signature_of q.tables) (words_in (record { tables = q.tables; rules = p.rules; net = n; numbers = p.numbers })) nat_eq e.net (length e.agents) []) h.net;
 }
 
 -- the program of a reply with status 0; the lines begin with the shown part of the net's text
@@ -75,7 +75,7 @@ normal : (l : Limits) (input lines : List ℕ) (s : Status) (r : Report) → IsR
 normal l input lines s r so e is zero = go r so e (sym zero ∙ is)
   where
     go : (r : Report) → IsReport (Run l) input r → lines ≡ lines_of input r → status 0 ≡ status_of r → IsNormal all_shown input lines
-    go (accepted q (ran m k s)) h e is = after_run all_shown l input lines q m k s h.0 h.1 e is
+    go (accepted q (ran m k s)) h e is = after_run all_shown l input lines q.program m k s (q, refl, h.0) h.1 e is
     go (accepted q (full c need free)) h e is = absurd (let z : 0 ≡ 4 = ap (λ s. s.0) is in cc)
     go (accepted q counted) h e is = elim h.1 [ ]
     go (accepted q derived) h e is = elim h.1 [ ]
@@ -86,7 +86,7 @@ normal_count : (l : Limits) (input lines : List ℕ) (s : Status) (r : Report) �
 normal_count l input lines s r so e is zero = go r so e (sym zero ∙ is)
   where
     go : (r : Report) → IsReport (Count l) input r → lines ≡ lines_of input r → status 0 ≡ status_of r → IsNormal none_shown input lines
-    go (accepted q (stopped m k s)) h e is = after_run none_shown l input lines q m k s h.0 h.1 e is
+    go (accepted q (stopped m k s)) h e is = after_run none_shown l input lines q.program m k s (q, refl, h.0) h.1 e is
     go (accepted q (full c need free)) h e is = absurd (let z : 0 ≡ 4 = ap (λ s. s.0) is in cc)
     go (accepted q counted) h e is = elim h.1 [ ]
     go (accepted q derived) h e is = elim h.1 [ ]
@@ -96,7 +96,7 @@ normal_count l input lines s r so e is zero = go r so e (sym zero ∙ is)
 -- each end of the program gives these lines
 one_normal : (shown : List ℕ → List ℕ) (input lines : List ℕ) → IsNormal shown input lines → (p : Program) → IsAccepted input p → (k : ℕ) (written : List ℕ) → Ends p k written → lines ≡ shown written ++ run_lines k Normal
 one_normal shown input lines n p valid k written ends =
-    let one = n.once.1 k written (ends_kept p n.program k written (checked_once input (Ok p) (Ok n.program) valid n.valid) ends) in
+    let one = n.once.1 k written (ends_kept p n.program k written (programs_once input p n.program valid n.valid) ends) in
     n.lines_are ∙ (λ i. shown (one.1 i) ++ run_lines (one.0 i) Normal)
 
 of_each_end : (a : Action) (input lines : List ℕ) (s : Status) (r : Report) → IsReport a input r → lines ≡ lines_of input r → s ≡ status_of r → IsOfEachEnd a input lines s

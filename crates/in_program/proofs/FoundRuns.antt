@@ -1,7 +1,7 @@
 -- The outcome of a program's run, with or without its net.
 use Rattle.std.proofs.Common.{ℕ, List, ◌++◌, Bool, true, false, Ok}
 use Rattle.in_arena.specs.declared.content.CellClass.{CellClass}
-use Rattle.in_check.specs.Programs.{Program}
+use Rattle.in_check.specs.Programs.{Certified}
 use Rattle.in_limits.specs.declared.limits.Limits.{Limits}
 use Rattle.in_machine.specs.Starts.{DoesNotFit}
 use Rattle.in_machine.specs.Texts.{text_of}
@@ -12,12 +12,12 @@ use Rattle.in_program.specs.declared.acting.Status.{Status}
 use Rattle.in_program.specs.Acting.{AreFound, AreThese, full, net_shown, ran, run_action, status, stop_status, stopped}
 use Rattle.in_program.specs.Lines.{run_lines, start_line}
 
-pub found_run : (net : Bool) (l : Limits) (p : Program) (m : MachineParts) (k : ℕ) (s : Stop) (lines : List ℕ) (t : Status) → RunsTo p l (Ok (record { machine = m; interactions = k; stop = s }))
+pub found_run : (net : Bool) (l : Limits) (p : Certified) (m : MachineParts) (k : ℕ) (s : Stop) (lines : List ℕ) (t : Status) → RunsTo p.program l (Ok (record { machine = m; interactions = k; stop = s }))
     → AreThese (net_shown net (text_of m) ++ run_lines k s) (stop_status s) lines t → AreFound (run_action net l) p lines t
 found_run true l p m k s lines t runs h = (ran m k s, runs, h.0, h.1)
 found_run false l p m k s lines t runs h = (stopped m k s, runs, h.0, h.1)
 
-pub found_full : (net : Bool) (l : Limits) (p : Program) (c : CellClass) (need free : ℕ) (lines : List ℕ) (t : Status) → DoesNotFit p l.cells c need free
+pub found_full : (net : Bool) (l : Limits) (p : Certified) (c : CellClass) (need free : ℕ) (lines : List ℕ) (t : Status) → DoesNotFit p.program l.cells c need free
     → AreThese (start_line c need free) (status 4) lines t → AreFound (run_action net l) p lines t
 found_full true l p c need free lines t not h = (full c need free, not, h.0, h.1)
 found_full false l p c need free lines t not h = (full c need free, not, h.0, h.1)

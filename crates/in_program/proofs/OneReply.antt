@@ -11,13 +11,13 @@ use Rattle.in_limits.specs.declared.limits.Limits.{Limits}
 use Rattle.in_machine.specs.Starts.{DoesNotFit}
 use Rattle.in_check.specs.declared.checked.Certificate.{Certificate}
 use Rattle.in_check.specs.declared.checked.ProgramCounts.{ProgramCounts}
-use Rattle.in_check.specs.Laws.{AreOneProgram}
-use Rattle.in_check.specs.Programs.{Program, counts_of}
+use Rattle.in_check.specs.Laws.{AreOneCertified, AreOneProgram}
+use Rattle.in_check.specs.Programs.{Certified, Program, counts_of}
 use Rattle.in_check.proofs.Public.{checked_once}
 use Rattle.in_program.specs.Acting.{Finding, counted, derived, ran, stopped, full, IsFinding, finding_lines, finding_status, stop_status, Report, accepted, refused, IsReport, lines_of, status_of}
 use Rattle.in_program.specs.Laws.{TakesTurns, TextsAreAnsweredOnce}
 use Rattle.in_arena.specs.declared.content.CellClass.{CellClass}
-use Rattle.in_check.specs.Checking.{IsAccepted}
+use Rattle.in_check.specs.Checking.{IsCertified}
 use Rattle.in_program.specs.Lines.{accepted_line, refused_line, run_lines, start_line}
 use Rattle.in_compile.specs.Cells.{agents_of}
 use Rattle.in_compile.proofs.Public.{one_short, short_needed}
@@ -30,15 +30,15 @@ counts_alike p q h =
     ∙ ap (λ (r : List RuleParts). let x : ProgramCounts = record { types = length q.tables.types; symbols = length q.tables.names; rules = length r; agents = count_by is_some p.net.cells } in x) h.rules
     ∙ ap (λ (n : Parts). let x : ProgramCounts = record { types = length q.tables.types; symbols = length q.tables.names; rules = length q.rules; agents = count_by is_some n.cells } in x) h.net
 
-steps_alike : (p q : Program) → AreOneProgram p q → derivation_lines p ≡ derivation_lines q
-steps_alike p q h =
-    ap (λ (t : Tables). rules_lines t p.rules p.rule_certificates ++ net_lines t p.net_certificate) h.tables
-    ∙ ap (λ (r : List RuleParts). rules_lines q.tables r p.rule_certificates ++ net_lines q.tables p.net_certificate) h.rules
-    ∙ ap (λ (cs : List Certificate). rules_lines q.tables q.rules cs ++ net_lines q.tables p.net_certificate) h.rule_certificates
-    ∙ ap (λ (c : Certificate). rules_lines q.tables q.rules q.rule_certificates ++ net_lines q.tables c) h.net_certificate
+steps_alike : (c d : Certified) → AreOneCertified c d → derivation_lines c ≡ derivation_lines d
+steps_alike c d h =
+    ap (λ (t : Tables). rules_lines t c.program.rules c.rule_certificates ++ net_lines t c.net_certificate) h.program.tables
+    ∙ ap (λ (r : List RuleParts). rules_lines d.program.tables r c.rule_certificates ++ net_lines d.program.tables c.net_certificate) h.program.rules
+    ∙ ap (λ (cs : List Certificate). rules_lines d.program.tables d.program.rules cs ++ net_lines d.program.tables c.net_certificate) h.rule_certificates
+    ∙ ap (λ (x : Certificate). rules_lines d.program.tables d.program.rules d.rule_certificates ++ net_lines d.program.tables x) h.net_certificate
 
 turned : (p q : Program) → AreOneProgram p q → AreOneProgram q p
-turned p q h = record { tables = sym h.tables; rules = sym h.rules; net = sym h.net; numbers = λ c d. sym (h.numbers c d); rule_certificates = sym h.rule_certificates; net_certificate = sym h.net_certificate }
+turned p q h = record { tables = sym h.tables; rules = sym h.rules; net = sym h.net; numbers = λ c d. sym (h.numbers c d) }
 
 -- a net that doesn't fit is reported in one way
 one_full : (p q : Program) (l : Limits) (c d : CellClass) (need free more less : ℕ) → AreOneProgram p q → DoesNotFit p l.cells c need free → DoesNotFit q l.cells d more less → start_line c need free ≡ start_line d more less
@@ -48,25 +48,25 @@ one_full p q l c d need free more less same (short, is, all) (shorter, are, each
     let need_is : need ≡ more = is ∙ same_agents p q same c ∙ ap (λ (e : CellClass). agents_of q.tables e q.net.cells) class ∙ sym are in
     (λ i. start_line (class i) (need_is i) ((all ∙ ap (amount l.cells) class ∙ sym each) i))
 
-one_finding : (text : List ℕ) (a : Action) (p q : Program) (x y : Finding) → AreOneProgram p q → IsAccepted text q → TakesTurns a → IsFinding a p x → IsFinding a q y → (finding_lines p x ≡ finding_lines q y) × (finding_status x ≡ finding_status y)
-one_finding text Check p q counted counted same valid turns h k = (ap accepted_line (counts_alike p q same), refl)
+one_finding : (text : List ℕ) (a : Action) (p q : Certified) (x y : Finding) → AreOneCertified p q → IsCertified text q → TakesTurns a → IsFinding a p.program x → IsFinding a q.program y → (finding_lines p x ≡ finding_lines q y) × (finding_status x ≡ finding_status y)
+one_finding text Check p q counted counted same valid turns h k = (ap accepted_line (counts_alike p.program q.program same.program), refl)
 one_finding text Derive p q derived derived same valid turns h k = (steps_alike p q same, refl)
 one_finding text (Run l) p q (ran n j s) (ran r k t) same valid turns h g =
     let x = h.1 turns in
     let y = g.1 turns in
-    let one = one_run text p q l x.0 n y.0 r j k s t same valid x.1 x.2 y.1 y.2 in
+    let one = one_run text p.program q.program l x.0 n y.0 r j k s t same.program (q, refl, valid) x.1 x.2 y.1 y.2 in
     ((λ i. one.0 i ++ run_lines (one.1 i) (one.2 i)), ap stop_status one.2)
-one_finding text (Run l) p q (ran n j s) (full c need free) same valid turns h g = absurd (starts_or_not p q same l.cells h.0.0.start.0 c need free h.0.0.start.1 g)
-one_finding text (Run l) p q (full c need free) (ran r k t) same valid turns h g = absurd (starts_or_not q p (turned p q same) l.cells g.0.0.start.0 c need free g.0.0.start.1 h)
-one_finding text (Run l) p q (full c need free) (full d more less) same valid turns h g = (one_full p q l c d need free more less same h g, refl)
+one_finding text (Run l) p q (ran n j s) (full c need free) same valid turns h g = absurd (starts_or_not p.program q.program same.program l.cells h.0.0.start.0 c need free h.0.0.start.1 g)
+one_finding text (Run l) p q (full c need free) (ran r k t) same valid turns h g = absurd (starts_or_not q.program p.program (turned p.program q.program same.program) l.cells g.0.0.start.0 c need free g.0.0.start.1 h)
+one_finding text (Run l) p q (full c need free) (full d more less) same valid turns h g = (one_full p.program q.program l c d need free more less same.program h g, refl)
 one_finding text (Count l) p q (stopped n j s) (stopped r k t) same valid turns h g =
     let x = h.1 turns in
     let y = g.1 turns in
-    let one = one_run text p q l x.0 n y.0 r j k s t same valid x.1 x.2 y.1 y.2 in
+    let one = one_run text p.program q.program l x.0 n y.0 r j k s t same.program (q, refl, valid) x.1 x.2 y.1 y.2 in
     ((λ i. run_lines (one.1 i) (one.2 i)), ap stop_status one.2)
-one_finding text (Count l) p q (stopped n j s) (full c need free) same valid turns h g = absurd (starts_or_not p q same l.cells h.0.0.start.0 c need free h.0.0.start.1 g)
-one_finding text (Count l) p q (full c need free) (stopped r k t) same valid turns h g = absurd (starts_or_not q p (turned p q same) l.cells g.0.0.start.0 c need free g.0.0.start.1 h)
-one_finding text (Count l) p q (full c need free) (full d more less) same valid turns h g = (one_full p q l c d need free more less same h g, refl)
+one_finding text (Count l) p q (stopped n j s) (full c need free) same valid turns h g = absurd (starts_or_not p.program q.program same.program l.cells h.0.0.start.0 c need free h.0.0.start.1 g)
+one_finding text (Count l) p q (full c need free) (stopped r k t) same valid turns h g = absurd (starts_or_not q.program p.program (turned p.program q.program same.program) l.cells g.0.0.start.0 c need free g.0.0.start.1 h)
+one_finding text (Count l) p q (full c need free) (full d more less) same valid turns h g = (one_full p.program q.program l c d need free more less same.program h g, refl)
 one_finding text Check p q counted derived same valid turns h k = elim k [ ]
 one_finding text Check p q counted (ran r _ t) same valid turns h k = elim k [ ]
 one_finding text Check p q counted (stopped r _ t) same valid turns h k = elim k [ ]

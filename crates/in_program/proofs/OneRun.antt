@@ -36,7 +36,7 @@ use Rattle.in_machine.specs.Texts.{text_of}
 
 module _ (ns : Cells) where
   abbrev numbered : Program → Program
-  numbered p = record { tables = p.tables; rules = p.rules; net = p.net; numbers = ns; rule_certificates = p.rule_certificates; net_certificate = p.net_certificate }
+  numbered p = record { tables = p.tables; rules = p.rules; net = p.net; numbers = ns }
 
   abbrev renumbered : MachineParts → MachineParts
   renumbered m = record { program = numbered m.program; agents = m.agents; free = m.free; queue = m.queue; vacant = m.vacant }
@@ -88,7 +88,7 @@ module _ (p q : Program) (same : AreOneProgram p q) where
   start_kept : (cells : CellCounts) (m : MachineParts) → IsStart p cells m → IsStart q cells (renumbered q.numbers m)
   start_kept cells m h = record {
     program = ap (numbered q.numbers) h.program
-        ∙ (λ i. record { tables = same.tables i; rules = same.rules i; net = same.net i; numbers = q.numbers; rule_certificates = same.rule_certificates i; net_certificate = same.net_certificate i });
+        ∙ (λ i. record { tables = same.tables i; rules = same.rules i; net = same.net i; numbers = q.numbers });
     over = subst (λ (t : Tables). IsOver t (parts_of m)) same.tables h.over;
     name = h.name;
     net = subst (λ (n : Parts). IsRenamed h.name (net_of n) (net_of (parts_of m))) same.net h.net;

@@ -8,8 +8,8 @@ use Rattle.in_limits.specs.declared.limits.Limits.{Limits}
 use Rattle.in_command_line.specs.declared.action.Usage.{Usage}
 use Rattle.in_command_line.specs.declared.action.Usage.TheVariants.{Wrong, Help, Version, Memory}
 use Rattle.in_program.specs.declared.acting.Status.{Status}
-use Rattle.in_check.specs.Checking.{IsAccepted, IsRefused}
-use Rattle.in_check.specs.Programs.{Program, counts_of}
+use Rattle.in_check.specs.Checking.{IsAccepted, IsCertified, IsRefused}
+use Rattle.in_check.specs.Programs.{Certified, Program, counts_of}
 use Rattle.in_arena.specs.declared.content.CellClass.{CellClass}
 use Rattle.in_print.specs.Devices.{Moves}
 use Rattle.in_machine.specs.Texts.{text_of}
@@ -54,8 +54,8 @@ IsFinding (Count l) p (full c need free) = DoesNotFit p l.cells c need free
 IsFinding _ p _ = ⊥
 
 -- its lines: for a run the net, if it is shown, and then the count and the stop
-abbrev pub finding_lines : Program → Finding → List ℕ
-finding_lines p counted = accepted_line (counts_of p)
+abbrev pub finding_lines : Certified → Finding → List ℕ
+finding_lines p counted = accepted_line (counts_of p.program)
 finding_lines p derived = derivation_lines p
 finding_lines p (ran m k s) = text_of m ++ run_lines k s
 finding_lines p (stopped m k s) = run_lines k s
@@ -75,12 +75,12 @@ finding_status (full c need free) = status 4
 
 -- the output of the program on a text
 pub data Report : Type 0 where
-  accepted : Program → Finding → Report
+  accepted : Certified → Finding → Report
   refused : Refusal → Report
 
 -- the output is right for the action and the text
 abbrev pub IsReport : Action → List ℕ → Report → Type 0
-IsReport a text (accepted p f) = IsAccepted text p × IsFinding a p f
+IsReport a text (accepted p f) = IsCertified text p × IsFinding a p.program f
 IsReport a text (refused r) = IsRefused text r
 
 abbrev pub lines_of : List ℕ → Report → List ℕ
@@ -155,8 +155,8 @@ abbrev pub AreThese : List ℕ → Status → List ℕ → Status → Type 0
 AreThese these this lines s = (lines ≡ these) × (s ≡ this)
 
 -- the lines and the status are those of the finding on a program
-abbrev pub AreFound : Action → Program → List ℕ → Status → Type 0
-AreFound a p lines s = (f : Finding) × IsFinding a p f × (lines ≡ finding_lines p f) × (s ≡ finding_status f)
+abbrev pub AreFound : Action → Certified → List ℕ → Status → Type 0
+AreFound a p lines s = (f : Finding) × IsFinding a p.program f × (lines ≡ finding_lines p f) × (s ≡ finding_status f)
 
 -- the net's text, if it is shown
 abbrev pub net_shown : Bool → List ℕ → List ℕ

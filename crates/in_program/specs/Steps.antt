@@ -10,7 +10,7 @@ use Rattle.in_open_nets.specs.declared.derivations.Step.{Step}
 use Rattle.in_open_nets.specs.declared.derivations.Step.TheVariants.{Empty, Link, Given, Graft, Cut, Mix}
 use Rattle.in_open_nets.specs.OpenNets.{OpenNet, node_in}
 use Rattle.in_check.specs.declared.checked.Certificate.{Certificate}
-use Rattle.in_check.specs.Programs.{Program}
+use Rattle.in_check.specs.Programs.{Certified}
 use Rattle.in_program.specs.Lines.{line_end}
 
 -- the name of an agent's symbol; of a class node the name of its head's symbol and the class
@@ -55,5 +55,5 @@ rules_lines t (p ∷ ps) (c ∷ cs) = rule_lines t p c ++ rules_lines t ps cs
 abbrev pub net_lines : Tables → Certificate → List ℕ
 net_lines t c = codes "net" ++ (line_end ++ certificate_lines t c)
 
-abbrev pub derivation_lines : Program → List ℕ
-derivation_lines p = rules_lines p.tables p.rules p.rule_certificates ++ net_lines p.tables p.net_certificate
+abbrev pub derivation_lines : Certified → List ℕ
+derivation_lines c = rules_lines c.program.tables c.program.rules c.rule_certificates ++ net_lines c.program.tables c.net_certificate

@@ -169,9 +169,9 @@ fn add_rule(
     checked: &Checked,
     number: u32,
 ) -> Result<(), AllocError>
-    requires { number < length checked.now.rules }
-    ensures { OnOk result (bytes.new.items ++ rules_lines checked.now.tables (drop (number + 1) checked.now.rules) (drop (number + 1) checked.now.rule_certificates)
-        ≡ bytes.old.items ++ rules_lines checked.now.tables (drop number checked.now.rules) (drop number checked.now.rule_certificates)) }
+    requires { number < length checked.now.program.rules }
+    ensures { OnOk result (bytes.new.items ++ rules_lines checked.now.program.tables (drop (number + 1) checked.now.program.rules) (drop (number + 1) checked.now.rule_certificates)
+        ≡ bytes.old.items ++ rules_lines checked.now.program.tables (drop number checked.now.program.rules) (drop number checked.now.rule_certificates)) }
 {
     let symbols = checked.symbols();
     let item = Item::RuleItem(RuleNo(number));
@@ -188,7 +188,7 @@ fn add_rule(
 
 /// Adds the lines of the rules.
 fn add_rules(bytes: &mut Vec<u8>, alloc: Global, checked: &Checked) -> Result<(), AllocError>
-    ensures { OnOk result (bytes.new.items ≡ bytes.old.items ++ rules_lines checked.now.tables checked.now.rules checked.now.rule_certificates) }
+    ensures { OnOk result (bytes.new.items ≡ bytes.old.items ++ rules_lines checked.now.program.tables checked.now.program.rules checked.now.rule_certificates) }
 {
     for number in 0..checked.rules() {
         add_rule(bytes, alloc, checked, number)?;

@@ -32,7 +32,7 @@ declared_as p (Named k) = slice_index_or p.net.free k (cut_end (record { kind = 
 declared_as p (Cut kind) = cut_end kind
 
 abbrev pub own_free : Body → List FreeEnd
-own_free r = map (declared_as r.checked.now) r.free.items
+own_free r = map (declared_as r.checked.now.program) r.free.items
 
 -- a free end of the program exists
 abbrev pub IsOwnEnd : Program → OwnEnd → Type 0
@@ -44,7 +44,7 @@ IsOwnEnd p (Cut kind) = Unit {0}
 -- a cell that is on lease counts as free
 abbrev pub reducer_view : Body → MachineParts
 reducer_view r = record {
-  program = r.checked.now;
+  program = r.checked.now.program;
   agents = agents_in r.arena;
   free = leading_to (own_free r) r.ends.items;
   queue = r.queue.items;
@@ -76,10 +76,10 @@ pub record AreTools (x : Tools) (a : ArenaView) : Type 0 where
 -- the invariant of the net, for any tools
 pub record KeepsNet (r : Body) : Type 0 where
   pub reducer : IsReducer (reducer_view r)
-  pub net : IsNetIn r.checked.now.tables (at_rest r.arena)
+  pub net : IsNetIn r.checked.now.program.tables (at_rest r.arena)
   pub few : AreAllowed r.arena.cells
   pub few_free : length r.free.items ≤ most_free
-  pub free : (k : ℕ) (e : OwnEnd) → slice_get r.free.items k ≡ Some e → IsOwnEnd r.checked.now e
+  pub free : (k : ℕ) (e : OwnEnd) → slice_get r.free.items k ≡ Some e → IsOwnEnd r.checked.now.program e
   pub ends : length r.free.items + most_ends + most_ends ≤ length r.ends.items
   pub queue : all_of r.arena.cells + 2 * most_ends ≤ 2 * r.queue.room + 1
 

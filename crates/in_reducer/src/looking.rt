@@ -17,7 +17,7 @@ use in_symbols::SymbolNo;
 impl<'a> Reducer<'a> {
     /// Its program.
     pub fn checked(&self) -> &'a Checked
-        ensures { result.now ≡ self.now.program }
+        ensures { result.now.program ≡ self.now.program }
     {
         self.body.checked
     }

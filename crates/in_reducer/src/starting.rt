@@ -78,10 +78,10 @@ impl<'a> Reducer<'a> {
         templates: &Templates,
         cells: CellCounts,
     ) -> Result<Reducer<'a>, AllocError>
-        requires templates { AreTemplatesOf checked.now templates.now }
+        requires templates { AreTemplatesOf checked.now.program templates.now }
         requires cells { AreAllowed cells }
-        requires fits { (c : Class) → agents_of checked.now.tables c checked.now.net.cells ≤ amount cells c }
-        ensures { IfOk result (IsStart checked.now cells) }
+        requires fits { (c : Class) → agents_of checked.now.program.tables c checked.now.program.net.cells ≤ amount cells c }
+        ensures { IfOk result (IsStart checked.now.program cells) }
     {
         use_promise!(checked.is_accepted());
         let free = free_ends(alloc, checked.net())?;

@@ -84,7 +84,7 @@ module _ (r : Body) (b : ArenaView) (memory : b.memory ≡ r.arena.memory) (cell
   pub keeps_net : KeepsNet r → KeepsNet (over b r)
   keeps_net k = record {
     reducer = subst IsReducer (sym view_same) k.reducer;
-    net = subst (IsNetIn r.checked.now.tables) (sym (rest_same r.arena b memory cells many each)) k.net;
+    net = subst (IsNetIn r.checked.now.program.tables) (sym (rest_same r.arena b memory cells many each)) k.net;
     few = subst AreAllowed (sym cells) k.few;
     few_free = k.few_free;
     free = k.free;

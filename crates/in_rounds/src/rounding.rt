@@ -35,7 +35,7 @@ fn jobs(
     count: u32,
 ) -> Result<Vec<(SymbolNo, SymbolNo)>, AllocError>
     requires net { KeepsNet body.now }
-    requires templates { AreTemplatesOf body.now.checked.now templates.now }
+    requires templates { AreTemplatesOf body.now.checked.now.program templates.now }
     requires count { count ≤ length body.now.queue.items }
     ensures plan { IfOk result (λ v. IsPlan (record { templates = templates.now; jobs = v.items })) }
     ensures count { IfOk result (λ v. length v.items ≡ count) }

@@ -49,7 +49,7 @@ pub(crate) fn stitch_all<'t>(
     gather: &mut Gather<'t>,
 ) -> u32
     requires all { KeepsAll body.old }
-    requires templates { AreTemplatesOf body.old.checked.now templates.now }
+    requires templates { AreTemplatesOf body.old.checked.now.program templates.now }
     requires made { AreMadeWith templates.now gather.old.slots }
     requires lent { HaveAllLeased (bags_of gather.old.slots) body.old.arena }
     requires jobs { jobs ≤ length body.old.queue.items }

@@ -20,9 +20,9 @@ pub fn run_in_turn<'a>(
     checked: &'a Checked,
     limits: Limits,
 ) -> Result<Outcome<'a>, StartFault>
-    ensures turn { RunsInTurn checked.now limits (at_start result) }
-    ensures runs { RunsTo checked.now limits (at_start result) }
-    ensures order { IfOk result (λ o. o.stop ≡ Normal → EndsOnce checked.now o.interactions (text_of o.machine)) }
+    ensures turn { RunsInTurn checked.now.program limits (at_start result) }
+    ensures runs { RunsTo checked.now.program limits (at_start result) }
+    ensures order { IfOk result (λ o. o.stop ≡ Normal → EndsOnce checked.now.program o.interactions (text_of o.machine)) }
 {
     use_promise!(checked.is_accepted());
     let mut machine = Machine::with_counts(alloc, checked, limits.cells())?;

@@ -58,9 +58,9 @@ pub fn run_watched<'a, R: Threads, W: Watch>(
     limits: Limits,
     watch: &mut W,
 ) -> Result<Outcome<'a>, RunFault<'a>>
-    ensures runs { RunsTo checked.now limits result }
-    ensures full { (limits.workers ≡ 1 → ⊥) → GoesOnToTheEnd checked.now limits result }
-    ensures order { IfOk result (λ o. o.stop ≡ Normal → EndsOnce checked.now o.interactions (text_of o.machine)) }
+    ensures runs { RunsTo checked.now.program limits result }
+    ensures full { (limits.workers ≡ 1 → ⊥) → GoesOnToTheEnd checked.now.program limits result }
+    ensures order { IfOk result (λ o. o.stop ≡ Normal → EndsOnce checked.now.program o.interactions (text_of o.machine)) }
 {
     use_promise!(checked.is_accepted());
     watch.begin();
@@ -116,9 +116,9 @@ pub fn run<'a, R: Threads + Wait, G: Gate + Sync>(
     limits: Limits,
     _gate: &G,
 ) -> Result<Outcome<'a>, RunFault<'a>>
-    ensures runs { RunsTo checked.now limits result }
-    ensures full { (limits.workers ≡ 1 → ⊥) → GoesOnToTheEnd checked.now limits result }
-    ensures order { IfOk result (λ o. o.stop ≡ Normal → EndsOnce checked.now o.interactions (text_of o.machine)) }
+    ensures runs { RunsTo checked.now.program limits result }
+    ensures full { (limits.workers ≡ 1 → ⊥) → GoesOnToTheEnd checked.now.program limits result }
+    ensures order { IfOk result (λ o. o.stop ≡ Normal → EndsOnce checked.now.program o.interactions (text_of o.machine)) }
 {
     run_watched(rt, alloc, checked, limits, &mut NoWatch)
 }

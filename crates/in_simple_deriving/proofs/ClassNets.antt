@@ -3,7 +3,7 @@ use Rattle.std.proofs.Common.{◌≡◌, ◌≢◌, ◌⊎◌, ◌↔◌, ◌<�
 use Rattle.in_open_nets.specs.declared.open_nets.OpenPoint.{OpenPoint}
 use Rattle.in_open_nets.specs.declared.open_nets.OpenPoint.TheVariants.{Port}
 use Rattle.in_simple_deriving.specs.declared.plans.StackStep.TheVariants as joint
-use Rattle.in_simple_deriving.specs.declared.plans.TaskPlan.{TaskPlan}
+use Rattle.in_simple_deriving.specs.TaskStates.{TaskState}
 use Rattle.in_simple_deriving.specs.declared.plans.Task.{Task}
 use Rattle.in_simple_deriving.specs.declared.plans.Task.TheVariants.{Make}
 use Rattle.in_open_nets.specs.Constructions.{IsIn, AreParts, IsGraft}
@@ -43,7 +43,7 @@ module _ (o : OpenNet) (net : IsOpenNet o) (n : ℕ) where
       let zero = x.2 in
       omega arith
 
-  module _ (t : ℕ) (p : TaskPlan) (h : IsPlanAtTurn o n t p) (i : ℕ) where
+  module _ (t : ℕ) (p : TaskState) (h : IsPlanAtTurn o n t p) (i : ℕ) where
     pub nothing_done : (w l k : ℕ) → IsWire o w (Port n i) (Port l k) → IsIn l (nodes_in p.rest) → IsIn l (nodes_in p.done) → AddsNothing o n i p p
     nothing_done w l k wire here done = record {
       same = refl;
@@ -61,9 +61,9 @@ module _ (o : OpenNet) (net : IsOpenNet o) (n : ℕ) where
           (k, omega arith, subst (λ z. IsWire o v (Port n i) (Port z k)) e (subst (λ z. IsWire o v (Port n i) z) (sym f.1) x.1));
     }
 
-    pub adds_component : (w l k : ℕ) (q : TaskPlan) → IsWire o w (Port n i) (Port l k) → IsIn l (nodes_in p.rest) → nodes_in p.done l ≡ false → (d : DerivesNear o l p q) → AddsPort o n i p q (shape (nodes_in d.component) no_wires)
+    pub adds_component : (w l k : ℕ) (q : TaskState) → IsWire o w (Port n i) (Port l k) → IsIn l (nodes_in p.rest) → nodes_in p.done l ≡ false → (d : DerivesNear o l p q) → AddsPort o n i p q (shape (nodes_in d.component.nodes) no_wires)
     adds_component w l k q wire here off d = record {
-      puts = λ xs f. subst (λ z. PutsShapes o z (xs ++ shape (nodes_in d.component) no_wires ∷ [])) (sym d.tasks) (puts_derive o p.tasks d.component xs f);
+      puts = λ xs f. subst (λ z. PutsShapes o z (xs ++ shape (nodes_in d.component.nodes) no_wires ∷ [])) (sym d.tasks) (puts_derive o p.tasks d.component xs f);
       nodes = λ m. ((λ a. (w, l, k, wire, (d.reached m).0 a)), λ x. (d.reached m).1 (met_at p.rest i w l k m wire x));
       links = λ v. ((λ a. absurd (not_both false a refl)), λ x. absurd (no_lead p.rest i w l k v wire here x));
       fresh = λ m a b. component_new o net n t p h l q here off d m a b;
@@ -71,7 +71,7 @@ module _ (o : OpenNet) (net : IsOpenNet o) (n : ℕ) where
       done = λ m. in_both o net n t p h l q here off d m;
     }
 
-    pub adds_link : (w : ℕ) (q : OpenPoint) (r : TaskPlan) → IsWire o w (Port n i) q → is_port_in (nodes_in p.rest) q ≡ 0 → ((j : ℕ) → q ≡ Port n j → i < j) → r ≡ with_task p (Make (joint.Link w)) → AddsPort o n i p r (shape (λ m. false) (λ v. nat_eq v w))
+    pub adds_link : (w : ℕ) (q : OpenPoint) (r : TaskState) → IsWire o w (Port n i) q → is_port_in (nodes_in p.rest) q ≡ 0 → ((j : ℕ) → q ≡ Port n j → i < j) → r ≡ with_task p (Make (joint.Link w)) → AddsPort o n i p r (shape (λ m. false) (λ v. nat_eq v w))
     adds_link w q r wire off later e = record {
       puts = λ xs f. subst (λ z. PutsShapes o z.tasks (xs ++ shape (λ m. false) (λ v. nat_eq v w) ∷ [])) (sym e) (puts_make o p.tasks (joint.Link w) xs [] (shape (λ m. false) (λ v. nat_eq v w)) (subst (λ z. PutsShapes o p.tasks z) (sym (none_more xs)) f) (fits_link o net w (Port n i) q wire));
       nodes = λ m. (
@@ -158,7 +158,7 @@ module _ (o : OpenNet) (net : IsOpenNet o) (n : ℕ) where
 
   -- ---- the nodes that a port meets
 
-  meets_class : (t : ℕ) (p : TaskPlan) → IsPlanAtTurn o n t p → (i j m : ℕ) → Meets o p.rest n i m → Meets o p.rest n j m → class_in o n i ≡ class_in o n j
+  meets_class : (t : ℕ) (p : TaskState) → IsPlanAtTurn o n t p → (i j m : ℕ) → Meets o p.rest n i m → Meets o p.rest n j m → class_in o n i ≡ class_in o n j
   meets_class t p h i j m x y = (h.splits i).touched j x.0 y.0 x.1 y.1 x.2 y.2 x.3 y.3 (joined_on o p.rest x.1 m y.1 x.4 (joined_back o p.rest y.1 m y.4))
 
   meets_in : (rest : List Bool) (i m : ℕ) → Meets o rest n i m → IsIn m (nodes_in rest)
@@ -166,7 +166,7 @@ module _ (o : OpenNet) (net : IsOpenNet o) (n : ℕ) where
 
   -- ---- one port more
 
-  module _ (agent : IsAgent o n) (t : ℕ) (p : TaskPlan) (h : IsPlanAtTurn o n t p) (b : ℕ) (aux : 0 < b) where
+  module _ (agent : IsAgent o n) (t : ℕ) (p : TaskState) (h : IsPlanAtTurn o n t p) (b : ℕ) (aux : 0 < b) where
     meets_on : (i l m : ℕ) → Meets o p.rest n i l → AreJoinedWithin o p.rest l m → Meets o p.rest n i m
     meets_on i l m x k = (x.0, x.1, x.2, x.3, joined_on o p.rest x.1 l m x.4 k)
 
@@ -180,13 +180,13 @@ module _ (o : OpenNet) (net : IsOpenNet o) (n : ℕ) where
         ((omega arith, k), sym e)
 
     module _ (begun : ℕ) (ts : List Task) (f : PutsClasses o p.rest n b begun ts p.done) where
-      done_adds : (q : TaskPlan) (x : Shape) → AddsPort o n b p q x → (m : ℕ) → IsIn m (nodes_in q.done) ↔ ((i : ℕ) × IsBelow (suc b) i × Meets o p.rest n i m)
+      done_adds : (q : TaskState) (x : Shape) → AddsPort o n b p q x → (m : ℕ) → IsIn m (nodes_in q.done) ↔ ((i : ℕ) × IsBelow (suc b) i × Meets o p.rest n i m)
       done_adds q x a m = (
         (λ g. elim ((a.done m).0 g) [ inl u ↦ let y = (f.done_is m).0 u in (y.0, below_next b y.0 y.1, y.2) | inr u ↦ (b, (aux, omega arith), (a.nodes m).0 u) ]),
         λ y. (a.done m).1 (elim (below_cases b y.0 y.1) [ inl e ↦ inr ((a.nodes m).1 (subst (λ z. Meets o p.rest n z m) e y.2)) | inr l ↦ inl ((f.done_is m).1 (y.0, l, y.2)) ]),
       )
 
-      done_same : (q : TaskPlan) → AddsNothing o n b p q → (m : ℕ) → IsIn m (nodes_in p.done) ↔ ((i : ℕ) × IsBelow (suc b) i × Meets o p.rest n i m)
+      done_same : (q : TaskState) → AddsNothing o n b p q → (m : ℕ) → IsIn m (nodes_in p.done) ↔ ((i : ℕ) × IsBelow (suc b) i × Meets o p.rest n i m)
       done_same q a m = (
         (λ g. let y = (f.done_is m).0 g in (y.0, below_next b y.0 y.1, y.2)),
         λ y. elim (below_cases b y.0 y.1) [ inl e ↦ a.met m (subst (λ z. Meets o p.rest n z m) e y.2) | inr l ↦ (f.done_is m).1 (y.0, l, y.2) ],
@@ -197,7 +197,7 @@ module _ (o : OpenNet) (net : IsOpenNet o) (n : ℕ) where
 
       -- the first port of a class
       module _ (next : class_in o n b ≡ suc begun) where
-        pub first_adds : (q : TaskPlan) (us : List Task) (x : Shape) → ((xs : List Shape) → PutsShapes o ts xs → PutsShapes o us (xs ++ x ∷ [])) → AddsPort o n b p q x → PutsClasses o p.rest n (suc b) (class_in o n b) us q.done
+        pub first_adds : (q : TaskState) (us : List Task) (x : Shape) → ((xs : List Shape) → PutsShapes o ts xs → PutsShapes o us (xs ++ x ∷ [])) → AddsPort o n b p q x → PutsClasses o p.rest n (suc b) (class_in o n b) us q.done
         first_adds q us x more a = record {
           shapes = f.shapes ++ x ∷ [];
           puts = more f.shapes f.puts;
@@ -257,7 +257,7 @@ module _ (o : OpenNet) (net : IsOpenNet o) (n : ℕ) where
           done_is = is;
         }
 
-        pub further_nothing : (q : TaskPlan) → AddsNothing o n b p q → PutsClasses o p.rest n (suc b) (class_in o n b) ts p.done
+        pub further_nothing : (q : TaskState) → AddsNothing o n b p q → PutsClasses o p.rest n (suc b) (class_in o n b) ts p.done
         further_nothing q a = grown topmost ts p.done topmost.top (subst (λ z. PutsShapes o ts z) topmost.shapes_are f.puts) new (done_same q a)
           where
             new : IsClassShape o p.rest n (suc b) (class_in o n b) topmost.top
@@ -286,7 +286,7 @@ module _ (o : OpenNet) (net : IsOpenNet o) (n : ℕ) where
                 root_out : is_port_in (nodes_in p.rest) (Port n b) ≡ 0
                 root_out = rw h.out refl
 
-        module _ (q : TaskPlan) (x : Shape) (a : AddsPort o n b p q x) where
+        module _ (q : TaskState) (x : Shape) (a : AddsPort o n b p q x) where
           abbrev mixed : Shape
           mixed = shape (λ m. topmost.top.nodes m || x.nodes m) (λ w. topmost.top.links w || x.links w)
 
@@ -380,7 +380,7 @@ module _ (o : OpenNet) (net : IsOpenNet o) (n : ℕ) where
   number c [] m = 0
   number c (x ∷ xs) m = cond (x.nodes m) c (number (suc c) xs m)
 
-  module _ (agent : IsAgent o n) (t : ℕ) (p : TaskPlan) (h : IsPlanAtTurn o n t p) (b : ℕ) (f : PutsClasses o p.rest n b (classes_of o n) p.tasks p.done) (all : ports_of o n ≤ b) where
+  module _ (agent : IsAgent o n) (t : ℕ) (p : TaskState) (h : IsPlanAtTurn o n t p) (b : ℕ) (f : PutsClasses o p.rest n b (classes_of o n) p.tasks p.done) (all : ports_of o n ≤ b) where
     number_is : (c : ℕ) (xs : List Shape) → AreClassShapes o p.rest n b c xs → (m d : ℕ) → number c xs m ≡ suc d → (i : ℕ) × IsBelow b i × (class_in o n i ≡ suc d) × Meets o p.rest n i m
     number_is c [] k m d e = absurd (omega arith)
     number_is c (x ∷ xs) k m d e = go (x.nodes m) refl e (number_is (suc c) xs k.1 m d)
@@ -548,12 +548,12 @@ module _ (o : OpenNet) (net : IsOpenNet o) (n : ℕ) where
           (fit_graft o net n whole part agent zero_root (λ m g. part_most m) is_graft from (same_length f.shapes from s ∙ f.many) (class_tops 1 f.shapes from (omega arith) f.each s) names) refl;
     }
 
-    pub net_graft : (q : TaskPlan) (count : ℕ) → count ≡ classes_of o n → q ≡ with_task p (Make (joint.Graft n count)) → PutsShapes o q.tasks (net_of n q.done ∷ [])
+    pub net_graft : (q : TaskState) (count : ℕ) → count ≡ classes_of o n → q ≡ with_task p (Make (joint.Graft n count)) → PutsShapes o q.tasks (net_of n q.done ∷ [])
     net_graft q count e r = subst (λ z. PutsShapes o z.tasks (net_of n z.done ∷ [])) (sym r) (puts_make o p.tasks (joint.Graft n count) [] f.shapes (net_of n p.done) f.puts (fits_graft count e))
 
   -- ---- plan by plan
 
-  pub classes_start : (p : TaskPlan) → IsPlanAtTurn o n 0 p → p.tasks ≡ [] → HasClasses o n 1 0 p
+  pub classes_start : (p : TaskState) → IsPlanAtTurn o n 0 p → p.tasks ≡ [] → HasClasses o n 1 0 p
   classes_start p h e = record {
     shapes = [];
     puts = subst (λ z. PutsShapes o z []) (sym e) (puts_none o);
@@ -563,7 +563,7 @@ module _ (o : OpenNet) (net : IsOpenNet o) (n : ℕ) where
     done_is = λ m. ((λ g. let l = ((h.done m).0 g).4 in absurd (omega arith)), λ y. let a = y.1.0 in let b = y.1.1 in absurd (omega arith));
   }
 
-  pub skip_has : (b begun k : ℕ) (p q : TaskPlan) → HasClasses o n b begun p → Skips k p q → HasClasses o n b (begun + k) q
+  pub skip_has : (b begun k : ℕ) (p q : TaskState) → HasClasses o n b begun p → Skips k p q → HasClasses o n b (begun + k) q
   skip_has b begun k p q f s =
       subst (λ z. PutsClasses o z n b (begun + k) q.tasks q.done) (sym s.rest)
       (subst (λ z. PutsClasses o p.rest n b (begun + k) q.tasks z) (sym s.done) (skip_classes p.rest b begun k p.tasks q.tasks p.done f (λ xs g. s.puts o net xs g)))
@@ -581,15 +581,15 @@ module _ (o : OpenNet) (net : IsOpenNet o) (n : ℕ) where
   begun_most b begun agent (inl e) = omega arith
   begun_most b begun agent (inr x) = let u = net.classes n x.0 agent (point_of x.0 x.2) in let v = x.3 in omega arith
 
-  module _ (agent : IsAgent o n) (t : ℕ) (p : TaskPlan) (h : IsPlanAtTurn o n t p) (b : ℕ) (aux : 0 < b) where
-    pub first_came : (begun : ℕ) → HasClasses o n b begun p → class_in o n b ≡ suc begun → (q : TaskPlan) → q.rest ≡ p.rest → WhatPort o n b p q true → HasClasses o n (suc b) (class_in o n b) q
+  module _ (agent : IsAgent o n) (t : ℕ) (p : TaskState) (h : IsPlanAtTurn o n t p) (b : ℕ) (aux : 0 < b) where
+    pub first_came : (begun : ℕ) → HasClasses o n b begun p → class_in o n b ≡ suc begun → (q : TaskState) → q.rest ≡ p.rest → WhatPort o n b p q true → HasClasses o n (suc b) (class_in o n b) q
     first_came begun f next q same w = subst (λ z. PutsClasses o z n (suc b) (class_in o n b) q.tasks q.done) (sym same)
         (first_adds agent t p h b aux begun p.tasks f next q q.tasks w.0 w.1.puts w.1)
 
-    pub further_came : HasClasses o n b (class_in o n b) p → 0 < class_in o n b → (q r : TaskPlan) → q.rest ≡ p.rest → WhatPort o n b p q true → r ≡ with_task q (Make joint.Mix) → HasClasses o n (suc b) (class_in o n b) r
+    pub further_came : HasClasses o n b (class_in o n b) p → 0 < class_in o n b → (q r : TaskState) → q.rest ≡ p.rest → WhatPort o n b p q true → r ≡ with_task q (Make joint.Mix) → HasClasses o n (suc b) (class_in o n b) r
     further_came f some q r same w e = subst (HasClasses o n (suc b) (class_in o n b)) (sym e)
         (subst (λ z. PutsClasses o z n (suc b) (class_in o n b) (q.tasks ++ Make joint.Mix ∷ []) q.done) (sym same)
         (further_adds agent t p h b aux (class_in o n b) p.tasks f refl some q w.0 w.1 q.tasks (q.tasks ++ Make joint.Mix ∷ []) (w.1.puts f.shapes f.puts) refl))
 
-    pub further_none : HasClasses o n b (class_in o n b) p → 0 < class_in o n b → (q : TaskPlan) → WhatPort o n b p q false → HasClasses o n (suc b) (class_in o n b) q
+    pub further_none : HasClasses o n b (class_in o n b) p → 0 < class_in o n b → (q : TaskState) → WhatPort o n b p q false → HasClasses o n (suc b) (class_in o n b) q
     further_none f some q w = subst (HasClasses o n (suc b) (class_in o n b)) (sym w.same) (further_nothing agent t p h b aux (class_in o n b) p.tasks f refl some q w)

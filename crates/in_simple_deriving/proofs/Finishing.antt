@@ -11,6 +11,7 @@ use Rattle.in_open_nets.specs.OpenNets.{OpenNet, IsNode, IsWire, IsOpenNet}
 use Rattle.in_open_nets.specs.declared.derivations.Step.{Step}
 use Rattle.in_open_nets.specs.Derivations.{Part, named, times, is_free, AreEarlier, IsDerivation}
 use Rattle.in_open_nets.specs.Members.{nodes_in}
+use Rattle.in_simple_deriving.specs.Turns.{HeadedPart}
 use Rattle.in_simple_deriving.specs.Stacks.{Shape, shape, no_wires, leads_out, HasShape, HaveShapes, times_node, IsLinkOf, IsStack, RunsTasks, are_free, loose_in, loose_below, begun_with, SetsBeside, EndsInWhole, IsUnderWay, Yields, done}
 use Rattle.in_base.proofs.Places.{some_same}
 use Rattle.in_open_nets.proofs.Public.{not_both, same_test, point_node, port_yes, one_other, earlier_of, both_left, both_right, wire_turn}
@@ -89,16 +90,16 @@ beside_past o begun b false ts off h = (h.0, h.1, λ w l. elim (same_nat w b) [ 
 -- ---- the first tasks
 
 -- all nodes are derived, and the loose wires' Links are set beside them
-pub under_all : (o : OpenNet) (c : List Bool) (links : List Task) → length c ≡ length o.nodes → 0 < length o.nodes → ((n : ℕ) → n < length o.nodes → nodes_in c n ≡ true) → EndsInWhole o true links → links ≡ map Make (links_from o true 0 (length o.wires)) → IsUnderWay o (Derive c ∷ links) [] []
+pub under_all : (o : OpenNet) (c : HeadedPart) (links : List Task) → length c.nodes ≡ length o.nodes → 0 < length o.nodes → ((n : ℕ) → n < length o.nodes → nodes_in c.nodes n ≡ true) → EndsInWhole o true links → links ≡ map Make (links_from o true 0 (length o.wires)) → IsUnderWay o (Derive c ∷ links) [] []
 under_all o c links size some all h made = record {
-  whole = nodes_in c;
-  all = λ n. ((λ g. let l = in_length c n g in omega arith), all n);
+  whole = nodes_in c.nodes;
+  all = λ n. ((λ g. let l = in_length c.nodes n g in omega arith), all n);
   shapes = [];
   stack = stack_none o;
-  runs = h (nodes_in c) (λ e. absurd (not_both true refl e));
+  runs = h (nodes_in c.nodes) (λ e. absurd (not_both true refl e));
   order = λ js y.
       let x = yields_part o c (links_from o true 0 (length o.wires)) js (subst (λ z. Yields o (Derive c ∷ z) js) made y) in
-      (js, subst (AreJointsOf o) (sym x.2) (with_nodes (nodes_in c) x.0 some (λ n. ((λ g. let l = in_length c n g in omega arith), all n)) x.1), refl);
+      (js, subst (AreJointsOf o) (sym x.2) (with_nodes (nodes_in c.nodes) x.0 some (λ n. ((λ g. let l = in_length c.nodes n g in omega arith), all n)) x.1), refl);
 }
 
 pub under_none : (o : OpenNet) (links : List Task) → length o.nodes ≡ 0 → EndsInWhole o false links → links ≡ map Make (links_from o false 0 (length o.wires)) → IsUnderWay o links [] []

@@ -5,7 +5,7 @@ use Rattle.in_open_nets.specs.declared.open_nets.OpenPoint.{OpenPoint}
 use Rattle.in_open_nets.specs.declared.open_nets.OpenPoint.TheVariants.{Port}
 use Rattle.in_simple_deriving.specs.declared.plans.StackStep.{StackStep}
 use Rattle.in_simple_deriving.specs.declared.plans.StackStep.TheVariants as joint
-use Rattle.in_simple_deriving.specs.declared.plans.TaskPlan.{TaskPlan}
+use Rattle.in_simple_deriving.specs.TaskStates.{TaskState}
 use Rattle.in_simple_deriving.specs.declared.plans.Task.{Task}
 use Rattle.in_simple_deriving.specs.declared.plans.Task.TheVariants.{Derive, Make}
 use Rattle.in_open_nets.specs.Constructions.{IsIn, AreParts}
@@ -14,6 +14,7 @@ use Rattle.in_open_nets.specs.Splitting.{alone, onward, Without}
 use Rattle.in_open_nets.specs.OpenNets.{OpenNet, IsAgent, IsClass, IsWire, IsOpenNet, class_in, open_graph}
 use Rattle.in_open_nets.specs.Stuck.{IsPart, ports_of, ComesAt}
 use Rattle.in_open_nets.specs.Members.{nodes_in}
+use Rattle.in_simple_deriving.specs.Turns.{HeadedPart}
 use Rattle.in_open_nets.specs.Parts.{IsRest}
 use Rattle.in_simple_deriving.specs.Procedure.{IsPlanAtTurn, HasTurn, DerivesNear, with_task}
 use Rattle.in_simple_deriving.specs.Stacks.{Shape, shape, no_wires, Fits, RunsTasks, PutsShapes}
@@ -39,14 +40,14 @@ module _ (o : OpenNet) where
       subst (λ z. RunsTasks o (ts ++ Make j ∷ []) below z) (append_assoc below xs (y ∷ []))
       (runs_make o ts j below (below ++ xs) ys y (subst (λ z. RunsTasks o ts below z) (sym (append_assoc below xs ys)) (p below)) f)
 
-  pub puts_derive : (ts : List Task) (c : List Bool) (xs : List Shape) → PutsShapes o ts xs → PutsShapes o (ts ++ Derive c ∷ []) (xs ++ shape (nodes_in c) no_wires ∷ [])
+  pub puts_derive : (ts : List Task) (c : HeadedPart) (xs : List Shape) → PutsShapes o ts xs → PutsShapes o (ts ++ Derive c ∷ []) (xs ++ shape (nodes_in c.nodes) no_wires ∷ [])
   puts_derive ts c xs p below =
-      subst (λ z. RunsTasks o (ts ++ Derive c ∷ []) below z) (append_assoc below xs (shape (nodes_in c) no_wires ∷ [])) (runs_derive o ts c below (below ++ xs) (p below))
+      subst (λ z. RunsTasks o (ts ++ Derive c ∷ []) below z) (append_assoc below xs (shape (nodes_in c.nodes) no_wires ∷ [])) (runs_derive o ts c below (below ++ xs) (p below))
 
-pub skips_none : (p : TaskPlan) → Skips 0 p p
+pub skips_none : (p : TaskState) → Skips 0 p p
 skips_none p = record { rest = refl; done = refl; puts = λ o net xs f. f }
 
-pub skips_more : (k : ℕ) (p q r : TaskPlan) → Skips k p q → r ≡ with_task q (Make joint.Empty) → Skips (k + 1) p r
+pub skips_more : (k : ℕ) (p q r : TaskState) → Skips k p q → r ≡ with_task q (Make joint.Empty) → Skips (k + 1) p r
 skips_more k p q r s e = record {
   rest = ap (λ z. z.rest) e ∙ s.rest;
   done = ap (λ z. z.done) e ∙ s.done;
@@ -74,7 +75,7 @@ module _ (o : OpenNet) (net : IsOpenNet o) (n : ℕ) where
 
   -- ---- the derived nodes
 
-  module _ (t : ℕ) (p : TaskPlan) (h : IsPlanAtTurn o n t p) where
+  module _ (t : ℕ) (p : TaskState) (h : IsPlanAtTurn o n t p) where
     pub not_root : (m : ℕ) → IsIn m (nodes_in p.rest) → m ≢ n
     not_root m a e = not_both (nodes_in p.rest m) a (subst (λ z. nodes_in p.rest z ≡ false) (sym e) h.out)
 
@@ -89,26 +90,26 @@ module _ (o : OpenNet) (net : IsOpenNet o) (n : ℕ) where
         (h.done k).1 (x.0, x.1, part, x.3, x.4, (part.2 k).1 (link_join o (Without n (nodes_in p.rest)) (without o net (nodes_in p.rest) (in_net o net n t p h) n) part.0 m k ((part.2 m).0 x.5) on))
 
     -- the component of a node that isn't derived yet
-    module _ (l : ℕ) (q : TaskPlan) (here : IsIn l (nodes_in p.rest)) (off : nodes_in p.done l ≡ false) (d : DerivesNear o l p q) where
+    module _ (l : ℕ) (q : TaskState) (here : IsIn l (nodes_in p.rest)) (off : nodes_in p.done l ≡ false) (d : DerivesNear o l p q) where
       abbrev before : ℕ → Bool
       before m = nat_eq m n || nodes_in p.done m
 
       abbrev after : ℕ → Bool
       after m = nat_eq m n || nodes_in q.done m
 
-      pub in_both : (m : ℕ) → IsIn m (nodes_in q.done) ↔ (IsIn m (nodes_in p.done) ⊎ IsIn m (nodes_in d.component))
+      pub in_both : (m : ℕ) → IsIn m (nodes_in q.done) ↔ (IsIn m (nodes_in p.done) ⊎ IsIn m (nodes_in d.component.nodes))
       in_both m = (
-        (λ a. or_cases (nodes_in p.done m) (nodes_in d.component m) (or_comm (nodes_in p.done m) (nodes_in d.component m) ∙ sym (d.both m) ∙ a)),
-        λ a. d.both m ∙ or_comm (nodes_in d.component m) (nodes_in p.done m) ∙ elim a [ inl b ↦ or_left (nodes_in p.done m) (nodes_in d.component m) b | inr b ↦ or_right (nodes_in p.done m) (nodes_in d.component m) b ],
+        (λ a. or_cases (nodes_in p.done m) (nodes_in d.component.nodes m) (or_comm (nodes_in p.done m) (nodes_in d.component.nodes m) ∙ sym (d.both m) ∙ a)),
+        λ a. d.both m ∙ or_comm (nodes_in d.component.nodes m) (nodes_in p.done m) ∙ elim a [ inl b ↦ or_left (nodes_in p.done m) (nodes_in d.component.nodes m) b | inr b ↦ or_right (nodes_in p.done m) (nodes_in d.component.nodes m) b ],
       )
 
-      pub component_new : (m : ℕ) → IsIn m (nodes_in d.component) → IsIn m (nodes_in p.done) → ⊥
+      pub component_new : (m : ℕ) → IsIn m (nodes_in d.component.nodes) → IsIn m (nodes_in p.done) → ⊥
       component_new m a b = not_both (nodes_in p.done l) (done_on m l b (joined_back o p.rest l m ((d.reached m).0 a))) off
 
-      component_in : (m : ℕ) → IsIn m (nodes_in d.component) → IsIn m (nodes_in p.rest)
+      component_in : (m : ℕ) → IsIn m (nodes_in d.component.nodes) → IsIn m (nodes_in p.rest)
       component_in m a = joined_last p.rest l m ((d.reached m).0 a)
 
-      parts : AreParts after before (nodes_in d.component)
+      parts : AreParts after before (nodes_in d.component.nodes)
       parts m = (
         (
           (λ a. elim (or_cases (nat_eq m n) (nodes_in q.done m) a) [
@@ -127,22 +128,22 @@ module _ (o : OpenNet) (net : IsOpenNet o) (n : ℕ) where
       )
 
       -- only n itself may lead there
-      from_root : (w l' i' m' j' : ℕ) → IsWire o w (Port l' i') (Port m' j') → IsIn l' before → IsIn m' (nodes_in d.component) → l' ≡ n
+      from_root : (w l' i' m' j' : ℕ) → IsWire o w (Port l' i') (Port m' j') → IsIn l' before → IsIn m' (nodes_in d.component.nodes) → l' ≡ n
       from_root w l' i' m' j' wire a b = elim (or_cases (nat_eq l' n) (nodes_in p.done l') a) [
         | inl e ↦ eqb-true l' n e
         | inr e ↦ absurd (component_new m' b (done_on l' m' e (joined_near p.rest w l' i' m' j' wire (done_in l' e) (component_in m' b))))
       ]
 
-      both_put : PutsNet o n p → PutsShapes o q.tasks (shape before no_wires ∷ shape (nodes_in d.component) no_wires ∷ [])
-      both_put f = subst (λ z. PutsShapes o z (shape before no_wires ∷ shape (nodes_in d.component) no_wires ∷ [])) (sym d.tasks) (puts_derive o p.tasks d.component (shape before no_wires ∷ []) f)
+      both_put : PutsNet o n p → PutsShapes o q.tasks (shape before no_wires ∷ shape (nodes_in d.component.nodes) no_wires ∷ [])
+      both_put f = subst (λ z. PutsShapes o z (shape before no_wires ∷ shape (nodes_in d.component.nodes) no_wires ∷ [])) (sym d.tasks) (puts_derive o p.tasks d.component (shape before no_wires ∷ []) f)
 
-      pub net_join : (r : TaskPlan) (i w k : ℕ) → PutsNet o n p → IsWire o w (Port n i) (Port l k) → (IsAgent o n → i ≡ 0) → ((j : ℕ) → class_in o n i ≡ class_in o n j → (v : ℕ) (s : OpenPoint) → IsWire o v (Port n j) s → i ≡ j) → r ≡ with_task q (Make (joint.Cut w)) → PutsNet o n r
+      pub net_join : (r : TaskState) (i w k : ℕ) → PutsNet o n p → IsWire o w (Port n i) (Port l k) → (IsAgent o n → i ≡ 0) → ((j : ℕ) → class_in o n i ≡ class_in o n j → (v : ℕ) (s : OpenPoint) → IsWire o v (Port n j) s → i ≡ j) → r ≡ with_task q (Make (joint.Cut w)) → PutsNet o n r
       net_join r i w k f wire firm only e =
           subst (PutsNet o n) (sym e)
-          (puts_make o q.tasks (joint.Cut w) [] (shape before no_wires ∷ shape (nodes_in d.component) no_wires ∷ []) (shape after no_wires) (both_put f)
-          (fits_cut o net after before (nodes_in d.component) n i l k w parts wire firm (or_left (nat_eq n n) (nodes_in p.done n) (eq-eqb n n refl)) ((d.reached l).1 (alone l here)) one))
+          (puts_make o q.tasks (joint.Cut w) [] (shape before no_wires ∷ shape (nodes_in d.component.nodes) no_wires ∷ []) (shape after no_wires) (both_put f)
+          (fits_cut o net after before (nodes_in d.component.nodes) n i l k w parts wire firm (or_left (nat_eq n n) (nodes_in p.done n) (eq-eqb n n refl)) ((d.reached l).1 (alone l here)) one))
         where
-          one : OnlyWire o net before (nodes_in d.component) n i l k
+          one : OnlyWire o net before (nodes_in d.component.nodes) n i l k
           one l' i' m' j' v g a b =
               let r = from_root v l' i' m' j' g a b in
               let g' : IsWire o v (Port n i') (Port m' j') = subst (λ z. IsWire o v (Port z i') (Port m' j')) r g in
@@ -151,19 +152,19 @@ module _ (o : OpenNet) (net : IsOpenNet o) (n : ℕ) where
               let x = port_place l m' k j' (net.once w v (Port n i) (Port l k) (Port m' j') wire g2).1 in
               ((r, sym s), (sym x.0, sym x.1))
 
-      pub net_beside : (r : TaskPlan) → PutsNet o n p → ((i w m j : ℕ) → IsWire o w (Port n i) (Port m j) → IsIn m (nodes_in d.component) → ⊥) → r ≡ with_task q (Make joint.Mix) → PutsNet o n r
+      pub net_beside : (r : TaskState) → PutsNet o n p → ((i w m j : ℕ) → IsWire o w (Port n i) (Port m j) → IsIn m (nodes_in d.component.nodes) → ⊥) → r ≡ with_task q (Make joint.Mix) → PutsNet o n r
       net_beside r f off_n e =
           subst (PutsNet o n) (sym e)
-          (puts_make o q.tasks joint.Mix [] (shape before no_wires ∷ shape (nodes_in d.component) no_wires ∷ []) (shape after no_wires) (both_put f)
-          (fits_mix o net after before (nodes_in d.component) no_wires no_wires parts apart (agents_apart o net after before (nodes_in d.component) parts apart)))
+          (puts_make o q.tasks joint.Mix [] (shape before no_wires ∷ shape (nodes_in d.component.nodes) no_wires ∷ []) (shape after no_wires) (both_put f)
+          (fits_mix o net after before (nodes_in d.component.nodes) no_wires no_wires parts apart (agents_apart o net after before (nodes_in d.component.nodes) parts apart)))
         where
-          apart : (l' i' m' j' w : ℕ) → IsWire o w (Port l' i') (Port m' j') → IsIn l' before → IsIn m' (nodes_in d.component) → ⊥
+          apart : (l' i' m' j' w : ℕ) → IsWire o w (Port l' i') (Port m' j') → IsIn l' before → IsIn m' (nodes_in d.component.nodes) → ⊥
           apart l' i' m' j' w g a b =
               let r = from_root w l' i' m' j' g a b in
               off_n i' w m' j' (subst (λ z. IsWire o w (Port z i') (Port m' j')) r g) b
 
   -- a class node alone
-  pub net_given : (p q : TaskPlan) → IsPlanAtTurn o n 0 p → p.tasks ≡ [] → IsClass o n → q ≡ with_task p (Make (joint.Given n)) → PutsNet o n q
+  pub net_given : (p q : TaskState) → IsPlanAtTurn o n 0 p → p.tasks ≡ [] → IsClass o n → q ≡ with_task p (Make (joint.Given n)) → PutsNet o n q
   net_given p q h start c e =
       subst (PutsNet o n) (sym e)
       (puts_make o p.tasks (joint.Given n) [] [] (net_of n p.done) (subst (λ z. PutsShapes o z []) (sym start) (puts_none o))
@@ -181,7 +182,7 @@ module _ (o : OpenNet) (net : IsOpenNet o) (n : ℕ) where
           net.apart w (Port n i) (Port n j) g (ap (λ z. Port n z) f)
 
   -- no port of n meets a node with a later turn
-  pub untouched : (p : TaskPlan) (m : ℕ) → HasTurn o n p m (suc (ports_of o n) + m) → (c : ℕ → Bool) → IsPart o n (nodes_in p.rest) c → IsIn m c → (i w l k : ℕ) → IsWire o w (Port n i) (Port l k) → IsIn l c → ⊥
+  pub untouched : (p : TaskState) (m : ℕ) → HasTurn o n p m (suc (ports_of o n) + m) → (c : ℕ → Bool) → IsPart o n (nodes_in p.rest) c → IsIn m c → (i w l k : ℕ) → IsWire o w (Port n i) (Port l k) → IsIn l c → ⊥
   untouched p m turn c part here i w l k wire inside = go (turn c part here)
     where
       go : ComesAt o n c (suc (ports_of o n) + m) → ⊥
@@ -193,11 +194,11 @@ module _ (o : OpenNet) (net : IsOpenNet o) (n : ℕ) where
       go (inr x) = x.0 i (w, l, k, wire, inside)
 
   -- a node that n doesn't touch, and its component
-  pub net_other : (p : TaskPlan) (m : ℕ) → (h : IsPlanAtTurn o n (suc (ports_of o n) + m) p) → (q r : TaskPlan) → IsIn m (nodes_in p.rest) → nodes_in p.done m ≡ false → DerivesNear o m p q → PutsNet o n p → r ≡ with_task q (Make joint.Mix) → PutsNet o n r
+  pub net_other : (p : TaskState) (m : ℕ) → (h : IsPlanAtTurn o n (suc (ports_of o n) + m) p) → (q r : TaskState) → IsIn m (nodes_in p.rest) → nodes_in p.done m ≡ false → DerivesNear o m p q → PutsNet o n p → r ≡ with_task q (Make joint.Mix) → PutsNet o n r
   net_other p m h q r here off d f e =
-      let part = reached_part o net n p.rest d.component m h.out here d.reached in
+      let part = reached_part o net n p.rest d.component.nodes m h.out here d.reached in
       net_beside (suc (ports_of o n) + m) p h m q here off d r f
-      (λ i w l k wire inside. untouched p m (node_turn o net n p m h here off) (nodes_in d.component) part ((d.reached m).1 (alone m here)) i w l k wire inside) e
+      (λ i w l k wire inside. untouched p m (node_turn o net n p m h here off) (nodes_in d.component.nodes) part ((d.reached m).1 (alone m here)) i w l k wire inside) e
 
   -- one port of n leads to a component: of an agent the principal one, and each port of a class node is a class
   pub one_port : (i w : ℕ) (q : OpenPoint) → n < length o.nodes → IsWire o w (Port n i) q → (IsAgent o n → i ≡ 0) → (j : ℕ) → class_in o n i ≡ class_in o n j → (v : ℕ) (r : OpenPoint) → IsWire o v (Port n j) r → i ≡ j
@@ -212,7 +213,7 @@ module _ (o : OpenNet) (net : IsOpenNet o) (n : ℕ) where
       ]
 
   -- at the end all of the part is built
-  pub net_whole : (part : List Bool) (p : TaskPlan) → IsPlanAtTurn o n (suc (ports_of o n) + length o.nodes) p → PutsNet o n p → IsRest n part p.rest → IsIn n (nodes_in part) → PutsShapes o p.tasks (shape (nodes_in part) no_wires ∷ [])
+  pub net_whole : (part : List Bool) (p : TaskState) → IsPlanAtTurn o n (suc (ports_of o n) + length o.nodes) p → PutsNet o n p → IsRest n part p.rest → IsIn n (nodes_in part) → PutsShapes o p.tasks (shape (nodes_in part) no_wires ∷ [])
   net_whole part p h f r here = subst (λ z. PutsShapes o p.tasks (z ∷ [])) (shape_same (net_of n p.done) (nodes_in part) no_wires same (λ w. refl)) f
     where
       inside : (m : ℕ) → IsIn m (nodes_in p.rest) → m < length o.nodes

@@ -6,7 +6,7 @@ use Rattle.in_open_nets.specs.declared.open_nets.Node.TheVariants.{AgentNode, Cl
 use Rattle.in_open_nets.specs.declared.open_nets.OpenNode.{OpenNode}
 use Rattle.in_open_nets.specs.declared.open_nets.OpenPoint.TheVariants.{Port}
 use Rattle.in_simple_deriving.specs.declared.plans.StackStep.{StackStep}
-use Rattle.in_simple_deriving.specs.declared.plans.TaskPlan.{TaskPlan}
+use Rattle.in_simple_deriving.specs.TaskStates.{TaskState}
 use Rattle.in_simple_deriving.specs.declared.plans.Task.{Task}
 use Rattle.in_simple_deriving.specs.declared.plans.Task.TheVariants.{Derive, Make}
 use Rattle.in_open_nets.specs.Constructions.{IsIn}
@@ -14,17 +14,18 @@ use Rattle.in_open_nets.specs.Pieces.{IsLeftOf}
 use Rattle.in_open_nets.specs.Splitting.{alone, Without}
 use Rattle.in_open_nets.specs.OpenNets.{OpenNet, IsWire, IsOpenNet, open_graph, IsAgentNode, IsClassNode, IsAgent, IsClass}
 use Rattle.in_open_nets.specs.Stuck.{IsPart, ports_of, turn, ComesAt}
-use Rattle.in_open_nets.specs.Members.{nodes_in, missing}
+use Rattle.in_open_nets.specs.Members.{nodes_in}
 use Rattle.in_open_nets.specs.Parts.{IsReached, IsRest, PortSplits}
+use Rattle.in_simple_deriving.specs.Turns.{HeadedPart}
 use Rattle.in_simple_deriving.specs.Procedure.{Lists, AreSizedTasks, IsPlanAtTurn, HasTurn, StaysForRest, KeepsPlan, DerivesNear, with_task}
-use Rattle.in_open_nets.proofs.Public.{has_all, not_both, same_nat, at_most, link_back, link_first, link_map, in_length, in_ports, one_turn}
+use Rattle.in_open_nets.proofs.Public.{not_both, same_nat, at_most, link_back, link_first, link_map, in_length, in_ports, one_turn}
 use Rattle.in_open_nets.proofs.Public.{turn_same, meet_same, comes_at, turn_one_port, turn_one_port_most, without}
 use Rattle.std.proofs.lemmas.Bool.{or_cases, or_left, or_right}
 
-pub sized_more : (b : ℕ) (ts : List Task) (us : List Task) → AreSizedTasks b ts → AreSizedTasks b us → AreSizedTasks b (ts ++ us)
-sized_more b [] us h k = k
-sized_more b (Derive c ∷ ts) us h k = (h.0, h.1, sized_more b ts us h.2 k)
-sized_more b (Make x ∷ ts) us h k = sized_more b ts us h k
+pub sized_more : (o : OpenNet) (ts : List Task) (us : List Task) → AreSizedTasks o ts → AreSizedTasks o us → AreSizedTasks o (ts ++ us)
+sized_more o [] us h k = k
+sized_more o (Derive c ∷ ts) us h k = (h.0, h.1, sized_more o ts us h.2 k)
+sized_more o (Make x ∷ ts) us h k = sized_more o ts us h k
 
 -- turns by place
 pub turn_agent : (o : OpenNet) (n i : ℕ) → IsAgent o n → i ≢ 0 → turn o n i ≡ i
@@ -60,33 +61,36 @@ turn_class o n i a = go (slice_get o.nodes n) a
     go None h = absurd h
     go (Some m) h = at m m.node h
 
-pub plan_make : (o : OpenNet) (n t : ℕ) (p : TaskPlan) (j : StackStep) → IsPlanAtTurn o n t p → IsPlanAtTurn o n t (with_task p (Make j))
+pub plan_make : (o : OpenNet) (n t : ℕ) (p : TaskState) (j : StackStep) → IsPlanAtTurn o n t p → IsPlanAtTurn o n t (with_task p (Make j))
 plan_make o n t p j h = record {
+  net = h.net;
+  node = h.node;
+  most = h.most;
   rest_size = h.rest_size;
   done_size = h.done_size;
   out = h.out;
   done = h.done;
-  sized = sized_more (length o.nodes) p.tasks (Make j ∷ []) h.sized tt;
+  sized = sized_more o p.tasks (Make j ∷ []) h.sized tt;
   lists = λ more k. subst (λ z. Lists o n (nodes_in p.rest) 0 z) (sym (append_assoc p.tasks (Make j ∷ []) more)) (h.lists (Make j ∷ more) k);
   splits = h.splits;
   left = h.left;
 }
 
-pub keeps_make : (old p q : TaskPlan) (j : StackStep) → KeepsPlan old p → q ≡ with_task p (Make j) → KeepsPlan old q
+pub keeps_make : (old p q : TaskState) (j : StackStep) → KeepsPlan old p → q ≡ with_task p (Make j) → KeepsPlan old q
 keeps_make old p q j h e = λ o n t k.
     let x = h o n t k in
     subst (λ z. StaysForRest o n t old z) (sym e) (plan_make o n t p j x.0, x.1)
 
-pub keeps_same : (p : TaskPlan) → KeepsPlan p p
+pub keeps_same : (p : TaskState) → KeepsPlan p p
 keeps_same p = λ o n t k. (k, refl)
 
-pub goes_make : (o : OpenNet) (n t : ℕ) (old p q : TaskPlan) (j : StackStep) → StaysForRest o n t old p → q ≡ with_task p (Make j) → StaysForRest o n t old q
+pub goes_make : (o : OpenNet) (n t : ℕ) (old p q : TaskState) (j : StackStep) → StaysForRest o n t old p → q ≡ with_task p (Make j) → StaysForRest o n t old q
 goes_make o n t old p q j h e = subst (λ z. StaysForRest o n t old z) (sym e) (plan_make o n t p j h.0, h.1)
 
-pub goes_keep : (o : OpenNet) (n t : ℕ) (old p q : TaskPlan) → StaysForRest o n t old p → KeepsPlan p q → StaysForRest o n t old q
+pub goes_keep : (o : OpenNet) (n t : ℕ) (old p q : TaskState) → StaysForRest o n t old p → KeepsPlan p q → StaysForRest o n t old q
 goes_keep o n t old p q h k = let x = k o n t h.0 in (x.0, x.1 ∙ h.1)
 
-pub goes_on : (o : OpenNet) (n t u : ℕ) (old p q : TaskPlan) → StaysForRest o n t old p → StaysForRest o n u p q → StaysForRest o n u old q
+pub goes_on : (o : OpenNet) (n t u : ℕ) (old p q : TaskState) → StaysForRest o n t old p → StaysForRest o n u p q → StaysForRest o n u old q
 goes_on o n t u old p q h k = (k.0, k.1 ∙ h.1)
 
 module _ (o : OpenNet) (net : IsOpenNet o) (n : ℕ) where
@@ -112,20 +116,26 @@ module _ (o : OpenNet) (net : IsOpenNet o) (n : ℕ) where
   )
   lists_down s t none (Make x ∷ ts) h = lists_down s t none ts h
 
-  pub plan_start : (p : TaskPlan) → length p.rest ≡ length o.nodes → length p.done ≡ length o.nodes → nodes_in p.rest n ≡ false → ((m : ℕ) → nodes_in p.done m ≡ false) → p.tasks ≡ [] → ((i : ℕ) → PortSplits o p.rest n i) → IsLeftOf o n p.rest → IsPlanAtTurn o n 0 p
-  plan_start p a b out off e splits left = record {
+  pub plan_start : (p : TaskState) → p.net ≡ o → p.node ≡ n → suc (ports_of o n) ≤ p.turns → length p.rest ≡ length o.nodes → length p.done ≡ length o.nodes → nodes_in p.rest n ≡ false → ((m : ℕ) → nodes_in p.done m ≡ false) → p.tasks ≡ [] → ((i : ℕ) → PortSplits o p.rest n i) → IsLeftOf o n p.rest → IsPlanAtTurn o n 0 p
+  plan_start p same own most a b out off e splits left = record {
+    net = same;
+    node = own;
+    most = most;
     rest_size = a;
     done_size = b;
     out = out;
     done = λ m. ((λ h. absurd (not_both (nodes_in p.done m) h (off m))), λ h. absurd (let l = h.4 in omega arith));
-    sized = subst (λ z. AreSizedTasks (length o.nodes) z) (sym e) tt;
+    sized = subst (λ z. AreSizedTasks o z) (sym e) tt;
     lists = λ more h. subst (λ z. Lists o n (nodes_in p.rest) 0 (z ++ more)) (sym e) h;
     splits = splits;
     left = left;
   }
 
-  pub plan_skip : (t : ℕ) (p : TaskPlan) → IsPlanAtTurn o n t p → NoneAt (nodes_in p.rest) t → IsPlanAtTurn o n (suc t) p
+  pub plan_skip : (t : ℕ) (p : TaskState) → IsPlanAtTurn o n t p → NoneAt (nodes_in p.rest) t → IsPlanAtTurn o n (suc t) p
   plan_skip t p h none = record {
+    net = h.net;
+    node = h.node;
+    most = h.most;
     rest_size = h.rest_size;
     done_size = h.done_size;
     out = h.out;
@@ -142,27 +152,30 @@ module _ (o : OpenNet) (net : IsOpenNet o) (n : ℕ) where
     left = h.left;
   }
 
-  pub in_net : (t : ℕ) (p : TaskPlan) → IsPlanAtTurn o n t p → (m : ℕ) → IsIn m (nodes_in p.rest) → m < length o.nodes
+  pub in_net : (t : ℕ) (p : TaskState) → IsPlanAtTurn o n t p → (m : ℕ) → IsIn m (nodes_in p.rest) → m < length o.nodes
   in_net t p h m k = let a = in_length p.rest m k in let b = h.rest_size in omega arith
 
-  pub plan_derive : (t : ℕ) (p : TaskPlan) (c d : List Bool) → IsPlanAtTurn o n t p → length c ≡ length o.nodes → length d ≡ length o.nodes → ((m : ℕ) → nodes_in d m ≡ (nodes_in p.done m || nodes_in c m)) → IsPart o n (nodes_in p.rest) (nodes_in c) → ComesAt o n (nodes_in c) t → IsPlanAtTurn o n (suc t) (record { tasks = p.tasks ++ Derive c ∷ []; rest = p.rest; done = d })
+  pub plan_derive : (t : ℕ) (p : TaskState) (c : HeadedPart) (d : List Bool) → IsPlanAtTurn o n t p → (c.net ≡ o) × (length c.nodes ≡ length o.nodes) → length d ≡ length o.nodes → ((m : ℕ) → nodes_in d m ≡ (nodes_in p.done m || nodes_in c.nodes m)) → IsPart o n (nodes_in p.rest) (nodes_in c.nodes) → ComesAt o n (nodes_in c.nodes) t → IsPlanAtTurn o n (suc t) (record p { tasks = p.tasks ++ Derive c ∷ []; done = d })
   plan_derive t p c d h size size' both part comes = record {
+    net = h.net;
+    node = h.node;
+    most = h.most;
     rest_size = h.rest_size;
     done_size = size';
     out = h.out;
     done = λ m. (
-      (λ k. elim (or_cases (nodes_in p.done m) (nodes_in c m) (sym (both m) ∙ k)) [
+      (λ k. elim (or_cases (nodes_in p.done m) (nodes_in c.nodes m) (sym (both m) ∙ k)) [
         | inl g ↦ let x = (h.done m).0 g in let l = x.4 in (x.0, x.1, x.2, x.3, omega arith, x.5)
-        | inr g ↦ (nodes_in c, t, part, comes, omega arith, g)
+        | inr g ↦ (nodes_in c.nodes, t, part, comes, omega arith, g)
       ]),
       λ x. both m ∙ elim (same_nat x.1 t) [
         | inl e ↦
-            let f = turn_same o net (nodes_in p.rest) (in_net t p h) n x.0 (nodes_in c) x.2 part t (subst (λ z. ComesAt o n x.0 z) e x.3) comes in
-            or_right (nodes_in p.done m) (nodes_in c m) (subst (λ z. IsIn m z) f x.5)
-        | inr g ↦ let l = x.4 in or_left (nodes_in p.done m) (nodes_in c m) ((h.done m).1 (x.0, x.1, x.2, x.3, omega arith, x.5))
+            let f = turn_same o net (nodes_in p.rest) (in_net t p h) n x.0 (nodes_in c.nodes) x.2 part t (subst (λ z. ComesAt o n x.0 z) e x.3) comes in
+            or_right (nodes_in p.done m) (nodes_in c.nodes m) (subst (λ z. IsIn m z) f x.5)
+        | inr g ↦ let l = x.4 in or_left (nodes_in p.done m) (nodes_in c.nodes m) ((h.done m).1 (x.0, x.1, x.2, x.3, omega arith, x.5))
       ],
     );
-    sized = sized_more (length o.nodes) p.tasks (Derive c ∷ []) h.sized (size, (part.0, (part.2 part.0).1 (alone part.0 part.1)), tt);
+    sized = sized_more o p.tasks (Derive c ∷ []) h.sized (size, (part.0, (part.2 part.0).1 (alone part.0 part.1)), tt);
     lists = λ more k. subst (λ z. Lists o n (nodes_in p.rest) 0 z) (sym (append_assoc p.tasks (Derive c ∷ []) more)) (h.lists (Derive c ∷ more) (t, omega arith, part, comes, (λ d l q u a b. absurd (omega arith)), k));
     splits = h.splits;
     left = h.left;
@@ -182,23 +195,28 @@ module _ (o : OpenNet) (net : IsOpenNet o) (n : ℕ) where
       not_n : (m : ℕ) → IsIn m (nodes_in rest) → m ≢ n
       not_n m h e = not_both (nodes_in rest m) h (subst (λ z. nodes_in rest z ≡ false) (sym e) out)
 
-  pub derive_goes : (t near : ℕ) (p q : TaskPlan) → IsPlanAtTurn o n t p → IsIn near (nodes_in p.rest) → HasTurn o n p near t → DerivesNear o near p q → StaysForRest o n (suc t) p q
+  pub derive_goes : (t near : ℕ) (p q : TaskState) → IsPlanAtTurn o n t p → IsIn near (nodes_in p.rest) → HasTurn o n p near t → DerivesNear o near p q → StaysForRest o n (suc t) p q
   derive_goes t near p q h here now d =
-      let part = reached_part p.rest d.component near h.out here d.reached in
+      let part = reached_part p.rest d.component.nodes near h.out here d.reached in
       let inside = (d.reached near).1 (alone near here) in
-      let x = plan_derive t p d.component q.done h d.size (d.done_size ∙ h.done_size) (λ m. d.both m ∙ or_comm (nodes_in d.component m) (nodes_in p.done m)) part (now (nodes_in d.component) part inside) in
-      let e : record { tasks = p.tasks ++ Derive d.component ∷ []; rest = p.rest; done = q.done } ≡ q = plan_same p q (p.tasks ++ Derive d.component ∷ []) d.tasks d.same in
+      let x = plan_derive t p d.component q.done h d.size (d.done_size ∙ h.done_size) (λ m. d.both m ∙ or_comm (nodes_in d.component.nodes m) (nodes_in p.done m)) part (now (nodes_in d.component.nodes) part inside) in
+      let e : record p { tasks = p.tasks ++ Derive d.component ∷ []; done = q.done } ≡ q = plan_same p q (p.tasks ++ Derive d.component ∷ []) d.tasks d.same d.net d.node d.turns in
       (subst (λ z. IsPlanAtTurn o n (suc t) z) e x, d.same)
     where
-      plan_same : (p q : TaskPlan) (ts : List Task) → q.tasks ≡ ts → q.rest ≡ p.rest → ◌≡◌ {A = TaskPlan} (record { tasks = ts; rest = p.rest; done = q.done }) q
-      plan_same p q ts e f = ap (λ z. record { tasks = z; rest = p.rest; done = q.done }) (sym e) ∙ ap (λ z. record { tasks = q.tasks; rest = z; done = q.done }) (sym f)
+      plan_same : (p q : TaskState) (ts : List Task) → q.tasks ≡ ts → q.rest ≡ p.rest → q.net ≡ p.net → q.node ≡ p.node → q.turns ≡ p.turns → ◌≡◌ {A = TaskState} (record p { tasks = ts; done = q.done }) q
+      plan_same p q ts e f a b c =
+          ap (λ z. record { net = z; node = p.node; turns = p.turns; tasks = ts; rest = p.rest; done = q.done }) (sym a)
+          ∙ ap (λ z. record { net = q.net; node = z; turns = p.turns; tasks = ts; rest = p.rest; done = q.done }) (sym b)
+          ∙ ap (λ z. record { net = q.net; node = q.node; turns = z; tasks = ts; rest = p.rest; done = q.done }) (sym c)
+          ∙ ap (λ z. record { net = q.net; node = q.node; turns = q.turns; tasks = z; rest = p.rest; done = q.done }) (sym e)
+          ∙ ap (λ z. record { net = q.net; node = q.node; turns = q.turns; tasks = q.tasks; rest = z; done = q.done }) (sym f)
 
   -- each node of a component is one of the rest
   pub part_inside : (s : ℕ → Bool) → ((m : ℕ) → IsIn m s → m < length o.nodes) → (d : ℕ → Bool) → IsPart o n s d → (m : ℕ) → IsIn m d → Without n s m
   part_inside s inside d part m h = link_first (open_graph o) (Without n s) m part.0 (link_back o (Without n s) (without o net s inside n) part.0 m ((part.2 m).0 h))
 
   -- a component with a done node has an earlier turn
-  done_before : (t : ℕ) (p : TaskPlan) → IsPlanAtTurn o n t p → (d : ℕ → Bool) (l m : ℕ) → IsPart o n (nodes_in p.rest) d → ComesAt o n d l → IsIn m d → IsIn m (nodes_in p.done) → l < t
+  done_before : (t : ℕ) (p : TaskState) → IsPlanAtTurn o n t p → (d : ℕ → Bool) (l m : ℕ) → IsPart o n (nodes_in p.rest) d → ComesAt o n d l → IsIn m d → IsIn m (nodes_in p.done) → l < t
   done_before t p h d l m part comes inside here =
       let x = (h.done m).0 here in
       let e = meet_same o net (nodes_in p.rest) (in_net t p h) n x.0 d x.2 part m x.5 inside in
@@ -206,14 +224,14 @@ module _ (o : OpenNet) (net : IsOpenNet o) (n : ℕ) where
       let g = x.4 in
       omega arith
 
-  undone_after : (t : ℕ) (p : TaskPlan) → IsPlanAtTurn o n t p → (d : ℕ → Bool) (l m : ℕ) → IsPart o n (nodes_in p.rest) d → ComesAt o n d l → IsIn m d → nodes_in p.done m ≡ false → t ≤ l
+  undone_after : (t : ℕ) (p : TaskState) → IsPlanAtTurn o n t p → (d : ℕ → Bool) (l m : ℕ) → IsPart o n (nodes_in p.rest) d → ComesAt o n d l → IsIn m d → nodes_in p.done m ≡ false → t ≤ l
   undone_after t p h d l m part comes inside off = elim (at_most t l) [
     | inl g ↦ g
     | inr g ↦ absurd (not_both (nodes_in p.done m) ((h.done m).1 (d, l, part, comes, g, inside)) off)
   ]
 
   -- at the turn of port i: the component that it touches, if it isn't done
-  pub port_turn : (p : TaskPlan) (i w l k : ℕ) → IsPlanAtTurn o n (turn o n i) p → IsWire o w (Port n i) (Port l k) → IsIn l (nodes_in p.rest) → nodes_in p.done l ≡ false → HasTurn o n p l (turn o n i)
+  pub port_turn : (p : TaskState) (i w l k : ℕ) → IsPlanAtTurn o n (turn o n i) p → IsWire o w (Port n i) (Port l k) → IsIn l (nodes_in p.rest) → nodes_in p.done l ≡ false → HasTurn o n p l (turn o n i)
   port_turn p i w l k h wire here off c part inside =
       let q = comes_at o net (nodes_in p.rest) (in_net (turn o n i) p h) n c l inside (in_net (turn o n i) p h l here) in
       let low = undone_after (turn o n i) p h c q.0 l part q.1 inside off in
@@ -224,7 +242,7 @@ module _ (o : OpenNet) (net : IsOpenNet o) (n : ℕ) where
       go k' (inr x) low = absurd (x.0 i (w, l, k, wire, inside))
 
   -- .. and none, if it touches none or one that is done
-  pub port_none : (p : TaskPlan) (i : ℕ) → i < ports_of o n → IsPlanAtTurn o n (turn o n i) p → ((w l k : ℕ) → IsWire o w (Port n i) (Port l k) → IsIn l (nodes_in p.rest) → IsIn l (nodes_in p.done)) → NoneAt (nodes_in p.rest) (turn o n i)
+  pub port_none : (p : TaskState) (i : ℕ) → i < ports_of o n → IsPlanAtTurn o n (turn o n i) p → ((w l k : ℕ) → IsWire o w (Port n i) (Port l k) → IsIn l (nodes_in p.rest) → IsIn l (nodes_in p.done)) → NoneAt (nodes_in p.rest) (turn o n i)
   port_none p i b h all d part (inl x) =
       let t = x.1 in
       let e : x.0 ≡ i = turn_one_port o net n x.0 i (in_ports o net t.0 n x.0 (Port t.1 t.2) t.3) b x.2 in
@@ -256,7 +274,7 @@ module _ (o : OpenNet) (net : IsOpenNet o) (n : ℕ) where
   class_none s a d part (inr x) = let c = x.1.2 in absurd (omega arith)
 
   -- after the ports, the components by their first nodes
-  pub node_turn : (p : TaskPlan) (m : ℕ) → IsPlanAtTurn o n (suc (ports_of o n) + m) p → IsIn m (nodes_in p.rest) → nodes_in p.done m ≡ false → HasTurn o n p m (suc (ports_of o n) + m)
+  pub node_turn : (p : TaskState) (m : ℕ) → IsPlanAtTurn o n (suc (ports_of o n) + m) p → IsIn m (nodes_in p.rest) → nodes_in p.done m ≡ false → HasTurn o n p m (suc (ports_of o n) + m)
   node_turn p m h here off c part inside =
       let t = suc (ports_of o n) + m in
       let q = comes_at o net (nodes_in p.rest) (in_net t p h) n c m inside (in_net t p h m here) in
@@ -271,7 +289,7 @@ module _ (o : OpenNet) (net : IsOpenNet o) (n : ℕ) where
           absurd (omega arith)
       go k' (inr x) low = let u = x.1.3 m inside in let v = x.1.2 in omega arith
 
-  pub node_none : (p : TaskPlan) (m : ℕ) → IsPlanAtTurn o n (suc (ports_of o n) + m) p → (IsIn m (nodes_in p.rest) → IsIn m (nodes_in p.done)) → NoneAt (nodes_in p.rest) (suc (ports_of o n) + m)
+  pub node_none : (p : TaskState) (m : ℕ) → IsPlanAtTurn o n (suc (ports_of o n) + m) p → (IsIn m (nodes_in p.rest) → IsIn m (nodes_in p.done)) → NoneAt (nodes_in p.rest) (suc (ports_of o n) + m)
   node_none p m h all d part (inl x) =
       let b = in_ports o net x.1.0 n x.0 (Port x.1.1 x.1.2) x.1.3 in
       let u = turn_one_port_most o net n x.0 b in
@@ -286,19 +304,7 @@ module _ (o : OpenNet) (net : IsOpenNet o) (n : ℕ) where
       let f = done_before t p h d t m part (inr x) inside (all here) in
       absurd (omega arith)
 
-  -- if all nodes that are left are derived, no component has a later turn
-  pub none_later : (t : ℕ) (p : TaskPlan) → IsPlanAtTurn o n t p → missing p.done ≤ missing p.rest → (d : ℕ → Bool) (l : ℕ) → IsPart o n (nodes_in p.rest) d → ComesAt o n d l → t ≤ l → ⊥
-  none_later t p h few d l part comes low =
-      let m = part.0 in
-      let inside : IsIn m d = (part.2 m).1 (alone m part.1) in
-      let within : (k : ℕ) → IsIn k (nodes_in p.done) → IsIn k (nodes_in p.rest) = λ k a.
-      let x = (h.done k).0 a in
-      (part_inside (nodes_in p.rest) (in_net t p h) x.0 x.2 k x.5).0 in
-      let all = has_all p.done p.rest (h.done_size ∙ sym h.rest_size) within few in
-      let f = done_before t p h d l m part comes inside (all m part.1.0) in
-      absurd (omega arith)
-
-  pub plan_end : (p : TaskPlan) → IsPlanAtTurn o n (suc (ports_of o n) + length o.nodes) p → Lists o n (nodes_in p.rest) 0 p.tasks
+  pub plan_end : (p : TaskState) → IsPlanAtTurn o n (suc (ports_of o n) + length o.nodes) p → Lists o n (nodes_in p.rest) 0 p.tasks
   plan_end p h = subst (λ z. Lists o n (nodes_in p.rest) 0 z) (none_more p.tasks) (h.lists [] (λ d l part comes low. last d l part comes low))
     where
       none_more : (ts : List Task) → ts ++ [] ≡ ts
@@ -342,7 +348,7 @@ module _ (o : OpenNet) (net : IsOpenNet o) (n : ℕ) where
   lists_part part rest r low (Derive c ∷ ts) h = (
     h.0,
     h.1,
-    part_of_rest part rest r (nodes_in c) h.2,
+    part_of_rest part rest r (nodes_in c.nodes) h.2,
     h.3,
     (λ d l p comes a b. h.4 d l (rest_of_part part rest r d p) comes a b),
     lists_part part rest r (suc h.0) ts h.5,
@@ -350,20 +356,20 @@ module _ (o : OpenNet) (net : IsOpenNet o) (n : ℕ) where
   lists_part part rest r low (Make x ∷ ts) h = lists_part part rest r low ts h
 
   -- port by port
-  pub port_pass : (p : TaskPlan) (i : ℕ) → i < ports_of o n → IsPlanAtTurn o n (turn o n i) p → ((w l k : ℕ) → IsWire o w (Port n i) (Port l k) → IsIn l (nodes_in p.rest) → IsIn l (nodes_in p.done)) → StaysForRest o n (suc (turn o n i)) p p
+  pub port_pass : (p : TaskState) (i : ℕ) → i < ports_of o n → IsPlanAtTurn o n (turn o n i) p → ((w l k : ℕ) → IsWire o w (Port n i) (Port l k) → IsIn l (nodes_in p.rest) → IsIn l (nodes_in p.done)) → StaysForRest o n (suc (turn o n i)) p p
   port_pass p i b h all = (plan_skip (turn o n i) p h (port_none p i b h all), refl)
 
-  pub port_derive : (p q : TaskPlan) (i w l k : ℕ) → IsPlanAtTurn o n (turn o n i) p → IsWire o w (Port n i) (Port l k) → IsIn l (nodes_in p.rest) → nodes_in p.done l ≡ false → DerivesNear o l p q → StaysForRest o n (suc (turn o n i)) p q
+  pub port_derive : (p q : TaskState) (i w l k : ℕ) → IsPlanAtTurn o n (turn o n i) p → IsWire o w (Port n i) (Port l k) → IsIn l (nodes_in p.rest) → nodes_in p.done l ≡ false → DerivesNear o l p q → StaysForRest o n (suc (turn o n i)) p q
   port_derive p q i w l k h wire here off d = derive_goes (turn o n i) l p q h here (port_turn p i w l k h wire here off) d
 
-  pub node_pass : (p : TaskPlan) (m : ℕ) → IsPlanAtTurn o n (suc (ports_of o n) + m) p → (IsIn m (nodes_in p.rest) → IsIn m (nodes_in p.done)) → StaysForRest o n (suc (suc (ports_of o n) + m)) p p
+  pub node_pass : (p : TaskState) (m : ℕ) → IsPlanAtTurn o n (suc (ports_of o n) + m) p → (IsIn m (nodes_in p.rest) → IsIn m (nodes_in p.done)) → StaysForRest o n (suc (suc (ports_of o n) + m)) p p
   node_pass p m h all = (plan_skip (suc (ports_of o n) + m) p h (node_none p m h all), refl)
 
-  pub node_derive : (p q : TaskPlan) (m : ℕ) → IsPlanAtTurn o n (suc (ports_of o n) + m) p → IsIn m (nodes_in p.rest) → nodes_in p.done m ≡ false → DerivesNear o m p q → StaysForRest o n (suc (suc (ports_of o n) + m)) p q
+  pub node_derive : (p q : TaskState) (m : ℕ) → IsPlanAtTurn o n (suc (ports_of o n) + m) p → IsIn m (nodes_in p.rest) → nodes_in p.done m ≡ false → DerivesNear o m p q → StaysForRest o n (suc (suc (ports_of o n) + m)) p q
   node_derive p q m h here off d = derive_goes (suc (ports_of o n) + m) m p q h here (node_turn p m h here off) d
 
-  pub agent_start : (p : TaskPlan) → IsAgent o n → IsPlanAtTurn o n 0 p → StaysForRest o n 1 p p
+  pub agent_start : (p : TaskState) → IsAgent o n → IsPlanAtTurn o n 0 p → StaysForRest o n 1 p p
   agent_start p a h = (plan_skip 0 p h (agent_none (nodes_in p.rest) a), refl)
 
-  pub class_last : (old p : TaskPlan) → IsClass o n → StaysForRest o n (ports_of o n) old p → StaysForRest o n (suc (ports_of o n)) old p
+  pub class_last : (old p : TaskState) → IsClass o n → StaysForRest o n (ports_of o n) old p → StaysForRest o n (suc (ports_of o n)) old p
   class_last old p a h = (plan_skip (ports_of o n) p h.0 (class_none (nodes_in p.rest) a), h.1)

@@ -1,5 +1,5 @@
 -- A joint turns one stack of nets into another.
-use Rattle.std.proofs.Common.{◌≡◌, ◌⊎◌, ◌-◌, drop, Result, Ok, Err, OnOk, ◌≤◌, ◌+◌, ℕ, zero, suc, Bool, cond, Some, List, [], ◌∷◌, ◌++◌, length, slice_get, refl, sym, subst, ap, inl, inr, ◌∙◌, append_assoc, arith, take}
+use Rattle.std.proofs.Common.{◌≡◌, ◌⊎◌, ◌-◌, drop, Result, Ok, Err, OnOk, ◌≤◌, ◌+◌, ℕ, zero, suc, cond, Some, List, [], ◌∷◌, ◌++◌, length, slice_get, refl, sym, subst, ap, inl, inr, ◌∙◌, append_assoc, arith, take}
 use Rattle.in_simple_deriving.specs.declared.plans.StackStep.{StackStep}
 use Rattle.in_simple_deriving.specs.declared.plans.StackStep.TheVariants as joint
 use Rattle.in_simple_deriving.specs.declared.plans.Task.{Task}
@@ -9,6 +9,7 @@ use Rattle.in_open_nets.specs.declared.derivations.Step.{Step}
 use Rattle.in_open_nets.specs.declared.derivations.Step.TheVariants.{Graft, Cut, Mix}
 use Rattle.in_open_nets.specs.Derivations.{Part, named, own_nodes, is_among, nodes_of, ShareNothing, HaveNoRepeats, AreEarlier, BuildsPart, times}
 use Rattle.in_open_nets.specs.Members.{nodes_in}
+use Rattle.in_simple_deriving.specs.Turns.{HeadedPart}
 use Rattle.in_simple_deriving.specs.Planned.{TakesPart}
 use Rattle.in_simple_deriving.specs.Stacks as yields
 use Rattle.in_simple_deriving.specs.TakenOrder.{AreTaken, steps_from}
@@ -223,14 +224,14 @@ module _ (o : OpenNet) where
 
   pub runs_app : (ts us : List Task) (a b c : List Shape) → RunsTasks o ts a b → RunsTasks o us b c → RunsTasks o (ts ++ us) a c
   runs_app [] us a b c r q = subst (λ z. RunsTasks o us z c) (sym r) q
-  runs_app (Derive d ∷ ts) us a b c r q = runs_app ts us (a ++ shape (nodes_in d) no_wires ∷ []) b c r q
+  runs_app (Derive d ∷ ts) us a b c r q = runs_app ts us (a ++ shape (nodes_in d.nodes) no_wires ∷ []) b c r q
   runs_app (Make j ∷ ts) us a b c r q = (r.0, r.1, r.2, r.3, r.4, runs_app ts us (r.0 ++ r.2 ∷ []) b c r.5 q)
 
   pub runs_make : (ts : List Task) (j : StackStep) (a below xs : List Shape) (x : Shape) → RunsTasks o ts a (below ++ xs) → Fits o j xs x → RunsTasks o (ts ++ Make j ∷ []) a (below ++ x ∷ [])
   runs_make ts j a below xs x r f = runs_app ts (Make j ∷ []) a (below ++ xs) (below ++ x ∷ []) r (below, xs, x, refl, f, refl)
 
-  pub runs_derive : (ts : List Task) (c : List Bool) (a b : List Shape) → RunsTasks o ts a b → RunsTasks o (ts ++ Derive c ∷ []) a (b ++ shape (nodes_in c) no_wires ∷ [])
-  runs_derive ts c a b r = runs_app ts (Derive c ∷ []) a b (b ++ shape (nodes_in c) no_wires ∷ []) r refl
+  pub runs_derive : (ts : List Task) (c : HeadedPart) (a b : List Shape) → RunsTasks o ts a b → RunsTasks o (ts ++ Derive c ∷ []) a (b ++ shape (nodes_in c.nodes) no_wires ∷ [])
+  runs_derive ts c a b r = runs_app ts (Derive c ∷ []) a b (b ++ shape (nodes_in c.nodes) no_wires ∷ []) r refl
 
 -- ---- the nets that a step takes
 
@@ -325,13 +326,13 @@ under_make o j ts s r s' r' m u = record {
       (subst (λ z. AreTaken o (steps_from js z (take (length r - count_of j) r ++ length s ∷ []))) (ap (λ z. s ++ step_of j z ∷ []) at.1 ∙ sym made.0) (u.order (j ∷ js) (yields.made j ts js y)));
 }
 
-pub under_derive : (o : OpenNet) (c : List Bool) (ps ts : List Task) (s : List Step) (r : List ℕ) → PutsShapes o ps (shape (nodes_in c) no_wires ∷ []) → TakesPart o (nodes_in c) ps → IsUnderWay o (Derive c ∷ ts) s r → IsUnderWay o (ps ++ ts) s r
+pub under_derive : (o : OpenNet) (c : HeadedPart) (ps ts : List Task) (s : List Step) (r : List ℕ) → PutsShapes o ps (shape (nodes_in c.nodes) no_wires ∷ []) → TakesPart o (nodes_in c.nodes) ps → IsUnderWay o (Derive c ∷ ts) s r → IsUnderWay o (ps ++ ts) s r
 under_derive o c ps ts s r p takes u = record {
   whole = u.whole;
   all = u.all;
   shapes = u.shapes;
   stack = u.stack;
-  runs = runs_app o ps ts u.shapes (u.shapes ++ shape (nodes_in c) no_wires ∷ []) (shape u.whole (loose_in o) ∷ []) (p u.shapes) u.runs;
+  runs = runs_app o ps ts u.shapes (u.shapes ++ shape (nodes_in c.nodes) no_wires ∷ []) (shape u.whole (loose_in o) ∷ []) (p u.shapes) u.runs;
   order = λ js y.
       let x = split o ps ts js y in
       u.order js (subst (Yields o (Derive c ∷ ts)) x.whole (yields.derived c ts x.one x.other (takes x.one x.first) x.second));

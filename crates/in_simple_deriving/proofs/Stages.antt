@@ -1,21 +1,21 @@
 -- The invariant of a plan from turn to turn.
-use Rattle.std.proofs.Common.{◌≡◌, ◌⊎◌, ◌<◌, ◌+◌, ◌-◌, ◌≤◌, ℕ, zero, suc, Bool, true, false, cond, List, [], refl, sym, ◌∙◌, ap, subst, inl, inr, arith}
+use Rattle.std.proofs.Common.{◌≡◌, ◌⊎◌, ◌<◌, ◌+◌, ◌-◌, ℕ, zero, suc, Bool, true, false, cond, List, [], refl, sym, ◌∙◌, ap, subst, inl, inr, arith}
 use Rattle.in_open_nets.specs.declared.open_nets.OpenPoint.{OpenPoint}
 use Rattle.in_open_nets.specs.declared.open_nets.OpenPoint.TheVariants.{Port}
 use Rattle.in_simple_deriving.specs.declared.plans.Fate.{Fate}
 use Rattle.in_simple_deriving.specs.declared.plans.Fate.TheVariants.{Waits, Derived, Outside}
 use Rattle.in_simple_deriving.specs.declared.plans.StackStep.TheVariants.{Cut, Given, Graft, Mix}
-use Rattle.in_simple_deriving.specs.declared.plans.TaskPlan.{TaskPlan}
-use Rattle.in_simple_deriving.specs.declared.plans.Task.TheVariants.{Make}
+use Rattle.in_simple_deriving.specs.TaskStates.{TaskState}
+use Rattle.in_simple_deriving.specs.declared.plans.Task.TheVariants.{Derive, Make}
 use Rattle.in_open_nets.specs.OpenNets.{OpenNet, IsAgent, IsClass, IsWire, class_in, classes_of}
-use Rattle.in_simple_deriving.specs.Planned.{HasClasses, HasFate, HasFateAt, IsAuxiliaryPort, JoinsFate, PutsNet, Skips, TakesJoints, WhatComes, WhatPort, WithEmpties}
-use Rattle.in_simple_deriving.specs.Procedure.{DerivesNear, StaysForRest, IsPlanAtTurn, KeepsPlan, with_task}
+use Rattle.in_simple_deriving.specs.Planned.{HasClasses, HasFate, HasFateAt, IsAuxiliaryPort, PutsNet, Skips, TakesJoints, WhatComes, WhatPort, WithEmpties, after_fate}
+use Rattle.in_simple_deriving.specs.Procedure.{StaysForRest, IsPlanAtTurn, KeepsPlan, with_task}
 use Rattle.in_open_nets.specs.Members.{nodes_in}
 use Rattle.in_simple_deriving.specs.Progress.{HasNoTurnLeft, PlansClasses, PlansNet, Progress, StartsPlan, later, progress, until}
 use Rattle.in_open_nets.specs.Stuck.{ports_of, turn}
 use Rattle.in_simple_deriving.specs.TakenOrder.{before, empties}
 use Rattle.in_simple_deriving.proofs.ClassNets.{begun_most, classes_start, first_came, further_came, further_none, net_graft, skip_has, some_class}
-use Rattle.in_simple_deriving.proofs.Fates.{along, met_past, past}
+use Rattle.in_simple_deriving.proofs.Fates.{along, derives_near, met_past, past}
 use Rattle.in_open_nets.proofs.Public.{at_most}
 use Rattle.in_simple_deriving.proofs.Nets.{net_given, net_join, net_other, one_port}
 use Rattle.in_simple_deriving.proofs.Planning.{NoneAt, agent_start, class_last, goes_make, node_derive, node_pass, plan_skip, port_derive, port_pass, turn_agent}
@@ -33,7 +33,7 @@ own_turn o n i a = turn_agent o n i a.agent (λ e. let b = a.auxiliary in omega 
 
 -- ---- an agent's classes
 
-pub starts_classes : (o : OpenNet) (n : ℕ) (p : TaskPlan) → StartsPlan o n p → IsAgent o n → PlansClasses o n 1 0 p
+pub starts_classes : (o : OpenNet) (n : ℕ) (p : TaskState) → StartsPlan o n p → IsAgent o n → PlansClasses o n 1 0 p
 starts_classes o n p s agent =
     let net = s.orderly.net in
     record {
@@ -53,9 +53,9 @@ starts_classes o n p s agent =
 some_ports : (o : OpenNet) (n i : ℕ) → i < ports_of o n → 0 < ports_of o n
 some_ports o n i lt = omega arith
 
-module _ (o : OpenNet) (n i begun : ℕ) (p : TaskPlan) (x : PlansClasses o n i begun p) (lt : i < ports_of o n) where
+module _ (o : OpenNet) (n i begun : ℕ) (p : TaskState) (x : PlansClasses o n i begun p) (lt : i < ports_of o n) where
   -- the next port's class has these nets up to it
-  next_classes : (class : ℕ) (r : TaskPlan) → class ≡ class_in o n i → IsPlanAtTurn o n (suc i) r → HasClasses o n (suc i) (class_in o n i) r → TakesJoints o n (suc i) [] r → PlansClasses o n (i + 1) class r
+  next_classes : (class : ℕ) (r : TaskState) → class ≡ class_in o n i → IsPlanAtTurn o n (suc i) r → HasClasses o n (suc i) (class_in o n i) r → TakesJoints o n (suc i) [] r → PlansClasses o n (i + 1) class r
   next_classes class r e plan classes takes =
       let next : suc i ≡ i + 1 = omega arith in
       let back : i ≡ i + 1 - 1 = omega arith in
@@ -72,7 +72,7 @@ module _ (o : OpenNet) (n i begun : ℕ) (p : TaskPlan) (x : PlansClasses o n i 
         none = λ none. absurd (omega arith);
       }
 
-  pub first_next : (class : ℕ) (q r : TaskPlan) (came : Bool) → class ≡ class_in o n i → begun < class → KeepsPlan p q → Skips (class - begun - 1) p q → WithEmpties (class - begun - 1) p q →
+  pub first_next : (class : ℕ) (q r : TaskState) (came : Bool) → class ≡ class_in o n i → begun < class → KeepsPlan p q → Skips (class - begun - 1) p q → WithEmpties (class - begun - 1) p q →
       StaysForRest o n (suc i) q r → WhatPort o n i q r came → WhatComes o n i q r came → PlansClasses o n (i + 1) class r × (r.rest ≡ p.rest)
   first_next class q r true e less keeps skips empty goes adds comes =
       let net = x.orderly.net in
@@ -90,7 +90,7 @@ module _ (o : OpenNet) (n i begun : ℕ) (p : TaskPlan) (x : PlansClasses o n i 
       let own = own_turn o n i (record { agent = x.agent; auxiliary = x.auxiliary; port = lt }) in
       absurd (first_brings o net n q r i (begun + (class - begun - 1)) x.agent x.auxiliary lt (subst (λ z. IsPlanAtTurn o n z q) (sym own) kept.0) has (omega arith) adds)
 
-  pub further_next : (r s : TaskPlan) (came : Bool) → begun ≡ class_in o n i → StaysForRest o n (suc i) p r → WhatPort o n i p r came → WhatComes o n i p r came → s ≡ cond came (with_task r (Make Mix)) r → PlansClasses o n (i + 1) begun s × (s.rest ≡ p.rest)
+  pub further_next : (r s : TaskState) (came : Bool) → begun ≡ class_in o n i → StaysForRest o n (suc i) p r → WhatPort o n i p r came → WhatComes o n i p r came → s ≡ cond came (with_task r (Make Mix)) r → PlansClasses o n (i + 1) begun s × (s.rest ≡ p.rest)
   further_next r s true e goes adds comes mixed =
       let net = x.orderly.net in
       let has = subst (λ z. HasClasses o n i z p) e x.classes in
@@ -111,7 +111,7 @@ module _ (o : OpenNet) (n i begun : ℕ) (p : TaskPlan) (x : PlansClasses o n i 
       )
 
 -- the graft over the classes
-pub grafts : (o : OpenNet) (n i begun : ℕ) (p q r : TaskPlan) (count : ℕ) → PlansClasses o n i begun p → i ≡ 1 + (ports_of o n - 1) → count ≡ classes_of o n → KeepsPlan p q → Skips (count - begun) p q → WithEmpties (count - begun) p q →
+pub grafts : (o : OpenNet) (n i begun : ℕ) (p q r : TaskState) (count : ℕ) → PlansClasses o n i begun p → i ≡ 1 + (ports_of o n - 1) → count ≡ classes_of o n → KeepsPlan p q → Skips (count - begun) p q → WithEmpties (count - begun) p q →
     r ≡ with_task q (Make (Graft n count)) → PlansNet o n i r × (r.rest ≡ p.rest)
 grafts o n i begun p q r count x at many keeps skips empty e =
     let net = x.orderly.net in
@@ -146,7 +146,7 @@ grafts o n i begun p q r count x at many keeps skips empty e =
 
 -- ---- one net
 
-pub gives : (o : OpenNet) (n : ℕ) (p q : TaskPlan) → StartsPlan o n p → IsClass o n → q ≡ with_task p (Make (Given n)) → PlansNet o n 0 q × (q.rest ≡ p.rest)
+pub gives : (o : OpenNet) (n : ℕ) (p q : TaskState) → StartsPlan o n p → IsClass o n → q ≡ with_task p (Make (Given n)) → PlansNet o n 0 q × (q.rest ≡ p.rest)
 gives o n p q s class e =
     let on = goes_make o n 0 p p q (Given n) (s.plan, refl) e in (
       record {
@@ -160,7 +160,7 @@ gives o n p q s class e =
     )
 
 -- no component comes at the turn after a class node's ports
-pub past_ports : (o : OpenNet) (n : ℕ) (p : TaskPlan) → PlansNet o n (ports_of o n) p → IsClass o n → PlansNet o n (ports_of o n + 1) p
+pub past_ports : (o : OpenNet) (n : ℕ) (p : TaskState) → PlansNet o n (ports_of o n) p → IsClass o n → PlansNet o n (ports_of o n + 1) p
 past_ports o n p x class =
     let next : suc (ports_of o n) ≡ ports_of o n + 1 = omega arith in
     let takes = class_end o x.orderly.net n p class (subst (λ z. TakesJoints o n (ports_of o n) z p) (before_given o n (ports_of o n) class) x.takes) in
@@ -173,7 +173,7 @@ past_ports o n p x class =
       takes = subst (λ z. TakesJoints o n (suc (ports_of o n)) z p) (sym (before_given o n (suc (ports_of o n)) class)) takes;
     })
 
-module _ (o : OpenNet) (n k : ℕ) (p r : TaskPlan) (x : PlansNet o n k p) where
+module _ (o : OpenNet) (n k : ℕ) (p r : TaskState) (x : PlansNet o n k p) where
   -- one turn further
   next_net : StaysForRest o n (suc k) p r → PutsNet o n r → before o n (suc k) ≡ [] → TakesJoints o n (suc k) [] r → PlansNet o n (k + 1) r × (r.rest ≡ p.rest)
   next_net goes net none takes =
@@ -182,7 +182,7 @@ module _ (o : OpenNet) (n k : ℕ) (p r : TaskPlan) (x : PlansNet o n k p) where
         goes.1,
       )
 
-port_passes : (o : OpenNet) (n i w : ℕ) (q : OpenPoint) (p r : TaskPlan) (f : Fate) → PlansNet o n (turn o n i) p → i < ports_of o n → (IsAgent o n → i ≡ 0) → IsWire o w (Port n i) q → HasFateAt p q f → (f ≡ Derived) ⊎ (f ≡ Outside) → r ≡ p →
+port_passes : (o : OpenNet) (n i w : ℕ) (q : OpenPoint) (p r : TaskState) (f : Fate) → PlansNet o n (turn o n i) p → i < ports_of o n → (IsAgent o n → i ≡ 0) → IsWire o w (Port n i) q → HasFateAt p q f → (f ≡ Derived) ⊎ (f ≡ Outside) → r ≡ p →
     PlansNet o n (turn o n i + 1) r × (r.rest ≡ p.rest)
 port_passes o n i w q p r f x lt principal wire h none e =
     let net = x.orderly.net in
@@ -191,21 +191,23 @@ port_passes o n i w q p r f x lt principal wire h none e =
     (next_net o n (turn o n i) p p x (port_pass o net n p i lt x.plan met) x.net (before_next o net n i lt principal) (join_nothing o net n p i lt principal x.plan met x.takes))
 
 -- the turn of a port
-pub joins_port : (o : OpenNet) (n i w : ℕ) (q : OpenPoint) (p r : TaskPlan) (f : Fate) → PlansNet o n (turn o n i) p → i < ports_of o n → (IsAgent o n → i ≡ 0) → IsWire o w (Port n i) q → HasFateAt p q f → JoinsFate o (Cut w) p f r →
+pub joins_port : (o : OpenNet) (n i w : ℕ) (q : OpenPoint) (p r : TaskState) (f : Fate) → PlansNet o n (turn o n i) p → i < ports_of o n → (IsAgent o n → i ≡ 0) → IsWire o w (Port n i) q → HasFateAt p q f → r ≡ after_fate (Cut w) p f →
     PlansNet o n (turn o n i + 1) r × (r.rest ≡ p.rest)
-joins_port o n i w q p r (Waits l) x lt principal wire f j =
+joins_port o n i w q p r (Waits c) x lt principal wire f e =
     let net = x.orderly.net in
-    let there = along o net n p i w q wire l f.0 f.1 in
-    let d = j.1 in
+    let l = f.0 in
+    let there = along o net n p i w q wire l f.1 f.2 in
+    let u = with_task p (Derive c) in
+    let d = derives_near o n (turn o n i) l p u c x.plan f.3 refl in
     next_net o n (turn o n i) p r x
-    (goes_make o n (suc (turn o n i)) p j.0 r (Cut w) (port_derive o net n p j.0 i w l f.0 x.plan there f.2 f.3 d) j.2)
-    (net_join o net n (turn o n i) p x.plan l j.0 f.2 f.3 d r i w f.0 x.net there principal (one_port o net n i w q x.node wire principal) j.2)
+    (goes_make o n (suc (turn o n i)) p u r (Cut w) (port_derive o net n p u i w l f.1 x.plan there f.4 f.5 d) e)
+    (net_join o net n (turn o n i) p x.plan l u f.4 f.5 d r i w f.1 x.net there principal (one_port o net n i w q x.node wire principal) e)
     (before_next o net n i lt principal)
-    (join_takes o net n p j.0 r i w l f.0 lt principal x.plan there f.2 f.3 d j.2 x.takes)
+    (join_takes o net n p u r i w l f.1 lt principal x.plan there f.4 f.5 d e x.takes)
 joins_port o n i w q p r Derived x lt principal wire f j = port_passes o n i w q p r Derived x lt principal wire f (inl refl) j
 joins_port o n i w q p r Outside x lt principal wire f j = port_passes o n i w q p r Outside x lt principal wire f (inr refl) j
 
-node_passes : (o : OpenNet) (n m : ℕ) (p r : TaskPlan) (f : Fate) → PlansNet o n (suc (ports_of o n) + m) p → HasFate p m f → (f ≡ Derived) ⊎ (f ≡ Outside) → r ≡ p → PlansNet o n (suc (ports_of o n) + m + 1) r × (r.rest ≡ p.rest)
+node_passes : (o : OpenNet) (n m : ℕ) (p r : TaskState) (f : Fate) → PlansNet o n (suc (ports_of o n) + m) p → HasFate p m f → (f ≡ Derived) ⊎ (f ≡ Outside) → r ≡ p → PlansNet o n (suc (ports_of o n) + m + 1) r × (r.rest ≡ p.rest)
 node_passes o n m p r f x h none e =
     let net = x.orderly.net in
     let k = suc (ports_of o n) + m in
@@ -215,31 +217,23 @@ node_passes o n m p r f x h none e =
     (next_net o n k p p x (node_pass o net n p m x.plan derived) x.net (before_other o n (suc k) (omega arith)) (other_nothing o net n p m x.plan derived takes))
 
 -- the turn of a node that isn't touched
-pub joins_node : (o : OpenNet) (n m : ℕ) (p r : TaskPlan) (f : Fate) → PlansNet o n (suc (ports_of o n) + m) p → HasFate p m f → JoinsFate o Mix p f r → PlansNet o n (suc (ports_of o n) + m + 1) r × (r.rest ≡ p.rest)
-joins_node o n m p r (Waits l) x f j =
+pub joins_node : (o : OpenNet) (n m : ℕ) (p r : TaskState) (f : Fate) → PlansNet o n (suc (ports_of o n) + m) p → HasFate p m f → r ≡ after_fate Mix p f → PlansNet o n (suc (ports_of o n) + m + 1) r × (r.rest ≡ p.rest)
+joins_node o n m p r (Waits c) x f e =
     let net = x.orderly.net in
     let k = suc (ports_of o n) + m in
-    let d = subst (λ z. DerivesNear o z p j.0) f.0 j.1 in
+    let u = with_task p (Derive c) in
+    let d = derives_near o n k m p u c x.plan f.0 refl in
     let takes = subst (λ z. TakesJoints o n k z p) (before_other o n k (omega arith)) x.takes in
     next_net o n k p r x
-    (goes_make o n (suc k) p j.0 r Mix (node_derive o net n p j.0 m x.plan f.1 f.2 d) j.2)
-    (net_other o net n p m x.plan j.0 r f.1 f.2 d x.net j.2)
+    (goes_make o n (suc k) p u r Mix (node_derive o net n p u m x.plan f.1 f.2 d) e)
+    (net_other o net n p m x.plan u r f.1 f.2 d x.net e)
     (before_other o n (suc k) (omega arith))
-    (other_takes o net n p j.0 r m x.plan f.1 f.2 d j.2 takes)
+    (other_takes o net n p u r m x.plan f.1 f.2 d e takes)
 joins_node o n m p r Derived x f j = node_passes o n m p r Derived x f (inl refl) j
 joins_node o n m p r Outside x f j = node_passes o n m p r Outside x f (inr refl) j
 
--- the turns of nodes that aren't left
-pub waits : (o : OpenNet) (n d m : ℕ) (p : TaskPlan) → PlansNet o n (suc (ports_of o n) + m) p → ((k : ℕ) → m ≤ k → k < m + d → nodes_in p.rest k ≡ false) → PlansNet o n (suc (ports_of o n) + (m + d)) p
-waits o n zero m p x none = subst (λ z. PlansNet o n z p) (let e : suc (ports_of o n) + m ≡ suc (ports_of o n) + (m + 0) = omega arith in e) x
-waits o n (suc d) m p x none =
-    let y = (joins_node o n m p p Outside x (none m (omega arith) (omega arith)) refl).0 in
-    let e : suc (ports_of o n) + m + 1 ≡ suc (ports_of o n) + (m + 1) = omega arith in
-    let f : suc (ports_of o n) + (m + 1 + d) ≡ suc (ports_of o n) + (m + suc d) = omega arith in
-    subst (λ z. PlansNet o n z p) f (waits o n d (m + 1) p (subst (λ z. PlansNet o n z p) e y) (λ k a b. none k (omega arith) (omega arith)))
-
 -- the turns that no component has any more
-pub ends : (o : OpenNet) (n d m : ℕ) (p : TaskPlan) → PlansNet o n (suc (ports_of o n) + m) p → HasNoTurnLeft (progress o n p.rest (suc (ports_of o n) + m)) → PlansNet o n (suc (ports_of o n) + (m + d)) p
+pub ends : (o : OpenNet) (n d m : ℕ) (p : TaskState) → PlansNet o n (suc (ports_of o n) + m) p → HasNoTurnLeft (progress o n p.rest (suc (ports_of o n) + m)) → PlansNet o n (suc (ports_of o n) + (m + d)) p
 ends o n zero m p x over = subst (λ z. PlansNet o n z p) (let e : suc (ports_of o n) + m ≡ suc (ports_of o n) + (m + 0) = omega arith in e) x
 ends o n (suc d) m p x over =
     let net = x.orderly.net in

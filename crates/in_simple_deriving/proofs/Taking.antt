@@ -7,7 +7,7 @@ use Rattle.in_open_nets.specs.declared.open_nets.OpenPoint.{OpenPoint}
 use Rattle.in_open_nets.specs.declared.open_nets.OpenPoint.TheVariants.{Port, Free}
 use Rattle.in_simple_deriving.specs.declared.plans.StackStep.{StackStep}
 use Rattle.in_simple_deriving.specs.declared.plans.StackStep.TheVariants.{Empty, Link, Given, Graft, Cut, Mix}
-use Rattle.in_simple_deriving.specs.declared.plans.TaskPlan.{TaskPlan}
+use Rattle.in_simple_deriving.specs.TaskStates.{TaskState}
 use Rattle.in_simple_deriving.specs.declared.plans.Task.{Task}
 use Rattle.in_simple_deriving.specs.declared.plans.Task.TheVariants.{Derive, Make}
 use Rattle.in_open_nets.specs.Constructions.{IsIn}
@@ -17,6 +17,7 @@ use Rattle.in_simple_deriving.specs.Planned.{AddsNothing, Brings, HasClasses, Ta
 use Rattle.in_simple_deriving.specs.Procedure.{DerivesNear, IsPlanAtTurn, with_task}
 use Rattle.in_open_nets.specs.Parts.{IsFirst, IsRest}
 use Rattle.in_open_nets.specs.Members.{nodes_in}
+use Rattle.in_simple_deriving.specs.Turns.{HeadedPart}
 use Rattle.in_open_nets.specs.Splitting.{alone}
 use Rattle.in_open_nets.specs.Stuck.{ComesAt, IsPart, ports_of, turn}
 use Rattle.in_simple_deriving.specs.TakenOrder.{Comes, JoinsInManner, LeadsAway, LinksAt, Manner, NothingAt, at, before, begins, beside, component, cut, empties, first_joint, link, links_from, manner, next, nothing, part, start, taken, turns}
@@ -34,21 +35,21 @@ pub yields_makes : (o : OpenNet) (ms js : List StackStep) → Yields o (map Make
 yields_makes o [] js h = yields_none o js h
 yields_makes o (m ∷ ms) _ (made _ _ js h) = ap (λ z. m ∷ z) (yields_makes o ms js h)
 
-pub yields_part : (o : OpenNet) (c : List Bool) (ms js : List StackStep) → Yields o (Derive c ∷ map Make ms) js → (ls : List StackStep) × Comes o (part (nodes_in c)) ls × (js ≡ ls ++ ms)
+pub yields_part : (o : OpenNet) (c : HeadedPart) (ms js : List StackStep) → Yields o (Derive c ∷ map Make ms) js → (ls : List StackStep) × Comes o (part (nodes_in c.nodes)) ls × (js ≡ ls ++ ms)
 yields_part o c ms _ (derived _ _ is js h rest) = (is, h, ap (λ z. is ++ z) (yields_makes o ms js rest))
 
 pub empties_more : (k : ℕ) → map Make (empties k) ++ Make Empty ∷ [] ≡ map Make (empties (suc k))
 empties_more zero = refl
 empties_more (suc k) = ap (λ z. Make Empty ∷ z) (empties_more k)
 
-pub more_empties : (k : ℕ) (p q r : TaskPlan) → WithEmpties k p q → r ≡ with_task q (Make Empty) → WithEmpties (k + 1) p r
+pub more_empties : (k : ℕ) (p q r : TaskState) → WithEmpties k p q → r ≡ with_task q (Make Empty) → WithEmpties (k + 1) p r
 more_empties k p q r h e =
     let next : suc k ≡ k + 1 = omega arith in
     ap (λ x. x.tasks) e ∙ ap (λ z. z ++ Make Empty ∷ []) h ∙ append_assoc p.tasks (map Make (empties k)) (Make Empty ∷ []) ∙ ap (λ z. p.tasks ++ z) (empties_more k) ∙ ap (λ z. p.tasks ++ map Make (empties z)) next
 
 -- ---- one task or more
 
-module _ (o : OpenNet) (n k : ℕ) (pre : List StackStep) (p q : TaskPlan) (takes : TakesJoints o n k pre p) (same : q.rest ≡ p.rest) where
+module _ (o : OpenNet) (n k : ℕ) (pre : List StackStep) (p q : TaskState) (takes : TakesJoints o n k pre p) (same : q.rest ≡ p.rest) where
   in_rest : (g : ℕ) (js : List StackStep) → Comes o (turns (nodes_in p.rest) n g) js → Comes o (turns (nodes_in q.rest) n g) js
   in_rest g js h = subst (λ z. Comes o (turns (nodes_in z) n g) js) (sym same) h
 
@@ -77,7 +78,7 @@ module _ (o : OpenNet) (n k : ℕ) (pre : List StackStep) (p q : TaskPlan) (take
       let s = split o p.tasks (Derive c ∷ map Make ms) js (subst (λ z. Yields o z js) f y) in
       let a = takes s.one s.first in
       let b = yields_part o c ms s.other s.second in
-      turn_taken a.0 (b.0 ++ ms) e a.1 (component (nodes_in p.rest) n k (nodes_in c) b.0 ms is_part comes b.1 joined) js (sym s.whole ∙ ap (λ z. z ++ s.other) a.2 ∙ ap (λ z. (a.0 ++ pre) ++ z) b.2)
+      turn_taken a.0 (b.0 ++ ms) e a.1 (component (nodes_in p.rest) n k (nodes_in c.nodes) b.0 ms is_part comes b.1 joined) js (sym s.whole ∙ ap (λ z. z ++ s.other) a.2 ∙ ap (λ z. (a.0 ++ pre) ++ z) b.2)
   takes_task e _ ms f (a_link w links) joined = λ js y.
       let s = split o p.tasks (map Make (Link w ∷ ms)) js (subst (λ z. Yields o z js) f y) in
       let a = takes s.one s.first in
@@ -194,10 +195,10 @@ module _ (o : OpenNet) (n : ℕ) where
 
   -- ---- the start
 
-  pub agent_takes : (p : TaskPlan) → IsAgent o n → p.tasks ≡ [] → TakesJoints o n 0 [] p
+  pub agent_takes : (p : TaskState) → IsAgent o n → p.tasks ≡ [] → TakesJoints o n 0 [] p
   agent_takes p h e = λ js y. (first_joint o n, start (nodes_in p.rest) n, yields_none o js (subst (λ z. Yields o z js) e y) ∙ sym (ap (λ z. z ++ []) (first_agent h)))
 
-  pub class_takes : (p q : TaskPlan) → IsClass o n → p.tasks ≡ [] → q ≡ with_task p (Make (Given n)) → TakesJoints o n 0 [] q
+  pub class_takes : (p q : TaskState) → IsClass o n → p.tasks ≡ [] → q ≡ with_task p (Make (Given n)) → TakesJoints o n 0 [] q
   class_takes p q h e f = λ js y. (
     first_joint o n,
     start (nodes_in q.rest) n,
@@ -211,7 +212,7 @@ module _ (o : OpenNet) (net : IsOpenNet o) (n : ℕ) where
   no_link t k w q wire bad v l = bad (subst (LeadsAway t n k) (net.once v w (Port n k) l.point q l.wire wire).1 l.away)
 
   -- at an auxiliary port
-  module _ (p : TaskPlan) (i w : ℕ) (agent : IsAgent o n) (aux : 0 < i) (lt : i < ports_of o n) (h : IsPlanAtTurn o n (turn o n i) p) where
+  module _ (p : TaskState) (i w : ℕ) (agent : IsAgent o n) (aux : 0 < i) (lt : i < ports_of o n) (h : IsPlanAtTurn o n (turn o n i) p) where
     own_turn : turn o n i ≡ i
     own_turn = turn_agent o n i agent (λ e. absurd (omega (arith, aux, e)))
 
@@ -236,13 +237,13 @@ module _ (o : OpenNet) (net : IsOpenNet o) (n : ℕ) where
       ),
     )
 
-    pub comes_component : (q : TaskPlan) (l k : ℕ) → IsWire o w (Port n i) (Port l k) → IsIn l (nodes_in p.rest) → nodes_in p.done l ≡ false → DerivesNear o l p q → WhatComes o n i p q true
+    pub comes_component : (q : TaskState) (l k : ℕ) → IsWire o w (Port n i) (Port l k) → IsIn l (nodes_in p.rest) → nodes_in p.done l ≡ false → DerivesNear o l p q → WhatComes o n i p q true
     comes_component q l k wire here off d =
-        let is_part = reached_part o net n p.rest d.component l h.out here d.reached in
+        let is_part = reached_part o net n p.rest d.component.nodes l h.out here d.reached in
         let inside = (d.reached l).1 (alone l here) in
-        (Derive d.component, d.tasks, a_component d.component is_part (subst (ComesAt o n (nodes_in d.component)) own_turn (port_turn o net n p i w l k h wire here off (nodes_in d.component) is_part inside)))
+        (Derive d.component, d.tasks, a_component d.component is_part (subst (ComesAt o n (nodes_in d.component.nodes)) own_turn (port_turn o net n p i w l k h wire here off (nodes_in d.component.nodes) is_part inside)))
 
-    pub comes_link : (q : TaskPlan) (z : OpenPoint) → IsWire o w (Port n i) z → LeadsAway (nodes_in p.rest) n i z → q ≡ with_task p (Make (Link w)) → WhatComes o n i p q true
+    pub comes_link : (q : TaskState) (z : OpenPoint) → IsWire o w (Port n i) z → LeadsAway (nodes_in p.rest) n i z → q ≡ with_task p (Make (Link w)) → WhatComes o n i p q true
     comes_link q z wire away e = (Make (Link w), ap (λ x. x.tasks) e, a_link w (record { agent = agent; auxiliary = aux; port = lt; point = z; wire = wire; away = away }))
 
   -- ---- a port to which a component is cut
@@ -257,7 +258,7 @@ module _ (o : OpenNet) (net : IsOpenNet o) (n : ℕ) where
       let lt = l.port in
       absurd (omega (arith, e, lt))
 
-  pub join_nothing : (p : TaskPlan) (i : ℕ) → i < ports_of o n → (IsAgent o n → i ≡ 0) → IsPlanAtTurn o n (turn o n i) p → ((v l k : ℕ) → IsWire o v (Port n i) (Port l k) → IsIn l (nodes_in p.rest) → IsIn l (nodes_in p.done)) →
+  pub join_nothing : (p : TaskState) (i : ℕ) → i < ports_of o n → (IsAgent o n → i ≡ 0) → IsPlanAtTurn o n (turn o n i) p → ((v l k : ℕ) → IsWire o v (Port n i) (Port l k) → IsIn l (nodes_in p.rest) → IsIn l (nodes_in p.done)) →
       TakesJoints o n (turn o n i) (before o n (turn o n i)) p → TakesJoints o n (suc (turn o n i)) [] p
   join_nothing p i lt principal h all takes =
       takes_nothing o n (turn o n i) (before o n (turn o n i)) p p takes refl refl refl ((λ c is_part comes. port_none o net n p i lt h all c is_part comes), λ w l. join_link (nodes_in p.rest) i w principal l)
@@ -268,14 +269,14 @@ module _ (o : OpenNet) (net : IsOpenNet o) (n : ℕ) where
     | inr c ↦ ap (manner o n) (turn_class o n i c) ∙ manner_given o n i c lt
   ]
 
-  pub join_takes : (p q r : TaskPlan) (i w l k : ℕ) → i < ports_of o n → (IsAgent o n → i ≡ 0) → IsPlanAtTurn o n (turn o n i) p → IsWire o w (Port n i) (Port l k) → IsIn l (nodes_in p.rest) → nodes_in p.done l ≡ false → DerivesNear o l p q → r ≡ with_task q (Make (Cut w)) →
+  pub join_takes : (p q r : TaskState) (i w l k : ℕ) → i < ports_of o n → (IsAgent o n → i ≡ 0) → IsPlanAtTurn o n (turn o n i) p → IsWire o w (Port n i) (Port l k) → IsIn l (nodes_in p.rest) → nodes_in p.done l ≡ false → DerivesNear o l p q → r ≡ with_task q (Make (Cut w)) →
       TakesJoints o n (turn o n i) (before o n (turn o n i)) p → TakesJoints o n (suc (turn o n i)) [] r
   join_takes p q r i w l k lt principal h wire here off d e takes =
-      let is_part = reached_part o net n p.rest d.component l h.out here d.reached in
+      let is_part = reached_part o net n p.rest d.component.nodes l h.out here d.reached in
       let inside = (d.reached l).1 (alone l here) in
       takes_task o n (turn o n i) (before o n (turn o n i)) p r takes (ap (λ x. x.rest) e ∙ d.same) refl (Derive d.component) (Cut w ∷ [])
       (ap (λ x. x.tasks) e ∙ ap (λ z. z ++ Make (Cut w) ∷ []) d.tasks ∙ append_assoc p.tasks (Derive d.component ∷ []) (Make (Cut w) ∷ []))
-      (a_component d.component is_part (port_turn o net n p i w l k h wire here off (nodes_in d.component) is_part inside))
+      (a_component d.component is_part (port_turn o net n p i w l k h wire here off (nodes_in d.component.nodes) is_part inside))
       (subst (λ m. JoinsInManner o n (turn o n i) m (Cut w ∷ [])) (sym (manner_join i lt principal)) (w, (i, Port l k, wire, refl), refl))
 
   pub before_next : (i : ℕ) → i < ports_of o n → (IsAgent o n → i ≡ 0) → before o n (suc (turn o n i)) ≡ []
@@ -290,28 +291,28 @@ module _ (o : OpenNet) (net : IsOpenNet o) (n : ℕ) where
   other_link t m w l = let lt = l.port in absurd (omega (arith, lt))
 
   -- at a turn that no component has
-  pub over_nothing : (p : TaskPlan) (m : ℕ) → NoneAt o net n (nodes_in p.rest) (suc (ports_of o n) + m) → TakesJoints o n (suc (ports_of o n) + m) [] p → TakesJoints o n (suc (suc (ports_of o n) + m)) [] p
+  pub over_nothing : (p : TaskState) (m : ℕ) → NoneAt o net n (nodes_in p.rest) (suc (ports_of o n) + m) → TakesJoints o n (suc (ports_of o n) + m) [] p → TakesJoints o n (suc (suc (ports_of o n) + m)) [] p
   over_nothing p m none takes =
       takes_nothing o n (suc (ports_of o n) + m) [] p p takes refl (sym (before_other o n (suc (ports_of o n) + m) (omega arith))) refl ((λ c is_part comes. none c is_part comes), λ w l. other_link (nodes_in p.rest) m w l)
 
-  pub other_nothing : (p : TaskPlan) (m : ℕ) → IsPlanAtTurn o n (suc (ports_of o n) + m) p → (IsIn m (nodes_in p.rest) → IsIn m (nodes_in p.done)) → TakesJoints o n (suc (ports_of o n) + m) [] p → TakesJoints o n (suc (suc (ports_of o n) + m)) [] p
+  pub other_nothing : (p : TaskState) (m : ℕ) → IsPlanAtTurn o n (suc (ports_of o n) + m) p → (IsIn m (nodes_in p.rest) → IsIn m (nodes_in p.done)) → TakesJoints o n (suc (ports_of o n) + m) [] p → TakesJoints o n (suc (suc (ports_of o n) + m)) [] p
   other_nothing p m h all takes =
       over_nothing p m (node_none o net n p m h all) takes
 
-  pub other_takes : (p q r : TaskPlan) (m : ℕ) → IsPlanAtTurn o n (suc (ports_of o n) + m) p → IsIn m (nodes_in p.rest) → nodes_in p.done m ≡ false → DerivesNear o m p q → r ≡ with_task q (Make Mix) → TakesJoints o n (suc (ports_of o n) + m) [] p →
+  pub other_takes : (p q r : TaskState) (m : ℕ) → IsPlanAtTurn o n (suc (ports_of o n) + m) p → IsIn m (nodes_in p.rest) → nodes_in p.done m ≡ false → DerivesNear o m p q → r ≡ with_task q (Make Mix) → TakesJoints o n (suc (ports_of o n) + m) [] p →
       TakesJoints o n (suc (suc (ports_of o n) + m)) [] r
   other_takes p q r m h here off d e takes =
-      let is_part = reached_part o net n p.rest d.component m h.out here d.reached in
+      let is_part = reached_part o net n p.rest d.component.nodes m h.out here d.reached in
       let inside = (d.reached m).1 (alone m here) in
       takes_task o n (suc (ports_of o n) + m) [] p r takes (ap (λ x. x.rest) e ∙ d.same) (sym (before_other o n (suc (ports_of o n) + m) (omega arith))) (Derive d.component) (Mix ∷ [])
       (ap (λ x. x.tasks) e ∙ ap (λ z. z ++ Make Mix ∷ []) d.tasks ∙ append_assoc p.tasks (Derive d.component ∷ []) (Make Mix ∷ []))
-      (a_component d.component is_part (node_turn o net n p m h here off (nodes_in d.component) is_part inside))
+      (a_component d.component is_part (node_turn o net n p m h here off (nodes_in d.component.nodes) is_part inside))
       (subst (λ z. JoinsInManner o n (suc (ports_of o n) + m) z (Mix ∷ [])) (sym (manner_other o n (suc (ports_of o n) + m) (omega arith))) refl)
 
   -- ---- the ports of a class
 
   -- the first port of a class brings something
-  pub first_brings : (p q : TaskPlan) (i begun : ℕ) → IsAgent o n → 0 < i → i < ports_of o n → IsPlanAtTurn o n (turn o n i) p → HasClasses o n i begun p → begun < class_in o n i → AddsNothing o n i p q → ⊥
+  pub first_brings : (p q : TaskState) (i begun : ℕ) → IsAgent o n → 0 < i → i < ports_of o n → IsPlanAtTurn o n (turn o n i) p → HasClasses o n i begun p → begun < class_in o n i → AddsNothing o n i p q → ⊥
   first_brings p q i begun agent aux lt h classes less none =
       let wire = net.joined (Port n i) (at_ports i (slice_get o.nodes n) lt) in
       by_point wire.0 wire.1 wire.2
@@ -345,7 +346,7 @@ module _ (o : OpenNet) (net : IsOpenNet o) (n : ℕ) where
                   let principal = (net.principal n 0 agent (at_ports 0 (slice_get o.nodes n) (omega (arith, lt)))).1 refl in
                   omega (arith, same, class, principal, less)
 
-  pub first_takes : (p q r : TaskPlan) (i skipped : ℕ) → IsAgent o n → i < ports_of o n → class_in o n i ≡ suc (class_in o n (i - 1) + skipped) → TakesJoints o n i [] p → q.rest ≡ p.rest → WithEmpties skipped p q → r.rest ≡ q.rest → WhatComes o n i q r true →
+  pub first_takes : (p q r : TaskState) (i skipped : ℕ) → IsAgent o n → i < ports_of o n → class_in o n i ≡ suc (class_in o n (i - 1) + skipped) → TakesJoints o n i [] p → q.rest ≡ p.rest → WithEmpties skipped p q → r.rest ≡ q.rest → WhatComes o n i q r true →
       TakesJoints o n (suc i) [] r
   first_takes p q r i skipped agent lt class takes same empty same1 comes =
       takes_task o n i (empties skipped) q r (takes_makes o n i [] p q takes same (empties skipped) empty) same1
@@ -355,13 +356,13 @@ module _ (o : OpenNet) (net : IsOpenNet o) (n : ℕ) where
   none_before : (i : ℕ) → IsAgent o n → i < ports_of o n → class_in o n i ≡ class_in o n (i - 1) → [] ≡ before o n i
   none_before i agent lt class = sym (before_aux o n i agent lt ∙ ap empties (let e : class_in o n i - class_in o n (i - 1) - 1 ≡ 0 = omega (arith, class) in e))
 
-  pub further_takes : (p q r : TaskPlan) (i : ℕ) → IsAgent o n → i < ports_of o n → class_in o n i ≡ class_in o n (i - 1) → TakesJoints o n i [] p → q.rest ≡ p.rest → WhatComes o n i p q true → r ≡ with_task q (Make Mix) → TakesJoints o n (suc i) [] r
+  pub further_takes : (p q r : TaskState) (i : ℕ) → IsAgent o n → i < ports_of o n → class_in o n i ≡ class_in o n (i - 1) → TakesJoints o n i [] p → q.rest ≡ p.rest → WhatComes o n i p q true → r ≡ with_task q (Make Mix) → TakesJoints o n (suc i) [] r
   further_takes p q r i agent lt class takes same comes e =
       takes_task o n i [] p r takes (ap (λ x. x.rest) e ∙ same) (none_before i agent lt class) comes.0 (Mix ∷ [])
       (ap (λ x. x.tasks) e ∙ ap (λ z. z ++ Make Mix ∷ []) comes.1 ∙ append_assoc p.tasks (comes.0 ∷ []) (Make Mix ∷ [])) comes.2
       (subst (λ m. JoinsInManner o n i m (Mix ∷ [])) (sym (manner_further o n i agent lt (omega (arith, class)))) refl)
 
-  pub further_nothing : (p q : TaskPlan) (i : ℕ) → IsAgent o n → i < ports_of o n → class_in o n i ≡ class_in o n (i - 1) → TakesJoints o n i [] p → q.rest ≡ p.rest → WhatComes o n i p q false → TakesJoints o n (suc i) [] q
+  pub further_nothing : (p q : TaskState) (i : ℕ) → IsAgent o n → i < ports_of o n → class_in o n i ≡ class_in o n (i - 1) → TakesJoints o n i [] p → q.rest ≡ p.rest → WhatComes o n i p q false → TakesJoints o n (suc i) [] q
   further_nothing p q i agent lt class takes same comes = takes_nothing o n i [] p q takes same (none_before i agent lt class) comes.0 comes.1
 
   -- ---- whole nodes
@@ -383,24 +384,24 @@ module _ (o : OpenNet) (net : IsOpenNet o) (n : ℕ) where
   agent_nothing : (t : ℕ → Bool) → IsAgent o n → NothingAt o t n 0
   agent_nothing t agent = ((λ c is_part comes. agent_none o net n t agent c is_part comes), λ w l. let a = l.auxiliary in absurd (omega (arith, a)))
 
-  pub agent_first : (p : TaskPlan) → IsAgent o n → 0 < ports_of o n → TakesJoints o n 0 [] p → TakesJoints o n 1 [] p
+  pub agent_first : (p : TaskState) → IsAgent o n → 0 < ports_of o n → TakesJoints o n 0 [] p → TakesJoints o n 1 [] p
   agent_first p agent some takes = takes_nothing o n 0 [] p p takes refl (sym (before_aux o n 0 agent some ∙ ap empties (let e : class_in o n 0 - class_in o n 0 - 1 ≡ 0 = omega arith in e))) refl (agent_nothing (nodes_in p.rest) agent)
 
   -- an agent without ports
-  pub agent_alone : (p : TaskPlan) → IsAgent o n → ports_of o n ≡ 0 → TakesJoints o n (ports_of o n) (before o n (ports_of o n)) p → TakesJoints o n (suc (ports_of o n)) [] p
+  pub agent_alone : (p : TaskState) → IsAgent o n → ports_of o n ≡ 0 → TakesJoints o n (ports_of o n) (before o n (ports_of o n)) p → TakesJoints o n (suc (ports_of o n)) [] p
   agent_alone p agent none takes = takes_nothing o n (ports_of o n) (before o n (ports_of o n)) p p takes refl refl refl (subst (NothingAt o (nodes_in p.rest) n) (sym none) (agent_nothing (nodes_in p.rest) agent))
 
-  pub agent_grafts : (p q : TaskPlan) (count : ℕ) → IsAgent o n → count ≡ classes_of o n → TakesJoints o n (ports_of o n) (empties (classes_of o n - class_in o n (ports_of o n - 1))) p → q ≡ with_task p (Make (Graft n count)) → TakesJoints o n (ports_of o n) (before o n (ports_of o n)) q
+  pub agent_grafts : (p q : TaskState) (count : ℕ) → IsAgent o n → count ≡ classes_of o n → TakesJoints o n (ports_of o n) (empties (classes_of o n - class_in o n (ports_of o n - 1))) p → q ≡ with_task p (Make (Graft n count)) → TakesJoints o n (ports_of o n) (before o n (ports_of o n)) q
   agent_grafts p q count agent many takes e =
       subst (λ z. TakesJoints o n (ports_of o n) z q) (sym (before_principal o n agent))
       (takes_makes o n (ports_of o n) (empties (classes_of o n - class_in o n (ports_of o n - 1))) p q takes (ap (λ x. x.rest) e) (Graft n (classes_of o n) ∷ []) (ap (λ x. x.tasks) e ∙ ap (λ c. p.tasks ++ Make (Graft n c) ∷ []) many))
 
-  pub class_end : (p : TaskPlan) → IsClass o n → TakesJoints o n (ports_of o n) [] p → TakesJoints o n (suc (ports_of o n)) [] p
+  pub class_end : (p : TaskState) → IsClass o n → TakesJoints o n (ports_of o n) [] p → TakesJoints o n (suc (ports_of o n)) [] p
   class_end p class takes =
       takes_nothing o n (ports_of o n) [] p p takes refl (sym (before_given o n (ports_of o n) class)) refl
       ((λ c is_part comes. class_none o net n (nodes_in p.rest) class c is_part comes), λ w l. absurd (class_no_agent (slice_get o.nodes n) class l.agent))
 
-  pub part_taken : (whole : List Bool) (p : TaskPlan) → IsFirst o whole n → IsRest n whole p.rest → TakesJoints o n (suc (ports_of o n) + length o.nodes) [] p → TakesPart o (nodes_in whole) p.tasks
+  pub part_taken : (whole : List Bool) (p : TaskState) → IsFirst o whole n → IsRest n whole p.rest → TakesJoints o n (suc (ports_of o n) + length o.nodes) [] p → TakesPart o (nodes_in whole) p.tasks
   part_taken whole p first left takes = λ js y.
       let a = takes js y in
       taken (nodes_in whole) (nodes_in p.rest) n js first left (subst (Comes o (turns (nodes_in p.rest) n (suc (ports_of o n) + length o.nodes))) (sym (a.2 ∙ append-nil a.0)) a.1)

@@ -10,6 +10,7 @@ use Rattle.in_open_nets.specs.Stuck.{IsPart, ComesAt, FirstStuck, IsFirstStuck, 
 use Rattle.in_open_nets.specs.Members.{nodes_in}
 use Rattle.in_simple_deriving.specs.Procedure.{AllSplit, HasNoTurn, Lists, AreSizedTasks, AreMakes, StuckIn, pending_in, AreTasksApart, ArePieces, IsWork, StartsWork, PassesSteps}
 use Rattle.in_open_nets.specs.Parts.{IsFirst, NoneSplits}
+use Rattle.in_simple_deriving.specs.Turns.{HeadedPart}
 use Rattle.in_open_nets.proofs.Public.{not_both, same_nat, at_most, link_first, link_back, component_piece, missing_none, in_length, count}
 use Rattle.in_open_nets.proofs.Public.{count_less, comes_at, one_turn, turn_same, meet_same, without, derivable_splits, one_first_stuck}
 use Rattle.in_simple_deriving.proofs.Planning.{sized_more}
@@ -27,10 +28,10 @@ makes_stuck o [] t h s = s
 makes_stuck o (Derive c ∷ ts) t h s = h
 makes_stuck o (Make y ∷ ts) t h s = makes_stuck o ts t h s
 
-makes_sized : (b : ℕ) (ts : List Task) → AreMakes ts → AreSizedTasks b ts
-makes_sized b [] h = tt
-makes_sized b (Derive c ∷ ts) h = absurd h
-makes_sized b (Make y ∷ ts) h = makes_sized b ts h
+makes_sized : (o : OpenNet) (ts : List Task) → AreMakes ts → AreSizedTasks o ts
+makes_sized o [] h = tt
+makes_sized o (Derive c ∷ ts) h = absurd h
+makes_sized o (Make y ∷ ts) h = makes_sized o ts h
 
 makes_apart : (ts : List Task) → AreMakes ts → AreTasksApart ts
 makes_apart [] h = tt
@@ -49,7 +50,7 @@ makes_none (Make y ∷ ts) h m = makes_none ts h m
 
 empty_work : (o : OpenNet) (ts : List Task) → length o.nodes ≡ 0 → AreMakes ts → IsWork o ts
 empty_work o ts e h = record {
-  sized = makes_sized (length o.nodes) ts h;
+  sized = makes_sized o ts h;
   apart = makes_apart ts h;
   pieces = makes_pieces o ts h;
   whole = λ m. false;
@@ -57,15 +58,15 @@ empty_work o ts e h = record {
   stuck = λ t s. absurd (makes_stuck o ts t h s);
 }
 
-pub start_work : (o : OpenNet) (ts : List Task) → StartsWork (length o.nodes) ts → IsWork o ts
+pub start_work : (o : OpenNet) (ts : List Task) → StartsWork o ts → IsWork o ts
 start_work o [] h = empty_work o [] h tt
 start_work o (Make x ∷ ts) h = empty_work o (Make x ∷ ts) h.0 h.1
 start_work o (Derive c ∷ ts) h = record {
-  sized = (h.0, (0, h.2 0 h.1), makes_sized (length o.nodes) ts h.3);
+  sized = (h.0, (0, h.2 0 h.1), makes_sized o ts h.3);
   apart = ((λ m k g. not_both (pending_in ts m) g (makes_none ts h.3 m)), makes_apart ts h.3);
-  pieces = ((λ some. let none = missing_none c (λ m l. let size = h.0 in h.2 m (omega arith)) in absurd (omega arith)), makes_pieces o ts h.3);
-  whole = nodes_in c;
-  nodes = λ n. ((λ k. let a = in_length c n k in let b = h.0 in omega arith), h.2 n);
+  pieces = ((λ some. let none = missing_none c.nodes (λ m l. let size = h.0.1 in h.2 m (omega arith)) in absurd (omega arith)), makes_pieces o ts h.3);
+  whole = nodes_in c.nodes;
+  nodes = λ n. ((λ k. let a = in_length c.nodes n k in let b = h.0.1 in omega arith), h.2 n);
   stuck = λ t s. elim s [ inl f ↦ f | inr f ↦ absurd (makes_stuck o ts t h.3 f.1) ];
 }
 
@@ -83,7 +84,7 @@ pass_make a b x h = ((λ o w. go o (h.0 o w)), h.1)
 module _ (o : OpenNet) (net : IsOpenNet o) where
   pending_app : (ps ts : List Task) (m : ℕ) → pending_in (ps ++ ts) m ≡ (pending_in ps m || pending_in ts m)
   pending_app [] ts m = refl
-  pending_app (Derive c ∷ ps) ts m = ap (λ z. nodes_in c m || z) (pending_app ps ts m) ∙ or_or (nodes_in c m) (pending_in ps m) (pending_in ts m)
+  pending_app (Derive c ∷ ps) ts m = ap (λ z. nodes_in c.nodes m || z) (pending_app ps ts m) ∙ or_or (nodes_in c.nodes m) (pending_in ps m) (pending_in ts m)
     where
       or_or : (a b c : Bool) → (a || (b || c)) ≡ ((a || b) || c)
       or_or true b c = refl
@@ -96,8 +97,8 @@ module _ (o : OpenNet) (net : IsOpenNet o) where
 
     pending_part : (low : ℕ) (ps : List Task) → Lists o n s low ps → (m : ℕ) → IsIn m (pending_in ps) → (d : ℕ → Bool) × (l : ℕ) × IsPart o n s d × ComesAt o n d l × (low ≤ l) × IsIn m d
     pending_part low [] h m g = absurd (not_both false g refl)
-    pending_part low (Derive c ∷ ps) h m g = elim (or_cases (nodes_in c m) (pending_in ps m) g) [
-      | inl k ↦ (nodes_in c, h.0, h.2, h.3, h.1, k)
+    pending_part low (Derive c ∷ ps) h m g = elim (or_cases (nodes_in c.nodes m) (pending_in ps m) g) [
+      | inl k ↦ (nodes_in c.nodes, h.0, h.2, h.3, h.1, k)
       | inr k ↦ let x = pending_part (suc h.0) ps h.5 m k in let a = h.1 in let b = x.4 in (x.0, x.1, x.2, x.3, omega arith, x.5)
     ]
     pending_part low (Make x ∷ ps) h m g = pending_part low ps h m g
@@ -109,11 +110,11 @@ module _ (o : OpenNet) (net : IsOpenNet o) where
       (λ m k g. elim (or_cases (pending_in ps m) (pending_in ts m) (sym (pending_app ps ts m) ∙ g)) [
         | inl u ↦
             let x = pending_part (suc h.0) ps h.5 m u in
-            let e = meet_same o net s in_net n (nodes_in c) x.0 h.2 x.2 m k x.5 in
+            let e = meet_same o net s in_net n (nodes_in c.nodes) x.0 h.2 x.2 m k x.5 in
             let f = one_turn o net s in_net n x.0 h.0 x.1 (subst (λ z. ComesAt o n z h.0) e h.3) x.3 in
             let l = x.4 in
             omega arith
-        | inr u ↦ off m (inside (nodes_in c) h.2 m k).0 u
+        | inr u ↦ off m (inside (nodes_in c.nodes) h.2 m k).0 u
       ]),
       apart_more (suc h.0) ps ts h.5 a off,
     )
@@ -122,7 +123,7 @@ module _ (o : OpenNet) (net : IsOpenNet o) where
     pieces_more : (low : ℕ) (ps ts : List Task) → Lists o n s low ps → ArePieces o ts → ArePieces o (ps ++ ts)
     pieces_more low [] ts h a = a
     pieces_more low (Make x ∷ ps) ts h a = pieces_more low ps ts h a
-    pieces_more low (Derive c ∷ ps) ts h a = ((λ some. component_piece o (Without n s) (without o net s in_net n) c h.2), pieces_more (suc h.0) ps ts h.5 a)
+    pieces_more low (Derive c ∷ ps) ts h a = ((λ some. component_piece o (Without n s) (without o net s in_net n) c.nodes h.2), pieces_more (suc h.0) ps ts h.5 a)
 
     module _ (f : IsFirstSplitting (open_graph o) (λ m n. m < n) n s) where
       abbrev SplitBefore : ℕ → Type 0
@@ -134,9 +135,9 @@ module _ (o : OpenNet) (net : IsOpenNet o) where
           let q = comes_at o net s in_net n c part.0 here (in_net part.0 part.1.0) in
           elim (at_most low q.0) [ inl l ↦ absurd (h c q.0 part q.1 l) | inr l ↦ before c q.0 part q.1 l ])
 
-      before_more : (low : ℕ) (c : List Bool) (k : ℕ) → SplitBefore low → IsPart o n s (nodes_in c) → ComesAt o n (nodes_in c) k → HasNoTurn o n s low k → AllSplit o (nodes_in c) → SplitBefore (suc k)
+      before_more : (low : ℕ) (c : HeadedPart) (k : ℕ) → SplitBefore low → IsPart o n s (nodes_in c.nodes) → ComesAt o n (nodes_in c.nodes) k → HasNoTurn o n s low k → AllSplit o (nodes_in c.nodes) → SplitBefore (suc k)
       before_more low c k before part comes off split d l part' comes' less = elim (same_nat l k) [
-        | inl e ↦ subst (AllSplit o) (turn_same o net s in_net n (nodes_in c) d part part' k comes (subst (λ z. ComesAt o n d z) e comes')) split
+        | inl e ↦ subst (AllSplit o) (turn_same o net s in_net n (nodes_in c.nodes) d part part' k comes (subst (λ z. ComesAt o n d z) e comes')) split
         | inr d' ↦ elim (at_most low l) [ inl u ↦ absurd (off d l part' comes' u (omega arith)) | inr u ↦ before d l part' comes' u ]
       ]
 
@@ -144,41 +145,41 @@ module _ (o : OpenNet) (net : IsOpenNet o) where
       stuck_more low [] ts before h t g = inr (all_parts low before h, g)
       stuck_more low (Make x ∷ ps) ts before h t g = stuck_more low ps ts before h t g
       stuck_more low (Derive c ∷ ps) ts before h t (inl g) =
-          inl (within s n (nodes_in c) h.0 t f h.2 h.3 (λ d l part comes less. elim (at_most low l) [ inl u ↦ absurd (h.4 d l part comes u less) | inr u ↦ before d l part comes u ]) g)
+          inl (within s n (nodes_in c.nodes) h.0 t f h.2 h.3 (λ d l part comes less. elim (at_most low l) [ inl u ↦ absurd (h.4 d l part comes u less) | inr u ↦ before d l part comes u ]) g)
       stuck_more low (Derive c ∷ ps) ts before h t (inr g) =
           stuck_more (suc h.0) ps ts (before_more low c h.0 before h.2 h.3 h.4 g.0) h.5 t g.1
 
-  part_in_net : (part : List Bool) (ts : List Task) → IsWork o (Derive part ∷ ts) → (m : ℕ) → IsIn m (nodes_in part) → m < length o.nodes
-  part_in_net part ts w m h = let a = in_length part m h in let b = w.sized.0 in omega arith
+  part_in_net : (part : HeadedPart) (ts : List Task) → IsWork o (Derive part ∷ ts) → (m : ℕ) → IsIn m (nodes_in part.nodes) → m < length o.nodes
+  part_in_net part ts w m h = let a = in_length part.nodes m h in let b = w.sized.0.1 in omega arith
 
-  pub expand_work : (part : List Bool) (n : ℕ) (ps ts : List Task) → IsWork o (Derive part ∷ ts) → IsFirst o part n → Lists o n (nodes_in part) 0 ps → AreSizedTasks (length o.nodes) ps → IsWork o (ps ++ ts)
+  pub expand_work : (part : HeadedPart) (n : ℕ) (ps ts : List Task) → IsWork o (Derive part ∷ ts) → IsFirst o part.nodes n → Lists o n (nodes_in part.nodes) 0 ps → AreSizedTasks o ps → IsWork o (ps ++ ts)
   expand_work part n ps ts w f h sized = record {
-    sized = sized_more (length o.nodes) ps ts sized w.sized.2;
-    apart = apart_more n (nodes_in part) (part_in_net part ts w) 0 ps ts h w.apart.1 w.apart.0;
-    pieces = pieces_more n (nodes_in part) (part_in_net part ts w) 0 ps ts h w.pieces.1;
+    sized = sized_more o ps ts sized w.sized.2;
+    apart = apart_more n (nodes_in part.nodes) (part_in_net part ts w) 0 ps ts h w.apart.1 w.apart.0;
+    pieces = pieces_more n (nodes_in part.nodes) (part_in_net part ts w) 0 ps ts h w.pieces.1;
     whole = w.whole;
     nodes = w.nodes;
-    stuck = λ t s. w.stuck t (stuck_more n (nodes_in part) (part_in_net part ts w) f 0 ps ts (λ d l p c e. absurd (omega arith)) h t s);
+    stuck = λ t s. w.stuck t (stuck_more n (nodes_in part.nodes) (part_in_net part ts w) f 0 ps ts (λ d l p c e. absurd (omega arith)) h t s);
   }
 
-  pub expand_fewer : (part : List Bool) (n : ℕ) (ps ts : List Task) → IsWork o (Derive part ∷ ts) → IsFirst o part n → Lists o n (nodes_in part) 0 ps → count (pending_in (ps ++ ts)) (length o.nodes) < count (pending_in (Derive part ∷ ts)) (length o.nodes)
-  expand_fewer part n ps ts w f h = count_less (pending_in (Derive part ∷ ts)) (pending_in (ps ++ ts)) kept n (or_left (nodes_in part n) (pending_in ts n) f.here) gone (length o.nodes) (part_in_net part ts w n f.here)
+  pub expand_fewer : (part : HeadedPart) (n : ℕ) (ps ts : List Task) → IsWork o (Derive part ∷ ts) → IsFirst o part.nodes n → Lists o n (nodes_in part.nodes) 0 ps → count (pending_in (ps ++ ts)) (length o.nodes) < count (pending_in (Derive part ∷ ts)) (length o.nodes)
+  expand_fewer part n ps ts w f h = count_less (pending_in (Derive part ∷ ts)) (pending_in (ps ++ ts)) kept n (or_left (nodes_in part.nodes n) (pending_in ts n) f.here) gone (length o.nodes) (part_in_net part ts w n f.here)
     where
       kept : (m : ℕ) → IsIn m (pending_in (ps ++ ts)) → IsIn m (pending_in (Derive part ∷ ts))
       kept m g = elim (or_cases (pending_in ps m) (pending_in ts m) (sym (pending_app ps ts m) ∙ g)) [
         | inl u ↦
-            let x = pending_part n (nodes_in part) (part_in_net part ts w) 0 ps h m u in
-            or_left (nodes_in part m) (pending_in ts m) (inside n (nodes_in part) (part_in_net part ts w) x.0 x.2 m x.5).0
-        | inr u ↦ or_right (nodes_in part m) (pending_in ts m) u
+            let x = pending_part n (nodes_in part.nodes) (part_in_net part ts w) 0 ps h m u in
+            or_left (nodes_in part.nodes m) (pending_in ts m) (inside n (nodes_in part.nodes) (part_in_net part ts w) x.0 x.2 m x.5).0
+        | inr u ↦ or_right (nodes_in part.nodes m) (pending_in ts m) u
       ]
 
       gone : pending_in (ps ++ ts) n ≡ false
       gone = pending_app ps ts n ∙ or_from (pending_in ps n) (pending_in ts n)
-          (false_from_ne_true (pending_in ps n) (λ u. let x = pending_part n (nodes_in part) (part_in_net part ts w) 0 ps h n u in (inside n (nodes_in part) (part_in_net part ts w) x.0 x.2 n x.5).1 refl))
+          (false_from_ne_true (pending_in ps n) (λ u. let x = pending_part n (nodes_in part.nodes) (part_in_net part ts w) 0 ps h n u in (inside n (nodes_in part.nodes) (part_in_net part ts w) x.0 x.2 n x.5).1 refl))
           (false_from_ne_true (pending_in ts n) (λ u. w.apart.0 n f.here u))
 
-  pub stuck_first : (part : List Bool) (ts : List Task) → IsWork o (Derive part ∷ ts) → NoneSplits o part (length o.nodes) → IsFirstStuck o (nodes_in part)
-  stuck_first part ts w h = (w.whole, w.nodes, w.stuck (nodes_in part) (inl (whole (nodes_in part) (w.sized.1, λ n k g. h n (part_in_net part ts w n k) (k, g)))))
+  pub stuck_first : (part : HeadedPart) (ts : List Task) → IsWork o (Derive part ∷ ts) → NoneSplits o part.nodes (length o.nodes) → IsFirstStuck o (nodes_in part.nodes)
+  stuck_first part ts w h = (w.whole, w.nodes, w.stuck (nodes_in part.nodes) (inl (whole (nodes_in part.nodes) (w.sized.1, λ n k g. h n (part_in_net part ts w n k) (k, g)))))
 
   pub stuck_underivable : (t : ℕ → Bool) → IsFirstStuck o t → IsDerivable o → ⊥
   stuck_underivable t h d = (one_first_stuck o net t h).0 (derivable_splits o net d)

@@ -1,3 +1,4 @@
+pub mod Heads
 pub mod Joints
 pub mod Laws
 pub mod Outcomes
@@ -6,3 +7,5 @@ pub mod Procedure
 pub mod Progress
 pub mod Stacks
 pub mod TakenOrder
+pub mod TaskStates
+pub mod Turns

@@ -1,6 +1,6 @@
 -- The invariant of a plan from turn to turn.
 use Rattle.std.specs.Prelude.{◌≡◌, ℕ, suc, ◌+◌, ◌-◌, ◌<◌, ◌≤◌, Bool, List, [], length}
-use Rattle.in_simple_deriving.specs.declared.plans.TaskPlan.{TaskPlan}
+use Rattle.in_simple_deriving.specs.TaskStates.{TaskState}
 use Rattle.in_open_nets.specs.OpenNets.{OpenNet, IsAgent, IsOrderly, class_in}
 use Rattle.in_simple_deriving.specs.Planned.{HasClasses, IsBegunClass, PutsNet, TakesJoints}
 use Rattle.in_simple_deriving.specs.Procedure.{IsPlanAtTurn}
@@ -38,14 +38,14 @@ HasNoTurnLeft s = (d : ℕ → Bool) (l : ℕ) → IsPart s.net s.node (nodes_in
 
 module _ (o : OpenNet) (n : ℕ) where
   -- nothing is planned yet
-  pub record StartsPlan (p : TaskPlan) : Type 0 where
+  pub record StartsPlan (p : TaskState) : Type 0 where
     pub orderly : IsOrderly o
     pub node : n < length o.nodes
     pub plan : IsPlanAtTurn o n 0 p
     pub start : p.tasks ≡ []
 
   -- the nets of the first classes of an agent are planned, as far as its ports below b go
-  pub record PlansClasses (b begun : ℕ) (p : TaskPlan) : Type 0 where
+  pub record PlansClasses (b begun : ℕ) (p : TaskState) : Type 0 where
     pub orderly : IsOrderly o
     pub node : n < length o.nodes
     pub agent : IsAgent o n
@@ -58,7 +58,7 @@ module _ (o : OpenNet) (n : ℕ) where
     pub none : ports_of o n ≡ 0 → TakesJoints o n 0 [] p
 
   -- one net is planned, of the node and of the components that come before the turn k
-  pub record PlansNet (k : ℕ) (p : TaskPlan) : Type 0 where
+  pub record PlansNet (k : ℕ) (p : TaskState) : Type 0 where
     pub orderly : IsOrderly o
     pub node : n < length o.nodes
     pub plan : IsPlanAtTurn o n k p

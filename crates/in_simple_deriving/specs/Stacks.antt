@@ -13,6 +13,7 @@ use Rattle.in_open_nets.specs.Derivations.{Part, named, own_nodes, own_links, is
 pub use Rattle.in_simple_deriving.specs.Joints.{count_of, over_two, step_of, are_free, loose_in}
 use Rattle.in_open_nets.specs.Members.{nodes_in}
 use Rattle.in_simple_deriving.specs.TakenOrder.{AreTaken, Comes, part, steps_from}
+use Rattle.in_simple_deriving.specs.Turns.{HeadedPart}
 
 pub record Shape : Type 0 where
   pub nodes : ℕ → Bool
@@ -96,12 +97,12 @@ pub record Fits (o : OpenNet) (j : StackStep) (xs : List Shape) (x : Shape) : Ty
 pub data Yields (o : OpenNet) : List Task → List StackStep → Type 0 where
   done : Yields o [] []
   made : (j : StackStep) (ts : List Task) (js : List StackStep) → Yields o ts js → Yields o (Make j ∷ ts) (j ∷ js)
-  derived : (c : List Bool) (ts : List Task) (is js : List StackStep) → Comes o (part (nodes_in c)) is → Yields o ts js → Yields o (Derive c ∷ ts) (is ++ js)
+  derived : (c : HeadedPart) (ts : List Task) (is js : List StackStep) → Comes o (part (nodes_in c.nodes)) is → Yields o ts js → Yields o (Derive c ∷ ts) (is ++ js)
 
 -- the tasks turn one stack into the other, if each part that is to be derived comes with no open Link
 abbrev pub RunsTasks : OpenNet → List Task → List Shape → List Shape → Type 0
 RunsTasks o [] old new = old ≡ new
-RunsTasks o (Derive c ∷ ts) old new = RunsTasks o ts (old ++ shape (nodes_in c) no_wires ∷ []) new
+RunsTasks o (Derive c ∷ ts) old new = RunsTasks o ts (old ++ shape (nodes_in c.nodes) no_wires ∷ []) new
 RunsTasks o (Make j ∷ ts) old new = (below : List Shape) × (xs : List Shape) × (x : Shape) × (old ≡ below ++ xs) × Fits o j xs x × RunsTasks o ts (below ++ x ∷ []) new
 
 -- a wire between two free ends, below a number

@@ -1,19 +1,19 @@
 ghost use Rattle.std.specs.Prelude.{[], ◌∷◌, ◌≡◌, ◌<◌, ◌≤◌, ◌+◌, ◌-◌, ◌↔◌, suc, length, false, IfOk, IsTrue, ℕ};
-ghost use Rattle.in_open_nets.specs.Constructions.{IsIn};
-ghost use Rattle.in_simple_deriving.specs.Procedure.{AreSizedTasks, DerivesNear, StaysForRest, HasRoomForNodes, IsPlanAtTurn, KeepsPlan, Lists, with_task};
+ghost use Rattle.in_simple_deriving.specs.Procedure.{AreSizedTasks, StaysForRest, IsPlanAtTurn, KeepsPlan, Lists};
 ghost use Rattle.in_open_nets.specs.Parts.{IsFirst, IsRest};
 ghost use Rattle.in_open_nets.specs.Members.{nodes_in};
 ghost use Rattle.in_simple_deriving.specs.Progress.{HasNoTurnLeft, after_ports, at_end, later, progress, until};
-ghost use Rattle.in_open_nets.specs.OpenNets.{IsAgent, IsClass, IsOrderly, class_in, open_graph};
-ghost use Rattle.in_simple_deriving.specs.Planned.{HasFate, HasFateAt, IsAuxiliaryPort, IsLeftOver, IsSizedPlan, JoinsFate, LeadsBack, Skips, TakesPart, WhatComes, WhatPort, WithEmpties};
+ghost use Rattle.in_open_nets.specs.OpenNets.{IsAgent, IsClass, IsOrderly, class_in};
+ghost use Rattle.in_simple_deriving.specs.Planned.{AreTouched, HasFateOfTurn, IsAuxiliaryPort, LeadsBack, Skips, TakesPart, WhatComes, WhatPort, WithEmpties, after_fate};
 ghost use Rattle.in_open_nets.specs.Pieces.{IsPieceOrWhole};
-ghost use Rattle.in_open_nets.specs.Splitting.{SplitsAt};
 ghost use Rattle.in_simple_deriving.specs.Stacks.{PutsShapes, no_wires, shape};
 ghost use Rattle.in_open_nets.specs.Stuck.{ports_of, turn};
+ghost use Rattle.in_simple_deriving.specs.TaskStates.{with_task};
 ghost use Rattle.in_simple_deriving.specs.declared.plans.Task.TheVariants.{Make};
 
+use crate::heads::{Headed, Heads, Met};
 use in_base::use_promise;
-use in_open_nets::{DoneNodes, NodeList, NodeSet, OpenPoint, Part, Scratch, Wired};
+use in_open_nets::{OpenPoint, Wired};
 use sqlite_items::Items;
 use std::alloc::{AllocError, Global};
 use std::marker::Model;
@@ -33,18 +33,18 @@ pub(crate) enum StackStep {
 
 /// A task: a part to derive, or a step.
 #[derive(Drop)]
-pub(crate) enum Task {
-    Derive(NodeList),
+pub(crate) enum Task<'a> {
+    Derive(Headed<'a>),
     Make(StackStep),
 }
 
-/// The fate of a node, or of the other end of a wire.
-enum Fate {
+/// The fate of the component at a turn.
+enum Fate<'a> {
     /// It is left and not derived yet.
-    Waits(u32),
+    Waits(Headed<'a>),
     /// It is left, and derived.
     Derived,
-    /// It is not left.
+    /// No node there is left.
     Outside,
 }
 
@@ -58,175 +58,97 @@ fn leads_back(point: OpenPoint, node: usize, port: usize) -> bool
     }
 }
 
-/// Sets that are made once for all parts: the nodes of a part, and the derived ones.
-pub(crate) struct PartSets {
-    pub(crate) tests: Scratch,
-    pub(crate) done: DoneNodes,
+/// The tasks of a part without one node.
+struct TaskPlan<'a> {
+    heads: &'a Heads<'a>,
+    node: usize,
+    tasks: Items<Task<'a>>,
 }
 
 // By hand, so that each drop is a call: a derived one is written out in each proof, at each way out.
-impl Drop for PartSets {
-    fn drop(self) {
-        let PartSets { tests: _, done: _ } = self;
-    }
-}
-
-impl PartSets {
-    /// For `count` nodes.
-    pub(crate) fn new(alloc: Global, count: usize) -> Result<PartSets, AllocError>
-        ensures tests { IfOk result (λ room. length room.tests ≡ count) }
-        ensures done { IfOk result (λ room. length room.done ≡ count) }
-    {
-        let tests = Scratch::new(alloc, count)?;
-        let done = DoneNodes::new(alloc, count)?;
-        Ok(PartSets { tests, done })
-    }
-
-    /// For the nodes of a list.
-    pub(crate) fn open(self, list: NodeList) -> Result<Opened, AllocError>
-        requires { length self.tests ≡ length list }
-        ensures nodes { IfOk result (λ part. part.nodes ≡ list) }
-        ensures done { IfOk result (λ part. part.done ≡ self.done) }
-    {
-        let PartSets { tests, done } = self;
-        let nodes = NodeSet::of(list, tests)?;
-        Ok(Opened { nodes, done })
-    }
-}
-
-/// The nodes of a part, and a set for those that are derived.
-pub(crate) struct Opened {
-    pub(crate) nodes: NodeSet,
-    pub(crate) done: DoneNodes,
-}
-
-// By hand, so that each drop is a call: a derived one is written out in each proof, at each way out.
-impl Drop for Opened {
-    fn drop(self) {
-        let Opened { nodes: _, done: _ } = self;
-    }
-}
-
-impl Opened {
-    /// The one set and the other one.
-    fn apart(self) -> (NodeSet, DoneNodes)
-        ensures nodes { result.0 ≡ self.nodes }
-        ensures done { result.1 ≡ self.done }
-    {
-        let Opened { nodes, done } = self;
-        (nodes, done)
-    }
-
-    /// The room that it took.
-    pub(crate) fn close(self) -> PartSets
-        ensures tests { result.tests ≡ self.nodes }
-        ensures done { result.done ≡ self.done }
-    {
-        let Opened { nodes, done } = self;
-        let tests = nodes.into_tests();
-        PartSets { tests, done }
-    }
-}
-
-/// The tasks of a part without one node, the nodes that are left, and those that the tasks derive.
-struct TaskPlan {
-    tasks: Items<Task>,
-    rest: NodeSet,
-    done: DoneNodes,
-}
-
-// By hand, so that each drop is a call: a derived one is written out in each proof, at each way out.
-impl Drop for TaskPlan {
+impl<'a> Drop for TaskPlan<'a> {
     fn drop(self) {
         let TaskPlan {
+            heads: _,
+            node: _,
             tasks: _,
-            rest: _,
-            done: _,
         } = self;
     }
 }
 
-impl TaskPlan {
+// Contracts see the nodes that are left, and those that the tasks derive.
+impl<'a> Model for TaskPlan<'a> {
+    ghost use Rattle.std.specs.Prelude.{◌<◌, length};
+    ghost use Rattle.in_simple_deriving.specs.TaskStates.{TaskState, state_of};
+    ghost use Rattle.in_simple_deriving.specs.Turns.{turn_of};
+
+    ghost Value = { TaskState };
+
+    ghost view = { λ p. state_of p.heads.now p.node p.tasks };
+
+    ghost invariant = { λ p. (p.node < length p.heads.now.net.nodes) × (turn_of p.heads.now p.node < p.heads.now.taken) };
+}
+
+impl<'a> TaskPlan<'a> {
+    /// One more task.
+    fn push(self, task: Task<'a>) -> Result<TaskPlan<'a>, AllocError>
+        ensures { IfOk result (λ plan. plan ≡ with_task self.entry task.entry) }
+    {
+        let TaskPlan {
+            heads,
+            node,
+            mut tasks,
+        } = self;
+        tasks.push(task)?;
+        Ok(TaskPlan { heads, node, tasks })
+    }
+
     /// One more step.
-    fn make(mut self, joint: StackStep) -> Result<TaskPlan, AllocError>
-        ensures { IfOk result (λ plan. plan ≡ with_task self (Make joint)) }
+    fn make(self, joint: StackStep) -> Result<TaskPlan<'a>, AllocError>
+        ensures { IfOk result (λ plan. plan ≡ with_task self.entry (Make joint)) }
     {
-        self.tasks.push(Task::Make(joint))?;
-        Ok(self)
+        self.push(Task::Make(joint))
     }
 
-    /// Its tasks, and the room that it took.
-    fn into_tasks(self) -> (Items<Task>, PartSets)
-        ensures tasks { result.0 ≡ self.tasks }
-        ensures tests { result.1.tests ≡ self.rest }
-        ensures done { result.1.done ≡ self.done }
+    /// Its tasks.
+    fn into_tasks(self) -> Items<Task<'a>>
+        ensures { result ≡ self.entry.tasks }
     {
-        let TaskPlan { tasks, rest, done } = self;
-        let tests = rest.into_tests();
-        (tasks, PartSets { tests, done })
+        let TaskPlan {
+            heads: _,
+            node: _,
+            tasks,
+        } = self;
+        tasks
     }
 
-    /// The fate of a node.
-    fn fate(&self, near: u32) -> Fate
-        ensures { HasFate self.now near result }
+    /// Whether the part is in one piece, so that the node touches all components that it leaves. Any part but the whole net is.
+    fn is_of_piece(&self) -> bool
+        ensures piece { IsTrue result → AreTouched self.now }
+        ensures whole { result ≡ false → self.now.turns ≡ suc (ports_of self.now.net self.now.node) + length self.now.net.nodes }
     {
-        if !self.rest.has(near as usize) {
-            Fate::Outside
-        } else if self.done.has(near as usize) {
-            Fate::Derived
-        } else {
-            Fate::Waits(near)
+        self.heads.order().turn(self.node) > 0
+    }
+
+    /// The fate of the component at a turn.
+    fn fate(&self, turn: usize) -> Fate<'a>
+        requires plan { IsPlanAtTurn self.now.net self.now.node turn self.now }
+        requires turn { turn < self.now.turns }
+        ensures { HasFateOfTurn self.now turn result }
+    {
+        match self.heads.met(self.node, turn) {
+            Met::Head(head) => Fate::Waits(Headed::of(self.heads, head)),
+            Met::Again => Fate::Derived,
+            Met::Gone => Fate::Outside,
         }
-    }
-
-    /// The fate of the node at a point.
-    fn fate_at(&self, point: OpenPoint) -> Fate
-        ensures { HasFateAt self.now point result }
-    {
-        match point {
-            OpenPoint::Port(near, _) => self.fate(near),
-            OpenPoint::Free(_) => Fate::Outside,
-        }
-    }
-
-    /// Derives the component of the node `near`. The node `node` is the one that was taken out.
-    fn derive(
-        mut self,
-        alloc: Global,
-        wired: &Wired,
-        node: usize,
-        near: u32,
-    ) -> Result<TaskPlan, AllocError>
-        requires node { node < length wired.now.nodes }
-        requires size { IsSizedPlan wired.now node self }
-        requires near { IsIn near (nodes_in self.rest) }
-        ensures { IfOk result (DerivesNear wired.now near self) }
-    {
-        let part = Part {
-            wired,
-            nodes: &self.rest,
-        };
-        let component = self.done.add(alloc, &part, node, near)?;
-        self.tasks.push(Task::Derive(component))?;
-        Ok(self)
     }
 
     /// Derives the component of a node that waits, and joins it to the earlier ones.
-    fn join(
-        self,
-        alloc: Global,
-        wired: &Wired,
-        node: usize,
-        fate: Fate,
-        joint: StackStep,
-    ) -> Result<TaskPlan, AllocError>
-        requires node { node < length wired.now.nodes }
-        requires size { IsSizedPlan wired.now node self }
-        requires waits { IsLeftOver self fate }
-        ensures { IfOk result (JoinsFate wired.now joint self fate) }
+    fn join(self, fate: Fate<'a>, joint: StackStep) -> Result<TaskPlan<'a>, AllocError>
+        ensures { IfOk result (λ plan. plan ≡ after_fate joint self.entry fate.entry) }
     {
         match fate {
-            Fate::Waits(near) => self.derive(alloc, wired, node, near)?.make(joint),
+            Fate::Waits(part) => self.push(Task::Derive(part))?.make(joint),
             Fate::Derived | Fate::Outside => Ok(self),
         }
     }
@@ -235,20 +157,19 @@ impl TaskPlan {
     /// port. Returns whether something was added.
     fn port(
         self,
-        alloc: Global,
         wired: &Wired,
         node: usize,
         port: usize,
-    ) -> Result<(TaskPlan, bool), AllocError>
+    ) -> Result<(TaskPlan<'a>, bool), AllocError>
         requires port { IsAuxiliaryPort wired.now node port }
         requires plan { IsPlanAtTurn wired.now node port self }
-        ensures plan { IfOk result (λ r. StaysForRest wired.now node (suc port) self r.0) }
-        ensures adds { IfOk result (λ r. WhatPort wired.now node port self r.0 r.1) }
-        ensures comes { IfOk result (λ r. WhatComes wired.now node port self r.0 r.1) }
+        ensures plan { IfOk result (λ r. StaysForRest wired.now node (suc port) self.entry r.0) }
+        ensures adds { IfOk result (λ r. WhatPort wired.now node port self.entry r.0 r.1) }
+        ensures comes { IfOk result (λ r. WhatComes wired.now node port self.entry r.0 r.1) }
     {
         let (wire, point) = wired.partner(node, port);
-        match self.fate_at(point) {
-            Fate::Waits(near) => Ok((self.derive(alloc, wired, node, near)?, true)),
+        match self.fate(port) {
+            Fate::Waits(part) => Ok((self.push(Task::Derive(part))?, true)),
             Fate::Derived => Ok((self, false)),
             Fate::Outside => {
                 if leads_back(point, node, port) {
@@ -262,10 +183,10 @@ impl TaskPlan {
 }
 
 /// Nothing, for classes with no port.
-fn skip(plan: TaskPlan, classes: usize) -> Result<TaskPlan, AllocError>
-    ensures plan { IfOk result (KeepsPlan plan) }
-    ensures skips { IfOk result (Skips classes plan) }
-    ensures tasks { IfOk result (WithEmpties classes plan) }
+fn skip<'a>(plan: TaskPlan<'a>, classes: usize) -> Result<TaskPlan<'a>, AllocError>
+    ensures plan { IfOk result (KeepsPlan plan.entry) }
+    ensures skips { IfOk result (Skips classes plan.entry) }
+    ensures tasks { IfOk result (WithEmpties classes plan.entry) }
 {
     let mut skipped = plan;
     for class in 0..classes {
@@ -279,7 +200,7 @@ fn skip(plan: TaskPlan, classes: usize) -> Result<TaskPlan, AllocError>
 struct BegunPlan<'a> {
     wired: &'a Wired<'a>,
     node: usize,
-    plan: TaskPlan,
+    plan: TaskPlan<'a>,
 }
 
 impl<'a> Model for BegunPlan<'a> {
@@ -297,7 +218,7 @@ impl<'a> Model for BegunPlan<'a> {
 struct Classes<'a> {
     wired: &'a Wired<'a>,
     node: usize,
-    plan: TaskPlan,
+    plan: TaskPlan<'a>,
     port: usize,
     begun: usize,
 }
@@ -317,7 +238,7 @@ impl<'a> Model for Classes<'a> {
 struct JoinedPlan<'a> {
     wired: &'a Wired<'a>,
     node: usize,
-    plan: TaskPlan,
+    plan: TaskPlan<'a>,
     turn: usize,
 }
 
@@ -332,36 +253,26 @@ impl<'a> Model for JoinedPlan<'a> {
 }
 
 impl<'a> BegunPlan<'a> {
-    /// A plan with no task yet, and the list of the part.
-    fn of(
-        alloc: Global,
-        wired: &'a Wired<'a>,
-        part: Opened,
-        node: usize,
-    ) -> Result<(BegunPlan<'a>, NodeList), AllocError>
-        requires size { length part.nodes ≡ length wired.now.nodes }
-        requires done { length part.done ≡ length wired.now.nodes }
-        requires here { IsIn node (nodes_in part.nodes) }
-        requires splits { SplitsAt (open_graph wired.now) node (nodes_in part.nodes) }
+    /// A plan with no task yet.
+    fn of(alloc: Global, wired: &'a Wired<'a>, part: Headed<'a>) -> BegunPlan<'a>
+        requires net { part.net ≡ wired.now }
+        requires first { IsFirst wired.now part.nodes part.head }
         requires piece { IsPieceOrWhole wired.now part.nodes }
-        ensures start { IfOk result (λ r. r.0 ≡ progress wired.now node r.0.rest 0) }
-        ensures rest { IfOk result (λ r. IsRest node part.nodes r.0.rest) }
-        ensures list { IfOk result (λ r. r.1 ≡ part.nodes) }
+        ensures start { result ≡ progress wired.now part.entry.head result.rest 0 }
+        ensures rest { IsRest part.entry.head part.entry.nodes result.rest }
     {
-        use_promise!(wired.nodes());
-        let (nodes, mut done) = part.apart();
-        done.clear()?;
-        let (rest, list) = nodes.without(alloc, node)?;
+        let (heads, node) = part.apart();
+        use_promise!(heads.order().taken());
         let plan = TaskPlan {
+            heads,
+            node,
             tasks: Items::new(alloc),
-            rest,
-            done,
         };
-        Ok((BegunPlan { wired, node, plan }, list))
+        BegunPlan { wired, node, plan }
     }
 
     /// The nets of an agent's classes, without the last classes, which have no port.
-    fn classes(self, alloc: Global) -> Result<Classes<'a>, AllocError>
+    fn classes(self) -> Result<Classes<'a>, AllocError>
         requires { IsAgent self.net self.node }
         ensures { IfOk result (λ classes. classes ≡ until self.entry (1 + (ports_of self.entry.net self.entry.node - 1))) }
     {
@@ -374,27 +285,27 @@ impl<'a> BegunPlan<'a> {
             begun: 0,
         };
         for port in 1..wired.ports(node) {
-            classes = classes.port(alloc)?;
+            classes = classes.port()?;
         }
         Ok(classes)
     }
 
     /// An agent: the nets of its classes, the graft, and the component at its principal port.
-    fn agent(self, alloc: Global) -> Result<JoinedPlan<'a>, AllocError>
+    fn agent(self) -> Result<JoinedPlan<'a>, AllocError>
         requires { IsAgent self.net self.node }
         ensures { IfOk result (λ joined. joined ≡ after_ports self.entry) }
     {
         let ports = self.wired.ports(self.node);
-        let joined = self.classes(alloc)?.graft()?;
+        let joined = self.classes()?.graft()?;
         if ports > 0 {
-            joined.port(alloc, 0)
+            joined.port(0)
         } else {
             Ok(joined)
         }
     }
 
     /// A class node, and the components at its ports.
-    fn class(self, alloc: Global) -> Result<JoinedPlan<'a>, AllocError>
+    fn class(self) -> Result<JoinedPlan<'a>, AllocError>
         requires { IsClass self.net self.node }
         ensures { IfOk result (λ joined. joined ≡ after_ports self.entry) }
     {
@@ -408,7 +319,7 @@ impl<'a> BegunPlan<'a> {
             turn: 0,
         };
         for port in 0..ports {
-            joined = joined.port(alloc, port)?;
+            joined = joined.port(port)?;
         }
         // No port of a class node has the turn after these.
         joined.turn = ports + 1;
@@ -416,20 +327,20 @@ impl<'a> BegunPlan<'a> {
     }
 
     /// The components that the node touches.
-    fn touched(self, alloc: Global) -> Result<JoinedPlan<'a>, AllocError>
+    fn touched(self) -> Result<JoinedPlan<'a>, AllocError>
         ensures { IfOk result (λ joined. joined ≡ after_ports self.entry) }
     {
         if self.wired.is_agent(self.node) {
-            self.agent(alloc)
+            self.agent()
         } else {
-            self.class(alloc)
+            self.class()
         }
     }
 }
 
 impl<'a> Classes<'a> {
     /// The first port of a class; the classes between it and the last one have no port.
-    fn first_port(self, alloc: Global, class: usize) -> Result<Classes<'a>, AllocError>
+    fn first_port(self, class: usize) -> Result<Classes<'a>, AllocError>
         requires port { self.next < ports_of self.net self.node }
         requires class { class ≡ class_in self.net self.node self.next }
         requires later { class_in self.net self.node (self.next - 1) < class }
@@ -444,7 +355,7 @@ impl<'a> Classes<'a> {
         } = self;
         let skipped = skip(plan, class - begun - 1)?;
         // Some task is added: a component that touches ports of two classes would keep the node from splitting.
-        let (plan, _) = skipped.port(alloc, wired, node, port)?;
+        let (plan, _) = skipped.port(wired, node, port)?;
         Ok(Classes {
             wired,
             node,
@@ -455,7 +366,7 @@ impl<'a> Classes<'a> {
     }
 
     /// A further port of a class.
-    fn further_port(self, alloc: Global) -> Result<Classes<'a>, AllocError>
+    fn further_port(self) -> Result<Classes<'a>, AllocError>
         requires port { self.next < ports_of self.net self.node }
         requires class { class_in self.net self.node self.next ≡ class_in self.net self.node (self.next - 1) }
         ensures { IfOk result (λ classes. classes ≡ later self.entry) }
@@ -467,7 +378,7 @@ impl<'a> Classes<'a> {
             port,
             begun,
         } = self;
-        let (next, came) = plan.port(alloc, wired, node, port)?;
+        let (next, came) = plan.port(wired, node, port)?;
         let plan = if came {
             next.make(StackStep::Mix)?
         } else {
@@ -483,15 +394,15 @@ impl<'a> Classes<'a> {
     }
 
     /// The next port.
-    fn port(self, alloc: Global) -> Result<Classes<'a>, AllocError>
+    fn port(self) -> Result<Classes<'a>, AllocError>
         requires { self.next < ports_of self.net self.node }
         ensures { IfOk result (λ classes. classes ≡ later self.entry) }
     {
         let class = self.wired.class(self.node, self.port);
         if class > self.begun {
-            self.first_port(alloc, class)
+            self.first_port(class)
         } else {
-            self.further_port(alloc)
+            self.further_port()
         }
     }
 
@@ -521,7 +432,7 @@ impl<'a> Classes<'a> {
 
 impl<'a> JoinedPlan<'a> {
     /// The component that a port touches, unless it is derived, cut to the earlier ones.
-    fn port(self, alloc: Global, port: usize) -> Result<JoinedPlan<'a>, AllocError>
+    fn port(self, port: usize) -> Result<JoinedPlan<'a>, AllocError>
         requires port { port < ports_of self.net self.node }
         requires turn { self.next ≡ turn self.net self.node port }
         requires principal { IsAgent self.net self.node → port ≡ 0 }
@@ -533,9 +444,9 @@ impl<'a> JoinedPlan<'a> {
             plan,
             turn,
         } = self;
-        let (wire, point) = wired.partner(node, port);
-        let fate = plan.fate_at(point);
-        let plan = plan.join(alloc, wired, node, fate, StackStep::Cut(wire))?;
+        let (wire, _) = wired.partner(node, port);
+        let fate = plan.fate(turn);
+        let plan = plan.join(fate, StackStep::Cut(wire))?;
         Ok(JoinedPlan {
             wired,
             node,
@@ -544,121 +455,57 @@ impl<'a> JoinedPlan<'a> {
         })
     }
 
-    /// The component of a node, unless it is derived, beside the earlier ones.
-    fn other(self, alloc: Global, near: u32) -> Result<JoinedPlan<'a>, AllocError>
-        requires near { near < length self.net.nodes }
-        requires turn { self.next ≡ suc (ports_of self.net self.node) + near }
-        ensures { IfOk result (λ joined. joined ≡ later self.entry) }
-    {
-        let JoinedPlan {
-            wired,
-            node,
-            plan,
-            turn,
-        } = self;
-        let fate = plan.fate(near);
-        let plan = plan.join(alloc, wired, node, fate, StackStep::Mix)?;
-        Ok(JoinedPlan {
-            wired,
-            node,
-            plan,
-            turn: turn + 1,
-        })
-    }
-
-    /// The turn of the node `near`, if no node with an earlier turn is left.
-    fn wait(self, near: usize) -> JoinedPlan<'a>
-        requires near { near ≤ length self.net.nodes }
-        requires from { suc (ports_of self.net self.node) ≤ self.next }
-        requires turn { self.next ≤ suc (ports_of self.net self.node) + near }
-        requires none { (m : ℕ) → self.next ≤ suc (ports_of self.net self.node) + m → m < near → nodes_in self.rest m ≡ false }
-        ensures { result ≡ until self.entry (suc (ports_of self.entry.net self.entry.node) + near) }
-    {
-        let JoinedPlan {
-            wired,
-            node,
-            plan,
-            turn: _,
-        } = self;
-        let turn = wired.ports(node) + 1 + near;
-        JoinedPlan {
-            wired,
-            node,
-            plan,
-            turn,
-        }
-    }
-
-    /// Whether all nodes that are left are derived, so that no component has a turn any more.
-    fn is_over(&self) -> bool
-        ensures { IsTrue result → HasNoTurnLeft self.now }
-    {
-        self.plan.done.absent() <= self.plan.rest.absent()
-    }
-
-    /// The end of the turns, if no component has one any more.
-    fn end(self) -> JoinedPlan<'a>
-        requires from { suc (ports_of self.net self.node) ≤ self.next }
-        requires turn { self.next ≤ suc (ports_of self.net self.node) + length self.net.nodes }
-        requires over { HasNoTurnLeft self }
-        ensures { result ≡ at_end self.entry }
-    {
-        let JoinedPlan {
-            wired,
-            node,
-            plan,
-            turn: _,
-        } = self;
-        let turn = wired.ports(node) + 1 + wired.nodes();
-        JoinedPlan {
-            wired,
-            node,
-            plan,
-            turn,
-        }
-    }
-
-    /// The components that the node doesn't touch: only nodes of the part may be left. Mostly none is, since the node touches them all.
-    fn others(self, alloc: Global, part: &NodeList) -> Result<JoinedPlan<'a>, AllocError>
-        requires turn { self.next ≡ suc (ports_of self.net self.node) }
-        requires size { length part.now ≡ length self.net.nodes }
-        requires rest { IsRest self.node part.now self.rest }
+    /// The components that the node doesn't touch, beside the earlier ones.
+    fn others(self) -> Result<JoinedPlan<'a>, AllocError>
+        requires { self.next ≡ suc (ports_of self.net self.node) }
         ensures { IfOk result (λ whole. whole ≡ at_end self.entry) }
     {
-        let count = self.wired.nodes();
-        let mut whole = self;
-        for member in part.members() {
-            if whole.is_over() {
-                return Ok(whole.end());
-            }
-            whole = whole.wait(*member as usize).other(alloc, *member)?;
+        let JoinedPlan {
+            wired,
+            node,
+            plan,
+            turn,
+        } = self;
+        let count = wired.nodes();
+        if plan.is_of_piece() {
+            return Ok(JoinedPlan {
+                wired,
+                node,
+                plan,
+                turn: turn + count,
+            });
         }
-        Ok(whole.wait(count))
+        let mut whole = plan;
+        for near in 0..count {
+            let fate = whole.fate(turn + near);
+            whole = whole.join(fate, StackStep::Mix)?;
+        }
+        Ok(JoinedPlan {
+            wired,
+            node,
+            plan: whole,
+            turn: turn + count,
+        })
     }
 }
 
-/// The tasks of a part that the node splits, and the room that they took.
-pub(crate) fn tasks_of(
+/// The tasks of a part that its head splits.
+pub(crate) fn tasks_of<'a>(
     alloc: Global,
-    wired: &Wired,
-    part: Opened,
-    node: usize,
-) -> Result<(Items<Task>, PartSets), AllocError>
-    requires size { length part.nodes ≡ length wired.now.nodes }
-    requires done { length part.done ≡ length wired.now.nodes }
-    requires here { IsIn node (nodes_in part.nodes) }
-    requires splits { SplitsAt (open_graph wired.now) node (nodes_in part.nodes) }
-    requires first { IsFirst wired.now part.nodes node }
+    wired: &'a Wired<'a>,
+    part: Headed<'a>,
+) -> Result<Items<Task<'a>>, AllocError>
+    requires net { part.net ≡ wired.now }
+    requires first { IsFirst wired.now part.nodes part.head }
     requires piece { IsPieceOrWhole wired.now part.nodes }
-    ensures steps { IfOk result (λ r. PutsShapes wired.now r.0 (shape (nodes_in part.nodes) no_wires ∷ [])) }
-    ensures takes { IfOk result (λ r. TakesPart wired.now (nodes_in part.nodes) r.0) }
-    ensures net { IfOk result (λ r. IsOrderly wired.now) }
-    ensures lists { IfOk result (λ r. Lists wired.now node (nodes_in part.nodes) 0 r.0) }
-    ensures sized { IfOk result (λ r. AreSizedTasks (length wired.now.nodes) r.0) }
-    ensures room { IfOk result (λ r. HasRoomForNodes wired.now r.1) }
+    ensures steps { IfOk result (λ tasks. PutsShapes wired.now tasks (shape (nodes_in part.entry.nodes) no_wires ∷ [])) }
+    ensures takes { IfOk result (λ tasks. TakesPart wired.now (nodes_in part.entry.nodes) tasks) }
+    ensures net { IfOk result (λ tasks. IsOrderly wired.now) }
+    ensures lists { IfOk result (λ tasks. Lists wired.now part.entry.head (nodes_in part.entry.nodes) 0 tasks) }
+    ensures sized { IfOk result (AreSizedTasks wired.now) }
 {
-    let (begun, list) = BegunPlan::of(alloc, wired, part, node)?;
-    let touched = begun.touched(alloc)?;
-    let whole = touched.others(alloc, &list)?;
+    let begun = BegunPlan::of(alloc, wired, part);
+    let touched = begun.touched()?;
+    let whole = touched.others()?;
     Ok(whole.plan.into_tasks())
 }

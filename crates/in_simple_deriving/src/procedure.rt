@@ -1,26 +1,25 @@
 ghost use Rattle.std.specs.Prelude.{◌≡◌, ◌<◌, ◌-◌, ◌++◌, ◌∷◌, [], drop, length, map, reverse, true, IfOk, OnOk, MatchOption, MatchResult};
 ghost use Rattle.in_open_nets.specs.Derivations.{IsDerivation};
 ghost use Rattle.in_open_nets.specs.Stuck.{IsStuckNet, IsUndone};
-ghost use Rattle.in_simple_deriving.specs.Procedure.{AreFewer, AreMakes, HasRoomForNodes, IsWork, PassesSteps, StartsWork};
+ghost use Rattle.in_simple_deriving.specs.Procedure.{AreFewer, AreMakes, IsWork, PassesSteps, StartsWork};
 ghost use Rattle.in_simple_deriving.specs.Outcomes.{IsDerivingOutcome};
 ghost use Rattle.in_simple_deriving.specs.Stacks.{AdvancesTasks, AreLast, EndsInWhole, IsLastLeft, IsUnderWay, MakesStep, loose_in};
 ghost use Rattle.in_simple_deriving.specs.TakenOrder.{AreTaken, links_from};
 ghost use Rattle.in_simple_deriving.specs.declared.plans.Task.TheVariants.{Derive, Make};
 
-use crate::plans::{PartSets, StackStep, Task, tasks_of};
+use crate::heads::{Headed, Heads};
+use crate::plans::{StackStep, Task, tasks_of};
+use crate::turns::NodeTurns;
 use in_base::use_promise;
-use in_open_nets::{
-    Derivation, NodeList, OpenNet, OpenPoint, Part, Step, Stuck, Trials, Undone, Wired,
-    first_splitting,
-};
+use in_open_nets::{Derivation, OpenNet, OpenPoint, Step, Stuck, Undone, Wired};
 use in_syntax::with_room;
 use sqlite_items::Items;
 use std::alloc::{AllocError, Global};
 
 /// The tasks that are left, the first one last, the steps so far, and those that no step names yet.
 #[derive(Drop)]
-pub(crate) struct Work {
-    pub(crate) tasks: Items<Task>,
+pub(crate) struct Work<'a> {
+    pub(crate) tasks: Items<Task<'a>>,
     pub(crate) steps: Items<Step>,
     pub(crate) roots: Items<u32>,
 }
@@ -38,10 +37,10 @@ fn last_of(alloc: Global, roots: &Items<u32>, count: usize) -> Result<Items<u32>
     Ok(last)
 }
 
-impl Work {
+impl<'a> Work<'a> {
     /// The tasks come first.
-    fn expand(&mut self, tasks: Items<Task>) -> Result<(), AllocError>
-        ensures tasks { OnOk result (reverse self.new.tasks ≡ tasks ++ reverse self.old.tasks) }
+    fn expand(&mut self, tasks: Items<Task<'a>>) -> Result<(), AllocError>
+        ensures tasks { OnOk result (reverse self.new.tasks ≡ tasks.entry ++ reverse self.old.tasks) }
         ensures steps { self.new.steps ≡ self.old.steps }
         ensures roots { self.new.roots ≡ self.old.roots }
     {
@@ -115,7 +114,7 @@ impl Work {
     }
 
     /// Makes steps until a part is to be derived.
-    fn next_part(&mut self, alloc: Global) -> Result<Option<NodeList>, AllocError>
+    fn next_part(&mut self, alloc: Global) -> Result<Option<Headed<'a>>, AllocError>
         ensures tasks { IfOk result (λ next. MatchOption next
             (PassesSteps (reverse self.old.tasks) [])
             (λ part. PassesSteps (reverse self.old.tasks) (Derive part ∷ reverse self.new.tasks))) }
@@ -142,7 +141,7 @@ fn is_loose(open: &OpenNet, wire: usize) -> bool
 }
 
 /// A Link of each wire between free ends, beside the earlier ones; or the empty net, if there is nothing.
-fn loose(alloc: Global, open: &OpenNet, begun: bool) -> Result<Items<Task>, AllocError>
+fn loose<'a>(alloc: Global, open: &OpenNet, begun: bool) -> Result<Items<Task<'a>>, AllocError>
     ensures makes { IfOk result AreMakes }
     ensures steps { IfOk result (EndsInWhole «open».now begun) }
     ensures order { IfOk result (λ tasks. tasks ≡ map Make (links_from «open».now begun 0 (length «open».now.wires))) }
@@ -165,14 +164,19 @@ fn loose(alloc: Global, open: &OpenNet, begun: bool) -> Result<Items<Task>, Allo
 }
 
 /// The tasks of the whole open net.
-fn start(alloc: Global, open: &OpenNet) -> Result<Items<Task>, AllocError>
-    ensures work { IfOk result (StartsWork (length «open».now.nodes)) }
+fn start<'a>(
+    alloc: Global,
+    open: &OpenNet,
+    heads: &'a Heads<'a>,
+) -> Result<Items<Task<'a>>, AllocError>
+    requires { heads.now.net ≡ «open».now }
+    ensures work { IfOk result (StartsWork «open».now) }
     ensures steps { IfOk result (λ tasks. IsUnderWay «open».now tasks [] []) }
 {
     let count = open.nodes();
     if count > 0 {
         let mut tasks = Items::new(alloc);
-        tasks.push(Task::Derive(NodeList::all(alloc, count)?))?;
+        tasks.push(Task::Derive(Headed::whole(heads)))?;
         tasks.append(loose(alloc, open, true)?)?;
         Ok(tasks)
     } else {
@@ -181,11 +185,12 @@ fn start(alloc: Global, open: &OpenNet) -> Result<Items<Task>, AllocError>
 }
 
 /// The tasks of the whole open net, and no step yet.
-fn begin(alloc: Global, open: &OpenNet) -> Result<Work, AllocError>
+fn begin<'a>(alloc: Global, open: &OpenNet, heads: &'a Heads<'a>) -> Result<Work<'a>, AllocError>
+    requires { heads.now.net ≡ «open».now }
     ensures work { IfOk result (λ work. IsWork «open».now (reverse work.tasks)) }
     ensures steps { IfOk result (λ work. IsUnderWay «open».now (reverse work.tasks) work.steps work.roots) }
 {
-    let tasks = start(alloc, open)?;
+    let tasks = start(alloc, open, heads)?;
     // There is a step for each node; how many wires need one isn't known yet, often few.
     let nodes = open.nodes() as usize;
     let mut work = Work {
@@ -197,64 +202,44 @@ fn begin(alloc: Global, open: &OpenNet) -> Result<Work, AllocError>
     Ok(work)
 }
 
-/// Takes the first node that splits the part of these nodes out of it; or returns the part, if no node splits it.
-fn take(
+/// Takes the first node that splits the part out of it; or returns the part's nodes, if no node splits it.
+fn take<'a>(
     alloc: Global,
-    wired: &Wired,
-    work: &mut Work,
-    trials: &mut Trials,
-    list: NodeList,
-    room: PartSets,
-) -> Result<(Option<Stuck>, PartSets), AllocError>
-    requires work { IsWork wired.now (Derive list ∷ reverse work.old.tasks) }
-    requires steps { IsUnderWay wired.now (Derive list ∷ reverse work.old.tasks) work.old.steps work.old.roots }
-    requires cycles { trials.old.cycles ≡ wired.now }
-    requires room { HasRoomForNodes wired.now room }
-    ensures cycles { trials.new.cycles ≡ trials.old.cycles }
-    ensures room { IfOk result (λ r. HasRoomForNodes wired.now r.1) }
-    ensures found { IfOk result (λ r. MatchOption r.0
-        (IsWork wired.now (reverse work.new.tasks) × AreFewer wired.now (Derive list ∷ reverse work.old.tasks) (reverse work.new.tasks) × IsUnderWay wired.now (reverse work.new.tasks) work.new.steps work.new.roots)
+    wired: &'a Wired<'a>,
+    work: &mut Work<'a>,
+    part: Headed<'a>,
+) -> Result<Option<Stuck>, AllocError>
+    requires work { IsWork wired.now (Derive part ∷ reverse work.old.tasks) }
+    requires steps { IsUnderWay wired.now (Derive part ∷ reverse work.old.tasks) work.old.steps work.old.roots }
+    ensures { IfOk result (λ found. MatchOption found
+        (IsWork wired.now (reverse work.new.tasks) × AreFewer wired.now (Derive part.entry ∷ reverse work.old.tasks) (reverse work.new.tasks) × IsUnderWay wired.now (reverse work.new.tasks) work.new.steps work.new.roots)
         (IsStuckNet wired.now)) }
 {
-    let opened = room.open(list)?;
-    let part = Part {
-        wired: &*wired,
-        nodes: &opened.nodes,
-    };
-    match first_splitting(alloc, &part, trials)? {
-        Some(node) => {
-            let (tasks, room) = tasks_of(alloc, wired, opened, node)?;
-            work.expand(tasks)?;
-            Ok((None, room))
-        }
-        None => {
-            let nodes = Items::from_slice(alloc, opened.nodes.members())?;
-            Ok((Some(Stuck { nodes }), opened.close()))
-        }
+    use_promise!(wired.nodes());
+    if part.is_taken_apart() {
+        let tasks = tasks_of(alloc, wired, part)?;
+        work.expand(tasks)?;
+        Ok(None)
+    } else {
+        Ok(Some(part.stuck(alloc)?))
     }
 }
 
 /// Takes nodes out until none is left, or a part is stuck.
-fn finish(
+fn finish<'a>(
     alloc: Global,
-    wired: &Wired,
-    work: &mut Work,
-    trials: &mut Trials,
-    room: PartSets,
+    wired: &'a Wired<'a>,
+    work: &mut Work<'a>,
 ) -> Result<Option<Stuck>, AllocError>
     requires work { IsWork wired.now (reverse work.old.tasks) }
     requires steps { IsUnderWay wired.now (reverse work.old.tasks) work.old.steps work.old.roots }
-    requires cycles { trials.old.cycles ≡ wired.now }
-    requires room { HasRoomForNodes wired.now room }
     ensures { IfOk result (λ found. MatchOption found (IsDerivation wired.now work.new.steps × AreTaken wired.now work.new.steps) (IsStuckNet wired.now)) }
 {
-    let mut lent = room;
     while let Some(part) = work.next_part(alloc)? {
-        let (stuck, room) = take(alloc, wired, work, trials, part, lent)?;
+        let stuck = take(alloc, wired, work, part)?;
         if stuck.is_some() {
             return Ok(stuck);
         }
-        lent = room;
     }
     use_promise!(wired.nodes());
     Ok(None)
@@ -267,21 +252,19 @@ enum DerivingOutcome {
     First(Stuck),
 }
 
-/// Runs the procedure, with the wires by port.
-fn come_to(
+/// Runs the procedure, with what each node meets.
+fn come_to<'a>(
     alloc: Global,
     open: &OpenNet,
-    wired: &Wired,
-    trials: &mut Trials,
-    room: PartSets,
+    wired: &'a Wired<'a>,
+    heads: &'a Heads<'a>,
 ) -> Result<DerivingOutcome, AllocError>
     requires net { wired.now ≡ «open».now }
-    requires cycles { trials.old.cycles ≡ wired.now }
-    requires room { HasRoomForNodes wired.now room }
+    requires heads { heads.now.net ≡ «open».now }
     ensures { IfOk result (IsDerivingOutcome «open».now) }
 {
-    let mut work = begin(alloc, open)?;
-    match finish(alloc, wired, &mut work, trials, room)? {
+    let mut work = begin(alloc, open, heads)?;
+    match finish(alloc, wired, &mut work)? {
         None => {
             let Work {
                 tasks: _,
@@ -299,9 +282,9 @@ fn attempt(alloc: Global, open: &OpenNet) -> Result<DerivingOutcome, AllocError>
     ensures { IfOk result (IsDerivingOutcome «open».now) }
 {
     let wired = Wired::of(alloc, open)?;
-    let mut trials = Trials::new(alloc, &wired)?;
-    let room = PartSets::new(alloc, wired.nodes())?;
-    come_to(alloc, open, &wired, &mut trials, room)
+    let order = NodeTurns::of(alloc, &wired)?;
+    let heads = Heads::of(alloc, &order)?;
+    come_to(alloc, open, &wired, &heads)
 }
 
 /// The steps that build the open net: the first node in order that splits it is taken out, then each component that is left is

@@ -45,7 +45,7 @@ module _ (text : List ℕ) (p : Program) (accepted : IsAccepted text p) (members
   pub rules_accepted : (i : ℕ) (r : RuleParts) → slice_get p.rules i ≡ Some r → HasNoDirectedCircle p.tables r.member
   rules_accepted i r e =
       let b = a.builds_rules.each i r e in
-      let c = at_index p.rule_certificates i (omega (arith, slice_get_within p.rules i r e, a.simple_rules.count)) in
+      let c = at_index a.rule_certificates i (omega (arith, slice_get_within p.rules i r e, a.simple_rules.count)) in
       let k = a.simple_rules.each i r c.0 e c.1 in
       let open_net = rules_open p.tables r c.0.shape (tables_numbered a.source p.tables a.tabulates.0) (rule_whole p.tables b.0 r b.2) b.2.1.member.whole b.2.0 k.0 in
       (rule_in_text a.source p.tables p.rules p.net a.tabulates a.builds_rules a.builds a.fits members usual i r c.0.shape e k.0).0 (derivation_builds c.0.shape open_net c.0.derivation.steps k.1.0)
@@ -53,5 +53,5 @@ module _ (text : List ℕ) (p : Program) (accepted : IsAccepted text p) (members
   pub net_accepted : HasNoDirectedCircle p.tables p.net
   net_accepted =
       let k = a.simple_net in
-      let open_net = is_open_net p.tables p.net p.net_certificate.shape (tables_numbered a.source p.tables a.tabulates.0) a.builds.1.whole a.builds.0 k.0 in
-      (net_in_text a.source p.tables p.rules p.net a.tabulates a.builds_rules a.builds a.fits nets usual p.net_certificate.shape k.0).0 (derivation_builds p.net_certificate.shape open_net p.net_certificate.derivation.steps k.1.0)
+      let open_net = is_open_net p.tables p.net a.net_certificate.shape (tables_numbered a.source p.tables a.tabulates.0) a.builds.1.whole a.builds.0 k.0 in
+      (net_in_text a.source p.tables p.rules p.net a.tabulates a.builds_rules a.builds a.fits nets usual a.net_certificate.shape k.0).0 (derivation_builds a.net_certificate.shape open_net a.net_certificate.derivation.steps k.1.0)

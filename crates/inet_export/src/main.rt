@@ -5,8 +5,8 @@
 #![tactic(auto)]
 
 ghost use Rattle.std.specs.Prelude.{◌≡◌, ◌⊎◌, ◌-◌, ◌<◌, ◌^◌, false};
-ghost use Rattle.in_check.specs.Checking.{IsAccepted};
-ghost use Rattle.in_check.specs.Programs.{Program};
+ghost use Rattle.in_check.specs.Checking.{IsCertified};
+ghost use Rattle.in_check.specs.Programs.{Certified};
 ghost use Rattle.in_export.specs.Programs.{program_line};
 ghost use Rattle.in_program.specs.Acting.{IsReply, TellsOne, report_action, status};
 
@@ -107,7 +107,7 @@ fn read_text<R: Read>(alloc: Global, reader: &mut R) -> io::Result<Vec<u8>> {
 /// Writes the line of a text's program, or, if the text is refused, the output of `inet check` on it, or that memory ran out.
 fn tell_program<W: TextOut>(alloc: Global, writer: &mut W, text: &[u8]) -> Status
     requires { (W.device writer.old).failures < 2 ^ 64 - 1 }
-    ensures { TellsOne (λ lines s. ((p : Program) × IsAccepted text.now p × (lines ≡ program_line p) × (s ≡ status 0)) ⊎ IsReply (report_action false) text.now lines s) (W.device writer.old) (W.device writer.new) result }
+    ensures { TellsOne (λ lines s. ((c : Certified) × IsCertified text.now c × (lines ≡ program_line c) × (s ≡ status 0)) ⊎ IsReply (report_action false) text.now lines s) (W.device writer.old) (W.device writer.new) result }
 {
     match export(alloc, text) {
         Ok(line) => tell(writer, line.as_slice(), WRITTEN),

@@ -148,7 +148,7 @@ module _ (text : List ℕ) (p : Program) (accepted : IsAccepted text p) where
       let whole : IsWhole r.member = of.member.whole in
       let fits = all_at (λ r. TypesRule p.tables r (Ok tt)) p.rules i r a.fits.0 e in
       let complete = rule_whole p.tables b.0 r b.2 in
-      let c = at_index p.rule_certificates i (omega (arith, slice_get_within p.rules i r e, a.simple_rules.count)) in
+      let c = at_index a.rule_certificates i (omega (arith, slice_get_within p.rules i r e, a.simple_rules.count)) in
       let k : CertifiesRule p.tables r (Ok c.0) = a.simple_rules.each i r c.0 e c.1 in
       let open_net = rules_open p.tables r c.0.shape numbered complete whole over k.0 in
       let heads : written.heads_of p.tables b.0 ≡ r.heads = sym of.heads in
@@ -168,13 +168,13 @@ module _ (text : List ℕ) (p : Program) (accepted : IsAccepted text p) where
       let over = a.builds.0 in
       let whole : IsWhole p.net = a.builds.1.whole in
       let k = a.simple_net in
-      let open_net = opened_nets.is_open_net p.tables p.net p.net_certificate.shape numbered whole over k.0 in
+      let open_net = opened_nets.is_open_net p.tables p.net a.net_certificate.shape numbered whole over k.0 in
       record {
         net = is_net p.tables p.net whole over;
         within = λ x s h. below p.tables p.net.cells over.cells x s h;
         typed = net_typed p.tables p.net whole a.fits.1;
-        no_circle = λ circle. derivable_no_circle p.net_certificate.shape open_net (derivation_builds p.net_certificate.shape open_net p.net_certificate.derivation.steps k.1.0)
-            (net_circle p.tables p.net p.net_certificate.shape numbered whole over k.0 circle);
+        no_circle = λ circle. derivable_no_circle a.net_certificate.shape open_net (derivation_builds a.net_certificate.shape open_net a.net_certificate.derivation.steps k.1.0)
+            (net_circle p.tables p.net a.net_certificate.shape numbered whole over k.0 circle);
       }
 
   -- one rule for two symbols, the constructor first

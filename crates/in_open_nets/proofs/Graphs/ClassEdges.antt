@@ -29,24 +29,6 @@ use Rattle.in_open_nets.proofs.PartsOf.Places.{at_other, at_set}
 
 -- ---- the hub edges of one node
 
-pub adds_start : (hub : ℕ) (old : List (ℕ × ℕ)) → AddsHubEdges hub 0 old old
-adds_start hub old = record { size = omega arith; kept = λ e p h. h; all = λ c l. absurd (omega arith) }
-
-pub adds_more : (hub b : ℕ) (old new : List (ℕ × ℕ)) → AddsHubEdges hub b old new → AddsHubEdges hub (b + 1) old (new ++ (hub, hub + 1 + b) ∷ [])
-adds_more hub b old new a =
-    let size = a.size in
-    let longer = length-append new ((hub, hub + 1 + b) ∷ []) in
-    record {
-      size = omega arith;
-      kept = λ e p h. kept_at new ((hub, hub + 1 + b) ∷ []) e p (a.kept e p h);
-      all = λ c l. elim (cases_eq c b) [
-        | inl same ↦
-            let e : length old + c ≡ length new = omega arith in
-            subst (λ z. slice_get (new ++ (hub, hub + 1 + b) ∷ []) (length old + c) ≡ Some (hub, hub + 1 + z)) (sym same) (subst (λ z. slice_get (new ++ (hub, hub + 1 + b) ∷ []) z ≡ Some (hub, hub + 1 + b)) (sym e) (last_at new (hub, hub + 1 + b)))
-        | inr d ↦ kept_at new ((hub, hub + 1 + b) ∷ []) (length old + c) (hub, hub + 1 + c) (a.all c (omega arith))
-      ];
-    }
-
 -- ---- one more node
 
 abbrev entry : List HubNumbers → ℕ → HubNumbers
@@ -187,9 +169,6 @@ first_of n i m j = elim (cases_order n m) [
   | inl e ↦ elim (cases_lt j i) [ inl l ↦ inr (inr (sym e, omega arith)) | inr g ↦ inl (inr (e, omega arith)) ]
   | inr d ↦ elim d [ inl l ↦ inl (inl l) | inr l ↦ inr (inl l) ]
 ]
-
-pub port_small : (o : OpenNet) → IsOpenNet o → (w n i : ℕ) (q : OpenPoint) → IsWire o w (Port n i) q → (n < length o.nodes) × (i < ports_of o n)
-port_small o net w n i q h = (point_node o n i (net.points w (Port n i) q h), in_ports o net w n i q h)
 
 -- ---- the class graph
 

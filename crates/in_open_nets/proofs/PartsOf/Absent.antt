@@ -22,9 +22,6 @@ missing_cleared (true ∷ bs) zero e = omega arith
 missing_cleared (false ∷ bs) zero e = absurd (true≢false (sym e))
 missing_cleared (b ∷ bs) (suc l) e = let r = missing_cleared bs l e in omega arith
 
-pub missing_same : (bits : List Bool) (l : ℕ) → nodes_in bits l ≡ false → missing (set bits l false) ≡ missing bits
-missing_same bits l e = ap missing (subst (λ z. set bits l z ≡ bits) e (set-get_or bits l false))
-
 -- members of another set alone are no more than its members
 pub missing_fewer : (xs ys : List Bool) → length xs ≡ length ys → ((k : ℕ) → IsIn k (nodes_in xs) → IsIn k (nodes_in ys)) → missing ys ≤ missing xs
 missing_fewer [] [] e within = omega arith

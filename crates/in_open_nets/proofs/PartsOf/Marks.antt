@@ -9,11 +9,6 @@ use Rattle.in_open_nets.proofs.Reached.Links.{same_nat}
 use Rattle.in_open_nets.proofs.Reached.Reaching.{missing_set}
 use Rattle.in_open_nets.proofs.PartsOf.Places.{at_other, at_set}
 
-pub mark_at : (last : ℕ) (ms : List ℕ) (n m : ℕ) → slice_get ms n ≡ Some m → nodes_in (marked last ms) n ≡ nat_eq m last
-mark_at last [] n m e = cc
-mark_at last (k ∷ ks) zero m e = cc
-mark_at last (k ∷ ks) (suc n) m e = mark_at last ks n m e
-
 pub no_mark : (last : ℕ) (ms : List ℕ) (n : ℕ) → slice_get ms n ≡ None → nodes_in (marked last ms) n ≡ false
 no_mark last [] n e = refl
 no_mark last (k ∷ ks) zero e = cc

@@ -92,10 +92,6 @@ lists_more P Q ns k h below same = record {
   );
 }
 
--- .. and of each set that has these members
-pub listed_same : (nodes tests : ℕ → Bool) (ns : List ℕ) → IsListed nodes ns → ((n : ℕ) → IsIn n nodes ↔ IsIn n tests) → IsListed tests ns
-listed_same nodes tests ns l same = record { rises = l.rises; all = λ n. ((λ h. (l.all n).0 ((same n).1 h)), λ a. (same n).0 ((l.all n).1 a)) }
-
 -- the members without one of them
 pub listed_without : (nodes tests : List Bool) (ns : List ℕ) (i n : ℕ) → i < length ns → n ≡ get_or ns i 0 → IsListed (nodes_in nodes) ns → IsRest n nodes tests → IsListed (nodes_in tests) (remove ns i)
 listed_without nodes tests ns i n l e h left = record {

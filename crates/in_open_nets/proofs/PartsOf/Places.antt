@@ -31,8 +31,3 @@ pub drop_here : (xs : List ℕ) (k : ℕ) → k < length xs → drop k xs ≡ ge
 drop_here [] k l = absurd (omega arith)
 drop_here (x ∷ xs) zero l = refl
 drop_here (x ∷ xs) (suc k) l = drop_here xs k (omega arith)
-
-pub any_default : (xs : List ℕ) (k d e : ℕ) → k < length xs → get_or xs k d ≡ get_or xs k e
-any_default [] k d e l = absurd (omega arith)
-any_default (x ∷ xs) zero d e l = refl
-any_default (x ∷ xs) (suc k) d e l = any_default xs k d e (omega arith)

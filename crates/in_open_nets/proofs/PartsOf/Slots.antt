@@ -17,13 +17,6 @@ use Rattle.in_open_nets.proofs.Reached.Links.{same_nat}
 use Rattle.in_open_nets.proofs.Built.Sound.{wire_points, port_place}
 use Rattle.in_syntax.specs.Grammar.{max_ports}
 
--- more of the same
-pub push_same : {X : Type 0} (xs : List X) (d : X) → ((i : ℕ) → get_or xs i d ≡ d) → (i : ℕ) → get_or (xs ++ d ∷ []) i d ≡ d
-push_same [] d h zero = refl
-push_same [] d h (suc i) = refl
-push_same (x ∷ xs) d h zero = h zero
-push_same (x ∷ xs) d h (suc i) = push_same xs d (λ i. h (suc i)) i
-
 pub port_point : (o : OpenNet) (n i : ℕ) → i < ports_of o n → IsOpenPoint o (Port n i)
 port_point o n i h = go (slice_get o.nodes n) h
   where

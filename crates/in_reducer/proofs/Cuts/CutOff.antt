@@ -78,11 +78,11 @@ pub record IsCutOff (r : Body) (c i : ℕ) (b : ArenaView) (es : List End) (own 
   -- these are the ends before
   pub is_ends : ends ≡ r.ends.items
   -- each net that the cells show after is the net before with that wire cut
-  pub cut : (w m : Net ℕ) → Shows (signature_of r.checked.now.tables) own r.arena ends w → IsShown b (take (own + 2) es) m → IsCutAt w c i own m
+  pub cut : (w m : Net ℕ) → Shows (signature_of r.checked.now.program.tables) own r.arena ends w → IsShown b (take (own + 2) es) m → IsCutAt w c i own m
   -- this is the agent's symbol
   pub is_symbol : symbol_in (parts_of (reducer_view r)) c ≡ Some symbol
   -- this is the type of its port there
-  pub is_kind : kind ≡ port_at r.checked.now.tables symbol.0 i
+  pub is_kind : kind ≡ port_at r.checked.now.program.tables symbol.0 i
   -- the two new free ends have this type and its opposite
   pub is_new : new ≡ (r.free.items ++ Cut kind ∷ []) ++ Cut (opposite kind) ∷ []
   -- the list of ends is longer by two
@@ -92,10 +92,10 @@ pub record IsCutOff (r : Body) (c i : ℕ) (b : ArenaView) (es : List End) (own 
 
 module _ (r : Body) (k : KeepsNet r) (c i : ℕ) (can : CanCut (reducer_view r) c i) where
   abbrev t : Tables
-  t = r.checked.now.tables
+  t = r.checked.now.program.tables
 
   abbrev p : System
-  p = system_of r.checked.now
+  p = system_of r.checked.now.program
 
   abbrev fs : List FreeEnd
   fs = own_free r
@@ -104,7 +104,7 @@ module _ (r : Body) (k : KeepsNet r) (c i : ℕ) (can : CanCut (reducer_view r) 
   w = net_in (reducer_view r)
 
   many : length fs ≡ length r.free.items
-  many = length-map r.free.items (declared_as r.checked.now)
+  many = length-map r.free.items (declared_as r.checked.now.program)
 
   fits : length fs ≤ length r.ends.items
   fits = let e = k.ends in let m = many in omega (arith, e, m)
@@ -150,19 +150,19 @@ module _ (r : Body) (k : KeepsNet r) (c i : ℕ) (can : CanCut (reducer_view r) 
     open given use {kept, long, is_own, is_ends, cut, is_symbol, is_kind, is_new, is_list}
 
     abbrev gs : List FreeEnd
-    gs = map (declared_as r.checked.now) new
+    gs = map (declared_as r.checked.now.program) new
 
     abbrev pub after : MachineParts
-    after = record { program = r.checked.now; agents = agents_in b; free = leading_to gs list; queue = r.queue.items; vacant = vacant_in (at_rest b) }
+    after = record { program = r.checked.now.program; agents = agents_in b; free = leading_to gs list; queue = r.queue.items; vacant = vacant_in (at_rest b) }
 
     abbrev m : Net ℕ
     m = net_in after
 
     abbrev ends_of : PortType → FreeEnd
-    ends_of z = declared_as r.checked.now (Cut z)
+    ends_of z = declared_as r.checked.now.program (Cut z)
 
     all_free : gs ≡ fs ++ (ends_of kind ∷ ends_of (opposite kind) ∷ [])
-    all_free = ap (map (declared_as r.checked.now)) (is_new ∙ append_assoc r.free.items (Cut kind ∷ []) (Cut (opposite kind) ∷ [])) ∙ map-append (declared_as r.checked.now) r.free.items (Cut kind ∷ Cut (opposite kind) ∷ [])
+    all_free = ap (map (declared_as r.checked.now.program)) (is_new ∙ append_assoc r.free.items (Cut kind ∷ []) (Cut (opposite kind) ∷ [])) ∙ map-append (declared_as r.checked.now.program) r.free.items (Cut kind ∷ Cut (opposite kind) ∷ [])
 
     two_more : length gs ≡ own + 2
     two_more = let e = ap length all_free ∙ length_two fs (ends_of kind) (ends_of (opposite kind)) in let n = many in omega (arith, e, n, is_own)
@@ -337,4 +337,4 @@ two_longer xs a b new is = let e = ap length (is ∙ append_assoc xs (a ∷ []) 
 
 -- as many free ends as contracts see
 pub free_many : (r : Body) → KeepsNet r → length (reducer_view r).free ≡ length r.free.items
-free_many r k = (let m = length-map r.free.items (declared_as r.checked.now) in let e = same_many (own_free r) r.ends.items (let f = k.ends in omega (arith, f, m)) in omega (arith, e, m))
+free_many r k = (let m = length-map r.free.items (declared_as r.checked.now.program) in let e = same_many (own_free r) r.ends.items (let f = k.ends in omega (arith, f, m)) in omega (arith, e, m))

@@ -74,10 +74,10 @@ same_agent x y e = port_agent x y 0 0 (sym (end_point (Port x 0)) ∙ ap shown_p
 
 module _ (r : Body) (k : KeepsNet r) (two : 2 ≤ length r.free.items) (own : ℕ) (is_own : own + 2 ≡ length r.free.items) where
   abbrev t : Tables
-  t = r.checked.now.tables
+  t = r.checked.now.program.tables
 
   abbrev p : System
-  p = system_of r.checked.now
+  p = system_of r.checked.now.program
 
   abbrev fs : List FreeEnd
   fs = own_free r
@@ -89,7 +89,7 @@ module _ (r : Body) (k : KeepsNet r) (two : 2 ≤ length r.free.items) (own : �
   m = net_in (reducer_view r)
 
   many : length fs ≡ own + 2
-  many = length-map r.free.items (declared_as r.checked.now) ∙ sym is_own
+  many = length-map r.free.items (declared_as r.checked.now.program) ∙ sym is_own
 
   fits : length fs ≤ length r.ends.items
   fits = let e = k.ends in let m = many in omega (arith, e, m, is_own)
@@ -122,16 +122,16 @@ module _ (r : Body) (k : KeepsNet r) (two : 2 ≤ length r.free.items) (own : �
 
   module _ (b : ArenaView) (es : List End) (kept : KeepsCells r.arena b) (long : length es ≡ length r.ends.items) (joins : (n : Net ℕ) → IsShown b (take own es) n → JoinsEnds m own (suc own) n) (can : CanJoin (reducer_view r)) (new : List OwnEnd) (is_new : new ≡ take own r.free.items) where
     abbrev gs : List FreeEnd
-    gs = map (declared_as r.checked.now) new
+    gs = map (declared_as r.checked.now.program) new
 
     abbrev pub after : List (ℕ × ℕ) → MachineParts
-    after queue = record { program = r.checked.now; agents = agents_in b; free = leading_to gs es; queue = queue; vacant = vacant_in (at_rest b) }
+    after queue = record { program = r.checked.now.program; agents = agents_in b; free = leading_to gs es; queue = queue; vacant = vacant_in (at_rest b) }
 
     abbrev n : Net ℕ
     n = net_of (seen b gs es)
 
     first_free : gs ≡ take own fs
-    first_free = ap (map (declared_as r.checked.now)) is_new ∙ sym (take-map (declared_as r.checked.now) own r.free.items)
+    first_free = ap (map (declared_as r.checked.now.program)) is_new ∙ sym (take-map (declared_as r.checked.now.program) own r.free.items)
 
     abbrev ends_two : (x y : FreeEnd) × (fs ≡ take own fs ++ (x ∷ y ∷ []))
     ends_two = last_two fs own many
@@ -367,9 +367,9 @@ module _ (r : Body) (k : KeepsNet r) (two : 2 ≤ length r.free.items) (own : �
     }
 
     pub fewer_free : length new ≡ own
-    fewer_free = sym (length-map new (declared_as r.checked.now)) ∙ fewer
+    fewer_free = sym (length-map new (declared_as r.checked.now.program)) ∙ fewer
 
-    pub own_ends : (j : ℕ) (e : OwnEnd) → slice_get new j ≡ Some e → IsOwnEnd r.checked.now e
+    pub own_ends : (j : ℕ) (e : OwnEnd) → slice_get new j ≡ Some e → IsOwnEnd r.checked.now.program e
     own_ends j e at = k.free j e (first_of own r.free.items j e (ap (λ (z : List OwnEnd). slice_get z j) (sym is_new) ∙ at))
       where
         first_of : (n : ℕ) (xs : List OwnEnd) (j : ℕ) (e : OwnEnd) → slice_get (take n xs) j ≡ Some e → slice_get xs j ≡ Some e

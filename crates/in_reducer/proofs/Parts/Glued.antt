@@ -143,11 +143,11 @@ module _ (r o : Body) (k : KeepsNet r) (l : KeepsNet o) (can : CanAppend (reduce
       after = in_cells r b new list queue
 
       abbrev hs : List FreeEnd
-      hs = map (declared_as r.checked.now) new
+      hs = map (declared_as r.checked.now.program) new
 
       all_free : hs ≡ glued own fs gs
       all_free =
-          ap (map (declared_as r.checked.now)) is_new ∙ glued-map (declared_as r.checked.now) own r.free.items o.free.items
+          ap (map (declared_as r.checked.now.program)) is_new ∙ glued-map (declared_as r.checked.now.program) own r.free.items o.free.items
           ∙ ap (λ (z : Program). glued own fs (map (declared_as z) o.free.items)) (sym can.program)
 
       many_new : length new ≡ own + cuts + cuts

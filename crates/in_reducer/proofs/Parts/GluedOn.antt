@@ -36,7 +36,7 @@ cells_for c m = count_of m.vacant c + agents_of m.program.tables c m.agents
 pub names_fit : (o : Body) → KeepsNet o → (p : MachineParts) → reducer_view o ≡ p → (size names : ℕ) → ((c : CellClass) → cells_for c p ≤ size) → length classes * size ≤ names → length o.arena.states ≤ names
 names_fit o l p view size names few fits =
     let many : length o.arena.states ≡ all_of o.arena.cells = sym (length-map o.arena.states rested) ∙ l.net.all in
-    let each : (c : CellClass) → amount o.arena.cells c ≤ size = λ c. (let all = cells_at_rest o.checked.now.tables o.arena l.net c in let v = ap (cells_for c) view in omega (arith, all, v, few c)) in
+    let each : (c : CellClass) → amount o.arena.cells c ≤ size = λ c. (let all = cells_at_rest o.checked.now.program.tables o.arena l.net c in let v = ap (cells_for c) view in omega (arith, all, v, few c)) in
     omega (arith, each Small, each Large, each Wide, many, fits)
 
 -- the same, as contracts see both

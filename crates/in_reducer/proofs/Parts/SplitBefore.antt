@@ -39,7 +39,7 @@ use Rattle.in_compile.proofs.Public.{held}
 
 module _ (r : Body) (k : KeepsNet r) where
   abbrev t : Tables
-  t = r.checked.now.tables
+  t = r.checked.now.program.tables
 
   abbrev fs : List FreeEnd
   fs = own_free r
@@ -55,7 +55,7 @@ module _ (r : Body) (k : KeepsNet r) where
   own_ends = take (length (own_free r)) r.ends.items
 
   pub many : length fs ≡ length r.free.items
-  many = length-map r.free.items (declared_as r.checked.now)
+  many = length-map r.free.items (declared_as r.checked.now.program)
 
   pub fits : length fs ≤ length es
   fits = let e = k.ends in let f = many in omega (arith, e, f)

@@ -34,7 +34,7 @@ to_holds c n h = both_true (le-leb (least c) n h.0) (le-leb n (width c) h.1)
 
 module _ (r : Body) (k : KeepsNet r) (agents : List CellNo) (own cuts : ℕ) (can : CanSplit (reducer_view r) agents own cuts) where
   abbrev t : Tables
-  t = r.checked.now.tables
+  t = r.checked.now.program.tables
 
   -- ---- the part
 

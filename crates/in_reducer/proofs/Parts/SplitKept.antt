@@ -85,13 +85,13 @@ tools_stay y a b alike tools = record {
 
 module _ (r : Body) (k : KeepsNet r) (agents : List CellNo) (own cuts : ℕ) (can : CanSplit (reducer_view r) agents own cuts) (x : Pieces) (h : ArePieces r agents own cuts x) where
   abbrev t : Tables
-  t = r.checked.now.tables
+  t = r.checked.now.program.tables
 
   abbrev rest_fs : List FreeEnd
-  rest_fs = map (declared_as r.checked.now) x.rest_free
+  rest_fs = map (declared_as r.checked.now.program) x.rest_free
 
   abbrev part_fs : List FreeEnd
-  part_fs = map (declared_as r.checked.now) x.part_free
+  part_fs = map (declared_as r.checked.now.program) x.part_free
 
   abbrev rest_parts : Parts
   rest_parts = seen x.left rest_fs x.rest_ends

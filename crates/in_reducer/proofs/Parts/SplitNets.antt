@@ -172,7 +172,7 @@ pub record ArePieces (r : Body) (agents : List CellNo) (own cuts : ℕ) (x : Pie
 
 module _ (r : Body) (k : KeepsNet r) (agents : List CellNo) (own cuts : ℕ) (can : CanSplit (reducer_view r) agents own cuts) (x : Pieces) (h : ArePieces r agents own cuts x) where
   abbrev prog : Program
-  prog = r.checked.now
+  prog = r.checked.now.program
 
   abbrev fs : List FreeEnd
   fs = own_free r
@@ -190,10 +190,10 @@ module _ (r : Body) (k : KeepsNet r) (agents : List CellNo) (own cuts : ℕ) (ca
   part_fs = map (declared_as prog) x.part_free
 
   abbrev pub rest : List (ℕ × ℕ) → MachineParts
-  rest queue = record { program = r.checked.now; agents = agents_in x.left; free = leading_to (map (declared_as r.checked.now) x.rest_free) x.rest_ends; queue = queue; vacant = vacant_in (at_rest x.left) }
+  rest queue = record { program = r.checked.now.program; agents = agents_in x.left; free = leading_to (map (declared_as r.checked.now.program) x.rest_free) x.rest_ends; queue = queue; vacant = vacant_in (at_rest x.left) }
 
   abbrev pub part : List (ℕ × ℕ) → MachineParts
-  part queue = record { program = r.checked.now; agents = agents_in x.new; free = leading_to (map (declared_as r.checked.now) x.part_free) x.part_ends; queue = queue; vacant = vacant_in (at_rest x.new) }
+  part queue = record { program = r.checked.now.program; agents = agents_in x.new; free = leading_to (map (declared_as r.checked.now.program) x.part_free) x.part_ends; queue = queue; vacant = vacant_in (at_rest x.new) }
 
   abbrev m : Net ℕ
   m = net_in (reducer_view r)

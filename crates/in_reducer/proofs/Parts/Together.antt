@@ -110,7 +110,7 @@ all_take P (suc n) (x ∷ xs) h (suc k) d low = all_take P n xs (λ j z less. h 
 
 module _ (o : Body) (l : KeepsNet o) where
   pub many_free : length (own_free o) ≡ length o.free.items
-  many_free = length-map o.free.items (declared_as o.checked.now)
+  many_free = length-map o.free.items (declared_as o.checked.now.program)
 
   pub fits : length (own_free o) ≤ length o.ends.items
   fits = let e = l.ends in let f = many_free in omega (arith, e, f)
@@ -139,7 +139,7 @@ module _ (o : Body) (l : KeepsNet o) where
     where
       go : (e : End) → (net_in (reducer_view o)).partner (point_of e) ≡ Some (Free j) → IsEndWithin (length o.arena.states) (length o.free.items) e
       go (end.Cell c i) h =
-          let s = symbol_of (signature_of o.checked.now.tables) ((net_in (reducer_view o)).symbol c.0) i (l.reducer.net.sound.net.points (Port c.0 i) (Free j) h) in
+          let s = symbol_of (signature_of o.checked.now.program.tables) ((net_in (reducer_view o)).symbol c.0) i (l.reducer.net.sound.net.points (Port c.0 i) (Free j) h) in
           symbol_inside c.0 s.0 s.1
       go (end.Free k) h =
           let low : k < length (net_in (reducer_view o)).free = l.reducer.net.sound.net.points (Free k) (Free j) h in
@@ -170,14 +170,14 @@ module _ (o : Body) (l : KeepsNet o) where
 
 -- these free ends lead to the first ends of that list
 abbrev pub in_cells : Body → ArenaView → List OwnEnd → List End → List (ℕ × ℕ) → MachineParts
-in_cells r b new list queue = record { program = r.checked.now; agents = agents_in b; free = leading_to (map (declared_as r.checked.now) new) list; queue = queue; vacant = vacant_in (at_rest b) }
+in_cells r b new list queue = record { program = r.checked.now.program; agents = agents_in b; free = leading_to (map (declared_as r.checked.now.program) new) list; queue = queue; vacant = vacant_in (at_rest b) }
 
 module _ (r : Body) (b : ArenaView) (new : List OwnEnd) (shown_ends sides list : List End) (queue : List (ℕ × ℕ)) (many_shown : length shown_ends ≡ length new) (is_list : list ≡ shown_ends ++ sides) where
   abbrev hs : List FreeEnd
-  hs = map (declared_as r.checked.now) new
+  hs = map (declared_as r.checked.now.program) new
 
   many_new : length hs ≡ length new
-  many_new = length-map new (declared_as r.checked.now)
+  many_new = length-map new (declared_as r.checked.now.program)
 
   first_ends : take (length hs) list ≡ shown_ends
   first_ends = ap (λ (z : ℕ). take z list) (many_new ∙ sym many_shown) ∙ ap (take (length shown_ends)) is_list ∙ take-append_seam shown_ends sides
@@ -198,10 +198,10 @@ module _ (r : Body) (b : ArenaView) (new : List OwnEnd) (shown_ends sides list :
 
 module _ (r o : Body) (k : KeepsNet r) (l : KeepsNet o) (can : CanAppend (reducer_view r) (reducer_view o)) where
   abbrev t : Tables
-  t = r.checked.now.tables
+  t = r.checked.now.program.tables
 
   abbrev p : System
-  p = system_of r.checked.now
+  p = system_of r.checked.now.program
 
   abbrev gs : List FreeEnd
   gs = own_free o
@@ -311,7 +311,7 @@ module _ (r o : Body) (k : KeepsNet r) (l : KeepsNet o) (can : CanAppend (reduce
         pub is_reducer : IsReducer after
         is_reducer = record {
           accepted = k.reducer.accepted;
-          net = record { sound = sound; over = is_over t b (map (declared_as r.checked.now) new) list sound.net sound.within };
+          net = record { sound = sound; over = is_over t b (map (declared_as r.checked.now.program) new) list sound.net sound.within };
           queue = queue_after;
           cells = (b.cells, subst AreAllowed (sym (copied.cells ∙ anew.cells)) k.few, λ d. cells_at_rest t b still_net d);
         }

@@ -32,9 +32,9 @@ member_is p ts m of e = subst (IsMemberOf p.tables p.net) (sym e) of.start
 -- the net of an accepted program is put into cells that were all free, and the reducer's lists are those of this net
 pub record HoldsStart (text : List ℕ) (x : Body) (ts : TemplatesParts) (m : MemberParts) (cells : CellCounts) (a : ArenaView) (ns : List CellNo) : Type 0 where
   -- the check accepts the program's text
-  pub accepted : IsAccepted text x.checked.now
+  pub accepted : IsAccepted text x.checked.now.program
   -- these are the program's templates
-  pub templates : AreTemplatesOf x.checked.now ts
+  pub templates : AreTemplatesOf x.checked.now.program ts
   -- this is the member for its net
   pub start : m ≡ ts.start
   -- a reducer can have so many cells of each class
@@ -52,17 +52,17 @@ pub record HoldsStart (text : List ℕ) (x : Body) (ts : TemplatesParts) (m : Me
   -- the queue has the net's active pairs
   pub queue : x.queue.items ≡ map (both (named ns)) m.pairs
   -- the free ends are those of the program's net
-  pub free : own_free x ≡ x.checked.now.net.free
+  pub free : own_free x ≡ x.checked.now.program.net.free
 
 module _ (text : List ℕ) (x : Body) (ts : TemplatesParts) (m : MemberParts) (cells : CellCounts) (a : ArenaView) (ns : List CellNo) (given : HoldsStart text x ts m cells a ns) where
   open given use {accepted, templates, start, few, same, empty, put, first, long, queue, free}
 
-  member : IsMemberOf x.checked.now.tables x.checked.now.net m
-  member = member_is x.checked.now ts m templates start
+  member : IsMemberOf x.checked.now.program.tables x.checked.now.program.net m
+  member = member_is x.checked.now.program ts m templates start
 
-  pub starts : IsStart x.checked.now cells (reducer_view x)
-  starts = subst (λ (fs : List FreeEnd). IsStart x.checked.now cells (record { program = x.checked.now; agents = agents_in x.arena; free = leading_to fs x.ends.items; queue = x.queue.items; vacant = vacant_in (at_rest x.arena) })) (sym free)
-      (is_start text x.checked.now accepted m member ns a x.arena cells same empty put x.ends.items first long x.queue.items queue)
+  pub starts : IsStart x.checked.now.program cells (reducer_view x)
+  starts = subst (λ (fs : List FreeEnd). IsStart x.checked.now.program cells (record { program = x.checked.now.program; agents = agents_in x.arena; free = leading_to fs x.ends.items; queue = x.queue.items; vacant = vacant_in (at_rest x.arena) })) (sym free)
+      (is_start text x.checked.now.program accepted m member ns a x.arena cells same empty put x.ends.items first long x.queue.items queue)
 
   module _ (room : all_of cells + 2 * most_ends ≤ 2 * x.queue.room + 1) (tools : AreTools x.tools a) where
     still_none : (b : ArenaView) → IsNoneOf b a → IsNoneOf b x.arena
@@ -85,25 +85,25 @@ module _ (text : List ℕ) (x : Body) (ts : TemplatesParts) (m : MemberParts) (c
     }
 
     cells_there : x.arena.cells ≡ cells
-    cells_there = cells_after text x.checked.now accepted m member ns a x.arena cells same empty put
+    cells_there = cells_after text x.checked.now.program accepted m member ns a x.arena cells same empty put
 
     -- as many free ends as the program has
     free_many : length x.free.items ≡ length m.joints
-    free_many = sym (length-map x.free.items (declared_as x.checked.now)) ∙ ap length free ∙ sym (own_many text x.checked.now accepted m member)
+    free_many = sym (length-map x.free.items (declared_as x.checked.now.program)) ∙ ap length free ∙ sym (own_many text x.checked.now.program accepted m member)
 
-    pub is_kept : ((k : ℕ) (e : OwnEnd) → slice_get x.free.items k ≡ Some e → IsOwnEnd x.checked.now e) → IsKept x
+    pub is_kept : ((k : ℕ) (e : OwnEnd) → slice_get x.free.items k ≡ Some e → IsOwnEnd x.checked.now.program e) → IsKept x
     is_kept own = record {
       all = record {
         net = record {
-          reducer = start_reducer text x.checked.now accepted cells few (reducer_view x) starts;
-          net = net_in_cells text x.checked.now accepted m member ns a x.arena cells same empty put;
+          reducer = start_reducer text x.checked.now.program accepted cells few (reducer_view x) starts;
+          net = net_in_cells text x.checked.now.program accepted m member ns a x.arena cells same empty put;
           few = subst AreAllowed (sym cells_there) few;
-          few_free = (let e = free_many in let l = few_joints text x.checked.now accepted m member in omega (arith, e, l));
+          few_free = (let e = free_many in let l = few_joints text x.checked.now.program accepted m member in omega (arith, e, l));
           free = own;
           ends = (let e = free_many in omega (arith, e, long));
           queue = (let e = ap all_of cells_there in omega (arith, e, room));
         };
         tools = tools_there;
       };
-      none = none_after text x.checked.now accepted m member ns a x.arena cells same empty put;
+      none = none_after text x.checked.now.program accepted m member ns a x.arena cells same empty put;
     }

@@ -23,7 +23,7 @@ pub record HasInteracted (r : Body) (a : ArenaView) (i : ℕ) (p : TemplateParts
   -- this is the number of free ends
   pub is_own : own ≡ length r.free.items
   -- these are the program's tables
-  pub same : tables ≡ r.checked.now.tables
+  pub same : tables ≡ r.checked.now.program.tables
   -- no pair was listed before
   pub none : old ≡ []
   -- the cells show the net after, and the pairs that are made over boundary ends are listed
@@ -37,7 +37,7 @@ pub record HasInteracted (r : Body) (a : ArenaView) (i : ℕ) (p : TemplateParts
 
 module _ (r : Body) (a : ArenaView) (i : ℕ) (p : TemplateParts) (sb : StandsBeside r a i p) where
   abbrev t : Tables
-  t = r.checked.now.tables
+  t = r.checked.now.program.tables
 
   abbrev ns : List CellNo
   ns = r.tools.placed.cells
@@ -48,7 +48,7 @@ module _ (r : Body) (a : ArenaView) (i : ℕ) (p : TemplateParts) (sb : StandsBe
   pub low : i < length r.queue.items
   low = slice_get_within r.queue.items i sb.at.pair sb.at.stands
 
-  pub put_net : (tables : Tables) → tables ≡ r.checked.now.tables → IsNetIn tables (at_rest r.arena)
+  pub put_net : (tables : Tables) → tables ≡ r.checked.now.program.tables → IsNetIn tables (at_rest r.arena)
   put_net tables same = subst (λ (u : Tables). IsNetIn u (at_rest r.arena)) (sym same)
       (still.net_in t a r.arena sb.net.net.all sb.put.cells sb.put.many (still.begun_good t sb.at.rule.member sb.at.is_rule.over.member p.member sb.at.template.member ns a r.arena
       (laid.begun_of t sb.at.rule.member sb.at.is_rule.over.member p.member sb.at.template.member ns a r.arena sb.put) sb.net.net))
@@ -62,7 +62,7 @@ module _ (r : Body) (a : ArenaView) (i : ℕ) (p : TemplateParts) (sb : StandsBe
   pub room : (own : ℕ) → own ≡ length r.free.items → (ends : List End) → ends ≡ r.ends.items → own + length p.member.joints + length p.member.joints ≤ length ends
   room own e ends f = stepped.room_there (over a r) sb.net i p sb.at own (own_is own e) ends f
 
-  pub beside : (q : ℕ × ℕ) → q ≡ get_or r.queue.items i q → (tables : Tables) → tables ≡ r.checked.now.tables → (first : ℕ) → first ≡ p.first_ends → (own : ℕ) → own ≡ length r.free.items → (ends : List End) → ends ≡ r.ends.items
+  pub beside : (q : ℕ × ℕ) → q ≡ get_or r.queue.items i q → (tables : Tables) → tables ≡ r.checked.now.program.tables → (first : ℕ) → first ≡ p.first_ends → (own : ℕ) → own ≡ length r.free.items → (ends : List End) → ends ≡ r.ends.items
       → HasBeside tables (stepped.setting (over a r) sb.net i p sb.at) p (record { one = record { 0 = q.0 }; other = record { 0 = q.1 }; first_ends = first }) own r.tools.placed.cells r.arena ends
   beside q read tables same first is_first own is_own ends is_ends =
       let same_pair : sb.at.pair ≡ q = same_Some sb.at.pair q (sym sb.at.stands ∙ slice_get_read r.queue.items (length r.queue.items) i q refl low read) in (
@@ -96,7 +96,7 @@ module _ (r : Body) (a : ArenaView) (i : ℕ) (p : TemplateParts) (sb : StandsBe
       turned = stepped.in_turn (over a r) sb.net i p sb.at sb.room own is_all_own ns b es made did net all_cells long removed middle queue e f g
 
       abbrev pub seen : List End → MachineParts
-      seen ends = record { program = r.checked.now; agents = agents_in b; free = leading_to (own_free r) ends; queue = queue; vacant = vacant_in (at_rest b) }
+      seen ends = record { program = r.checked.now.program; agents = agents_in b; free = leading_to (own_free r) ends; queue = queue; vacant = vacant_in (at_rest b) }
 
       pub steps : (ends : List End) → ends ≡ es → StepsAt (reducer_view (over a r)) i (seen ends)
       steps ends is = subst (λ (z : List End). StepsAt (reducer_view (over a r)) i (seen z)) (sym is)

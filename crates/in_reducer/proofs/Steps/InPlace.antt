@@ -38,7 +38,7 @@ use Rattle.in_reducer.proofs.Steps.Stepped as stepped
 
 module _ (r : Body) (k : KeepsNet r) (i : ℕ) (p : TemplateParts) (at : IsTemplateAt (reducer_view r) i p) where
   abbrev t : Tables
-  t = r.checked.now.tables
+  t = r.checked.now.program.tables
 
   abbrev pub setting : PairSetting
   setting = stepped.setting r k i p at
@@ -163,7 +163,7 @@ module _ (r : Body) (k : KeepsNet r) (i : ℕ) (p : TemplateParts) (at : IsTempl
           final = stepped.in_turn r k i p at room own is_own ns a es made did net cells long old middle queue removed is_middle is_queue
 
           abbrev pub seen : List End → MachineParts
-          seen zs = record { program = r.checked.now; agents = agents_in a; free = leading_to (own_free r) zs; queue = queue; vacant = vacant_in (at_rest a) }
+          seen zs = record { program = r.checked.now.program; agents = agents_in a; free = leading_to (own_free r) zs; queue = queue; vacant = vacant_in (at_rest a) }
 
           pub steps : (zs : List End) → zs ≡ es → StepsAt (reducer_view r) i (seen zs)
           steps zs is = subst (λ (z : List End). StepsAt (reducer_view r) i (seen z)) (sym is)

@@ -72,7 +72,7 @@ of_its_class t a net all n s word c is =
 
 module _ (r : Body) (k : KeepsNet r) (i : ℕ) (p : TemplateParts) (at : IsTemplateAt (reducer_view r) i p) where
   abbrev t : Tables
-  t = r.checked.now.tables
+  t = r.checked.now.program.tables
 
   abbrev m : MachineParts
   m = reducer_view r
@@ -261,18 +261,18 @@ module _ (r : Body) (k : KeepsNet r) (i : ℕ) (p : TemplateParts) (at : IsTempl
       step = shown_is_step t (interaction_of (aside_of setting (parts_of s) f) ns) own c es (net_of (seen c (own_free r) es)) done shown
           (same_kinds fs es still_fits ∙ sym (same_kinds fs r.ends.items fits_ends) ∙ sym same.net.free)
 
-      sound : IsSound (system_of r.checked.now) (net_of (seen c (own_free r) es))
+      sound : IsSound (system_of r.checked.now.program) (net_of (seen c (own_free r) es))
       sound =
-          sound_steps (system_of r.checked.now) (net_of (parts_of s)) (redex_at at.rule (f a) (f b)) (named ns) (net_of (seen c (own_free r) es))
-          (is_sound k.reducer.accepted.0 r.checked.now k.reducer.accepted.1) s_reducer.net.sound act
+          sound_steps (system_of r.checked.now.program) (net_of (parts_of s)) (redex_at at.rule (f a) (f b)) (named ns) (net_of (seen c (own_free r) es))
+          (is_sound k.reducer.accepted.0 r.checked.now.program k.reducer.accepted.1) s_reducer.net.sound act
         where
-          act : IsInteraction (system_of r.checked.now) (net_of (parts_of s)) (redex_at at.rule (f a) (f b)) (named ns) (net_of (seen c (own_free r) es))
+          act : IsInteraction (system_of r.checked.now.program) (net_of (parts_of s)) (redex_at at.rule (f a) (f b)) (named ns) (net_of (seen c (own_free r) es))
           act = record {
             at = record {
               one = ap (option_map (λ (s : SymbolNo). s.0)) is_rule.one;
               two = ap (option_map (λ (s : SymbolNo). s.0)) is_rule.two;
               active = ap (option_map point_of) active.active;
-              rule = (at.number, to_mapped rule_in r.checked.now.rules at.number at.rule at.is_rule.stands);
+              rule = (at.number, to_mapped rule_in r.checked.now.program.rules at.number at.rule at.is_rule.stands);
             };
             step = step;
           }
@@ -291,7 +291,7 @@ module _ (r : Body) (k : KeepsNet r) (i : ℕ) (p : TemplateParts) (at : IsTempl
       are_made = record { over = qs; own = p.member.pairs; are_over = over; are_own = at.template.member.pairs; listed = refl }
 
       abbrev pub after : List (ℕ × ℕ) → MachineParts
-      after queue = record { program = r.checked.now; agents = agents_in c; free = leading_to (own_free r) es; queue = queue; vacant = vacant_in (at_rest c) }
+      after queue = record { program = r.checked.now.program; agents = agents_in c; free = leading_to (own_free r) es; queue = queue; vacant = vacant_in (at_rest c) }
 
       abbrev final : List (ℕ × ℕ)
       final = remove r.queue.items i ++ map numbers_of news
@@ -352,12 +352,12 @@ module _ (r : Body) (k : KeepsNet r) (i : ℕ) (p : TemplateParts) (at : IsTempl
 
         module _ (queue : List (ℕ × ℕ)) (is_queue : queue ≡ middle ++ map (both (named ns)) p.member.pairs) (zs : List End) (is : zs ≡ es) where
           abbrev pub reused : MachineParts
-          reused = record { program = r.checked.now; agents = agents_in c; free = leading_to (own_free r) zs; queue = queue; vacant = vacant_in (at_rest c) }
+          reused = record { program = r.checked.now.program; agents = agents_in c; free = leading_to (own_free r) zs; queue = queue; vacant = vacant_in (at_rest c) }
 
           is_reused : after final ≡ reused
           is_reused =
               ap after (sym (is_queue ∙ all_queued))
-              ∙ ap (λ (z : List End). let w : MachineParts = record { program = r.checked.now; agents = agents_in c; free = leading_to (own_free r) z; queue = queue; vacant = vacant_in (at_rest c) } in w) (sym is)
+              ∙ ap (λ (z : List End). let w : MachineParts = record { program = r.checked.now.program; agents = agents_in c; free = leading_to (own_free r) z; queue = queue; vacant = vacant_in (at_rest c) } in w) (sym is)
 
           pub up_to_numbers : StepsUpToNumbers m i reused
           up_to_numbers = subst (λ (z : MachineParts). StepsUpToNumbers m i z) is_reused (s, (f, same), is_step)

@@ -72,7 +72,7 @@ free_is a c = counted_by (free_of a) c
 
 module _ (r : Body) (k : KeepsNet r) (i : ℕ) (p : TemplateParts) (at : IsTemplateAt (reducer_view r) i p) where
   abbrev t : Tables
-  t = r.checked.now.tables
+  t = r.checked.now.program.tables
 
   abbrev one : AgentNo
   one = (agents_at at.pair).0
@@ -85,20 +85,20 @@ module _ (r : Body) (k : KeepsNet r) (i : ℕ) (p : TemplateParts) (at : IsTempl
 
   -- as many free ends as named
   pub own_many : length (own_free r) ≡ length r.free.items
-  own_many = length-map r.free.items (declared_as r.checked.now)
+  own_many = length-map r.free.items (declared_as r.checked.now.program)
 
   fits_ends : length (own_free r) ≤ length r.ends.items
   fits_ends = let e = k.ends in let m = own_many in omega (arith, e, m)
 
   pub few_agents : length p.member.agents ≤ max_member_agents
-  few_agents = members.few_agents t at.rule.member p.member at.template.member max_member_agents (rules.whole_rule k.reducer.accepted.0 r.checked.now k.reducer.accepted.1 at.number at.rule at.is_rule.stands).few
+  few_agents = members.few_agents t at.rule.member p.member at.template.member max_member_agents (rules.whole_rule k.reducer.accepted.0 r.checked.now.program k.reducer.accepted.1 at.number at.rule at.is_rule.stands).few
 
   pub few_joints : length p.member.joints ≤ most_ends
   few_joints =
       let many = members.joints_many t at.rule.member p.member at.template.member in
-      let ends = (rules.whole_rule k.reducer.accepted.0 r.checked.now k.reducer.accepted.1 at.number at.rule at.is_rule.stands).ends in
-      let a = few_ports k.reducer.accepted.0 r.checked.now k.reducer.accepted.1 at.rule.heads.0.0 in
-      let b = few_ports k.reducer.accepted.0 r.checked.now k.reducer.accepted.1 at.rule.heads.1.0 in
+      let ends = (rules.whole_rule k.reducer.accepted.0 r.checked.now.program k.reducer.accepted.1 at.number at.rule at.is_rule.stands).ends in
+      let a = few_ports k.reducer.accepted.0 r.checked.now.program k.reducer.accepted.1 at.rule.heads.0.0 in
+      let b = few_ports k.reducer.accepted.0 r.checked.now.program k.reducer.accepted.1 at.rule.heads.1.0 in
       omega (arith, many, ends, a, b)
 
   -- there is room for the sides of the boundary ends
@@ -108,7 +108,7 @@ module _ (r : Body) (k : KeepsNet r) (i : ℕ) (p : TemplateParts) (at : IsTempl
   -- a sound net is typed and without crossing circle
   calm : IsCalm (signature_of t) (net_of (parts_of (reducer_view r)))
   calm = record {
-    classes = (is_sound k.reducer.accepted.0 r.checked.now k.reducer.accepted.1).classes;
+    classes = (is_sound k.reducer.accepted.0 r.checked.now.program k.reducer.accepted.1).classes;
     net = k.reducer.net.sound.net;
     typed = k.reducer.net.sound.typed;
     no_circle = k.reducer.net.sound.no_circle;
@@ -183,21 +183,21 @@ module _ (r : Body) (k : KeepsNet r) (i : ℕ) (p : TemplateParts) (at : IsTempl
     step : IsStep (signature_of t) (net_of (parts_of (reducer_view r))) (redex_at at.rule one.0 two.0) (named ns) (net_of (seen a (own_free r) es))
     step = shown_is_step t (interaction_of setting ns) own a es (net_of (seen a (own_free r) es)) did.0 shown (same_kinds fs es still_fits ∙ sym (same_kinds fs r.ends.items fits_ends))
 
-    act : IsInteraction (system_of r.checked.now) (net_of (parts_of (reducer_view r))) (redex_at at.rule one.0 two.0) (named ns) (net_of (seen a (own_free r) es))
+    act : IsInteraction (system_of r.checked.now.program) (net_of (parts_of (reducer_view r))) (redex_at at.rule one.0 two.0) (named ns) (net_of (seen a (own_free r) es))
     act = record {
       at = record {
         one = ap (option_map (λ (s : SymbolNo). s.0)) at.is_rule.one;
         two = ap (option_map (λ (s : SymbolNo). s.0)) at.is_rule.two;
         active = ap (option_map point_of) at.active.active;
-        rule = (at.number, to_mapped rule_in r.checked.now.rules at.number at.rule at.is_rule.stands);
+        rule = (at.number, to_mapped rule_in r.checked.now.program.rules at.number at.rule at.is_rule.stands);
       };
       step = step;
     }
 
-    sound : IsSound (system_of r.checked.now) (net_of (seen a (own_free r) es))
+    sound : IsSound (system_of r.checked.now.program) (net_of (seen a (own_free r) es))
     sound =
-        sound_steps (system_of r.checked.now) (net_of (parts_of (reducer_view r))) (redex_at at.rule one.0 two.0) (named ns) (net_of (seen a (own_free r) es))
-        (is_sound k.reducer.accepted.0 r.checked.now k.reducer.accepted.1) k.reducer.net.sound act
+        sound_steps (system_of r.checked.now.program) (net_of (parts_of (reducer_view r))) (redex_at at.rule one.0 two.0) (named ns) (net_of (seen a (own_free r) es))
+        (is_sound k.reducer.accepted.0 r.checked.now.program k.reducer.accepted.1) k.reducer.net.sound act
 
     acts : InteractsAs t (parts_of (reducer_view r)) at.rule one two (named ns) (seen a (own_free r) es)
     acts = record {
@@ -213,7 +213,7 @@ module _ (r : Body) (k : KeepsNet r) (i : ℕ) (p : TemplateParts) (at : IsTempl
     are_made = record { over = did.1.0; own = p.member.pairs; are_over = did.1.2; are_own = at.template.member.pairs; listed = refl }
 
     abbrev pub after : List (ℕ × ℕ) → MachineParts
-    after queue = record { program = r.checked.now; agents = agents_in a; free = leading_to (own_free r) es; queue = queue; vacant = vacant_in (at_rest a) }
+    after queue = record { program = r.checked.now.program; agents = agents_in a; free = leading_to (own_free r) es; queue = queue; vacant = vacant_in (at_rest a) }
 
     abbrev pub final : List (ℕ × ℕ)
     final = remove r.queue.items i ++ map numbers_of news

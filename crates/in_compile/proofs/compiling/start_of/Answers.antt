@@ -10,13 +10,13 @@ use Rattle.in_compile.proofs.compiling.start_of.Goals as goal
 
 pub member_of-requires-clause-over : goal.member_of-requires-clause-over
 member_of-requires-clause-over c =
-    subst (λ (q : Tables × Parts). IsOver q.0 q.1) (λ i. (sym c.symbols.ensures i, sym c.net.ensures i)) (net_over c.is_accepted.ensures.0 c.args.checked.now c.is_accepted.ensures.1)
+    subst (λ (q : Tables × Parts). IsOver q.0 q.1) (λ i. (sym c.symbols.ensures i, sym c.net.ensures i)) (net_over c.is_accepted.ensures.accepted.0 c.args.checked.now.program c.is_accepted.ensures.accepted.1)
 
 pub member_of-requires-clause-there : goal.member_of-requires-clause-there
-member_of-requires-clause-there c = subst AreAllThere (sym c.net.ensures) (net_there c.is_accepted.ensures.0 c.args.checked.now c.is_accepted.ensures.1)
+member_of-requires-clause-there c = subst AreAllThere (sym c.net.ensures) (net_there c.is_accepted.ensures.accepted.0 c.args.checked.now.program c.is_accepted.ensures.accepted.1)
 
 pub member_of-requires-clause-few_symbols : goal.member_of-requires-clause-few_symbols
-member_of-requires-clause-few_symbols c = subst (λ (t : Tables). length t.names ≤ max_symbols) (sym c.symbols.ensures) (few_symbols c.is_accepted.ensures.0 c.args.checked.now c.is_accepted.ensures.1)
+member_of-requires-clause-few_symbols c = subst (λ (t : Tables). length t.names ≤ max_symbols) (sym c.symbols.ensures) (few_symbols c.is_accepted.ensures.accepted.0 c.args.checked.now.program c.is_accepted.ensures.accepted.1)
 
 pub member_of-requires-clause-few : goal.member_of-requires-clause-few
-member_of-requires-clause-few c = subst (λ (n : Parts). length n.cells ≤ max_agents) (sym c.net.ensures) (net_few c.is_accepted.ensures.0 c.args.checked.now c.is_accepted.ensures.1)
+member_of-requires-clause-few c = subst (λ (n : Parts). length n.cells ≤ max_agents) (sym c.net.ensures) (net_few c.is_accepted.ensures.accepted.0 c.args.checked.now.program c.is_accepted.ensures.accepted.1)

@@ -5,7 +5,7 @@ use Rattle.in_harness.proofs.gathers.is_pair.Goals as goal
 
 pub returns : goal.returns
 returns c = λ is.
-    let p = c.args.checked.now in
+    let p = c.args.checked.now.program in
     let same = ap (λ (t : Tables). length t.names) c.symbols-symbols.ensures in
     has_template p c.args.templates.now c.requires c.args.c.0 c.args.d.0 (record {
       first = (let e = c.symbols.ensures in omega (arith, e, same, c.if-c-symbols.false));

@@ -14,7 +14,7 @@ new-plan-requires g c =
     let next : SymbolNo × SymbolNo = (record { 0 = 1 }, record { 0 = 2 }) in
     let jobs : List (SymbolNo × SymbolNo) = next ∷ next ∷ next ∷ next ∷ next ∷ next ∷ [] in
     let some = c.requires.next in
-    is_plan c.is_accepted.ensures.0 c.args.program.now c.args.templates.now jobs c.is_accepted.ensures.1 c.requires.of
+    is_plan c.is_accepted.ensures.accepted.0 c.args.program.now.program c.args.templates.now jobs c.is_accepted.ensures.accepted.1 c.requires.of
     (λ k h at. all_at (λ (h : SymbolNo × SymbolNo). IsSome (template_at c.args.templates.now h.0.0 h.1.0)) jobs k h (some, (some, (some, (some, (some, (some, tt)))))) at)
 
 pub kept-found-requires : goal.kept-found-requires

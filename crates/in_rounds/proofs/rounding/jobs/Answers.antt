@@ -16,7 +16,7 @@ loop-number-init c =
       count = ap length c.in_ok-jobs.ensures.items;
       plan = record {
         rules = λ k h at. absurd (let e : None ≡ Some h = ap (λ zs. slice_get zs k) (sym c.in_ok-jobs.ensures.items) ∙ at in cc);
-        small = templates_are_small accepted.0 r.checked.now c.args.templates.now accepted.1 c.requires.templates;
+        small = templates_are_small accepted.0 r.checked.now.program c.args.templates.now accepted.1 c.requires.templates;
       };
     }
 

@@ -61,7 +61,7 @@ loop-job-preserved c =
     let b = c.stitch.new.self.arena in
     let now : c.take.new.self.slots ≡ set slots j Taken = ap (λ (g : GatherParts). g.slots) c.in-Some.ensures.1 in
     let settled = subst (λ (z : PlacedTemplateParts). AreSettled z.placed.bag a b) c.into_placed.ensures c.stitch.ensures.settled in
-    let same = ap (λ x. x.now) c.stitch.ensures.program in
+    let same = ap (λ x. x.now.program) c.stitch.ensures.program in
     record {
       all = c.stitch.ensures.all;
       templates = subst (λ (p : Program). AreTemplatesOf p c.args.templates.now) (sym same) c.loop-job.invariant.templates;

@@ -10,7 +10,7 @@ use Rattle.in_rounds.proofs.stitching.stitch_all.Given as goal
 abbrev pub invariant-loop-job : goal.invariant-loop-job
 invariant-loop-job l = record {
   all : KeepsAll l.body;
-  templates : AreTemplatesOf l.body.checked.now l.templates;
+  templates : AreTemplatesOf l.body.checked.now.program l.templates;
   made : AreMadeWith l.templates l.gather.slots;
   lent : HaveAllLeased (bags_of l.gather.slots) l.body.arena;
   runs : Runs (reducer_view l.fn.body) l.job (reducer_view l.body);

@@ -1,6 +1,6 @@
-use Rattle.std.proofs.Common.{◌≡◌, reverse, length}
+use Rattle.std.proofs.Common.{reverse, length}
 use Rattle.in_open_nets.specs.Constructions.{count}
-use Rattle.in_simple_deriving.specs.Procedure.{HasRoomForNodes, IsWork, pending_in}
+use Rattle.in_simple_deriving.specs.Procedure.{IsWork, pending_in}
 use Rattle.in_simple_deriving.specs.Stacks.{IsUnderWay}
 use Rattle.in_simple_deriving.proofs.procedure.finish.Given as goal
 
@@ -8,8 +8,6 @@ abbrev pub invariant-loop-part : goal.invariant-loop-part
 invariant-loop-part l = record {
   work : IsWork l.wired (reverse l.work.tasks);
   steps : IsUnderWay l.wired (reverse l.work.tasks) l.work.steps l.work.roots;
-  cycles : l.trials.cycles ≡ l.wired;
-  room : HasRoomForNodes l.wired l.lent;
 }
 
 abbrev pub decreases-loop-part : goal.decreases-loop-part

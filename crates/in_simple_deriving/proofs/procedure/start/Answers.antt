@@ -1,5 +1,6 @@
-use Rattle.std.proofs.Common.{◌++◌, ◌∷◌, [], ◌∙◌, ap, sym, subst, arith}
+use Rattle.std.proofs.Common.{◌++◌, ◌∷◌, ◌<◌, [], ◌∙◌, length, ap, sym, subst, arith}
 use Rattle.in_simple_deriving.specs.declared.plans.Task.TheVariants.{Derive}
+use Rattle.in_open_nets.specs.OpenNets.{OpenNet}
 use Rattle.in_simple_deriving.specs.Stacks.{IsUnderWay}
 use Rattle.in_open_nets.proofs.Public.{if_ok_both}
 use Rattle.in_simple_deriving.proofs.Finishing.{under_all, under_none}
@@ -9,11 +10,12 @@ pub returns-in_ok-append-clause-steps : goal.returns-in_ok-append-clause-steps
 returns-in_ok-append-clause-steps c =
     let o = c.args.open.now in
     let links = c.in_ok-loose.field-0 in
-    let nodes = c.in_ok-all.field-0 in
-    let e = c.in_ok-append.ensures ∙ ap (λ z. z ++ links) (c.in_ok-push.ensures.ok ∙ ap (λ z. z ++ Derive nodes ∷ []) c.new-tasks.ensures) in
+    let part = c.whole.result in
+    let e = c.in_ok-append.ensures ∙ ap (λ z. z ++ links) (c.in_ok-push.ensures.ok ∙ ap (λ z. z ++ Derive part ∷ []) c.new-tasks.ensures) in
     let count = c.nodes-count.ensures in
+    let size = c.whole.ensures.size ∙ ap (λ (z : OpenNet). length z.nodes) c.requires in
     subst (λ z. IsUnderWay o z [] []) (sym e)
-    (under_all o nodes links (c.in_ok-all.ensures.size ∙ count) (let some = c.if-count-gt0.true in omega arith) (λ n l. c.in_ok-all.ensures.all n (omega arith)) c.in_ok-loose.ensures.steps c.in_ok-loose.ensures.order)
+    (under_all o part links size (let some = c.if-count-gt0.true in omega arith) (λ n l. c.whole.ensures.all n (subst (λ (z : OpenNet). n < length z.nodes) (sym c.requires) l)) c.in_ok-loose.ensures.steps c.in_ok-loose.ensures.order)
 
 pub returns-else-count-gt0-clause-steps : goal.returns-else-count-gt0-clause-steps
 returns-else-count-gt0-clause-steps c =

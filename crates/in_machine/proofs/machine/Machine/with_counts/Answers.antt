@@ -9,10 +9,10 @@ use Rattle.in_machine.proofs.SameStart.{start_machine}
 use Rattle.in_machine.proofs.machine.Machine.with_counts.Goals as goal
 
 pub need_of_net-need-requires-clause-over : goal.need_of_net-need-requires-clause-over
-need_of_net-need-requires-clause-over c = net_over_at c.is_accepted.ensures.0 c.args.checked.now c.is_accepted.ensures.1 _ _ c.symbols.ensures c.net.ensures
+need_of_net-need-requires-clause-over c = net_over_at c.is_accepted.ensures.accepted.0 c.args.checked.now.program c.is_accepted.ensures.accepted.1 _ _ c.symbols.ensures c.net.ensures
 
 pub need_of_net-need-requires-clause-there : goal.need_of_net-need-requires-clause-there
-need_of_net-need-requires-clause-there c = net_there_at c.is_accepted.ensures.0 c.args.checked.now c.is_accepted.ensures.1 _ c.net.ensures
+need_of_net-need-requires-clause-there c = net_there_at c.is_accepted.ensures.accepted.0 c.args.checked.now.program c.is_accepted.ensures.accepted.1 _ c.net.ensures
 
 pub new-requires-clause-fits : goal.new-requires-clause-fits
 new-requires-clause-fits c class =
@@ -20,12 +20,12 @@ new-requires-clause-fits c class =
     let each = c.of_counts.ensures class in
     let need = c.need_of_net-need.ensures class in
     let tables = ap (λ (t : Tables). agents_of t class c.net.result.now.cells) c.symbols.ensures in
-    let cells = ap (λ (n : Parts). agents_of c.args.checked.now.tables class n.cells) c.net.ensures in
+    let cells = ap (λ (n : Parts). agents_of c.args.checked.now.program.tables class n.cells) c.net.ensures in
     omega (arith, enough, each, need, tables, cells)
 
 pub invariant_of-result : goal.invariant_of-result
 invariant_of-result c =
     let start = c.in_ok-reducer.ensures {u = tt} in (
-      start_machine c.is_accepted.ensures.0 c.args.checked.now c.is_accepted.ensures.1 c.args.cells c.in_ok-reducer.reducer start c.requires,
+      start_machine c.is_accepted.ensures.accepted.0 c.args.checked.now.program c.is_accepted.ensures.accepted.1 c.args.cells c.in_ok-reducer.reducer start c.requires,
       subst (λ (p : Program). AreTemplatesOf p c.in_ok-templates.templates) (sym start.program) (c.in_ok-templates.ensures {u = tt}),
     )

@@ -9,13 +9,13 @@ pub symbol-requires : goal.symbol-requires
 symbol-requires c =
     let r = c.args.self.now in
     let q = c.at-one.result in
-    (have_symbols r.checked.now.tables (parts_of (reducer_view r)) q (c.requires.net.reducer.queue.pairs c.args.number q (slice_get_read r.queue.items (length r.queue.items) c.args.number q refl c.requires.pair c.at-one.ensures))).0
+    (have_symbols r.checked.now.program.tables (parts_of (reducer_view r)) q (c.requires.net.reducer.queue.pairs c.args.number q (slice_get_read r.queue.items (length r.queue.items) c.args.number q refl c.requires.pair c.at-one.ensures))).0
 
 pub symbol-requires-2 : goal.symbol-requires-2
 symbol-requires-2 c =
     let r = c.args.self.now in
     let q = c.at-one.result in
-    (have_symbols r.checked.now.tables (parts_of (reducer_view r)) q (c.requires.net.reducer.queue.pairs c.args.number q (slice_get_read r.queue.items (length r.queue.items) c.args.number q refl c.requires.pair c.at-one.ensures))).1
+    (have_symbols r.checked.now.program.tables (parts_of (reducer_view r)) q (c.requires.net.reducer.queue.pairs c.args.number q (slice_get_read r.queue.items (length r.queue.items) c.args.number q refl c.requires.pair c.at-one.ensures))).1
 
 pub returns : goal.returns
 returns c = record {

@@ -15,19 +15,19 @@ pub overflow_add-agents : goal.overflow_add-agents
 overflow_add-agents c =
     let r = c.self.inside.body in
     let few = class_few r.arena.cells c.self.invariant.all.net.few Small in
-    let net = net_rests r.checked.now.tables r.arena c.self.invariant.none c.self.invariant.all.net.net in
-    let room = no_more r.checked.now.tables r.arena net c.loop-class.class-index c.loop-class.agents c.of.result c.free_count.result c.loop-class-test.true c.loop-class.invariant (c.of.ensures ∙ ap (λ (z : CellCounts). amount z (get_or classes c.loop-class.class-index Small)) c.cells.ensures.0) c.free_count.ensures in
+    let net = net_rests r.checked.now.program.tables r.arena c.self.invariant.none c.self.invariant.all.net.net in
+    let room = no_more r.checked.now.program.tables r.arena net c.loop-class.class-index c.loop-class.agents c.of.result c.free_count.result c.loop-class-test.true c.loop-class.invariant (c.of.ensures ∙ ap (λ (z : CellCounts). amount z (get_or classes c.loop-class.class-index Small)) c.cells.ensures.0) c.free_count.ensures in
     omega (arith, few.1, room)
 
 pub loop-class-preserved : goal.loop-class-preserved
 loop-class-preserved c =
     let r = c.self.inside.body in
-    let net = net_rests r.checked.now.tables r.arena c.self.invariant.none c.self.invariant.all.net.net in
-    one_more_class r.checked.now.tables r.arena net c.loop-class.class-index c.loop-class.agents c.of.result c.free_count.result c.loop-class-test.true c.loop-class.invariant (c.of.ensures ∙ ap (λ (z : CellCounts). amount z (get_or classes c.loop-class.class-index Small)) c.cells.ensures.0) c.free_count.ensures
+    let net = net_rests r.checked.now.program.tables r.arena c.self.invariant.none c.self.invariant.all.net.net in
+    one_more_class r.checked.now.program.tables r.arena net c.loop-class.class-index c.loop-class.agents c.of.result c.free_count.result c.loop-class-test.true c.loop-class.invariant (c.of.ensures ∙ ap (λ (z : CellCounts). amount z (get_or classes c.loop-class.class-index Small)) c.cells.ensures.0) c.free_count.ensures
 
 pub returns : goal.returns
 returns c =
-    let p = c.self.inside.body.checked.now in
+    let p = c.self.inside.body.checked.now.program in
     let a = c.self.inside.body.arena in
     let accepted = c.self.invariant.all.net.reducer.accepted in
     let net = net_rests p.tables a c.self.invariant.none c.self.invariant.all.net.net in

@@ -22,7 +22,7 @@ cut-requires-clause-shown c =
     let k = c.self.invariant.all.net in
     let can = subst (λ (m : MachineParts). CanCut m c.args.cell.0 c.args.place) (sym c.self.view_is) c.requires.can in
     let own : c.len-own.result ≡ length r.free.items = (let e = c.len-own.ensures in let ok = r.free.ok.0 in omega (arith, e, ok)) in
-    (signature_of r.checked.now.tables, net_in (reducer_view r), cut_off.shows r k c.args.cell.0 c.args.place can c.len-own.result own c.as_mut_slice.result.now (c.as_mut_slice.ensures.value ∙ c.make_room.ensures.ends))
+    (signature_of r.checked.now.program.tables, net_in (reducer_view r), cut_off.shows r k c.args.cell.0 c.args.place can c.len-own.result own c.as_mut_slice.result.now (c.as_mut_slice.ensures.value ∙ c.make_room.ensures.ends))
 
 pub cut-requires-clause-there : goal.cut-requires-clause-there
 cut-requires-clause-there c =
@@ -50,7 +50,7 @@ returns-clause-cut c =
     let list = c.push_reserved-4.ensures.items ∙ ap (λ (z : List End). z ++ c.free-2.result ∷ []) (c.push_reserved-3.ensures.items ∙ ap (λ (z : List End). z ++ c.free.result ∷ []) items) in
     cuts_there _ _ _ c.args.cell.0 c.args.place c.self.view_is
     (cut_off.cuts r k c.args.cell.0 c.args.place can c.cut.new.arena es c.len-own.result c.as_mut_slice.result.now c.symbol.result kind c.push_reserved-2.new.self.items c.free.result c.free-2.result c.push_reserved-4.new.self.items
-    (record { kept = c.cut.ensures.kept; long = long; is_own = own; is_ends = value; cut = c.cut.ensures.cut (signature_of r.checked.now.tables); is_symbol = c.symbol.ensures; is_kind = is_kind; is_new = new; is_list = list })
+    (record { kept = c.cut.ensures.kept; long = long; is_own = own; is_ends = value; cut = c.cut.ensures.cut (signature_of r.checked.now.program.tables); is_symbol = c.symbol.ensures; is_kind = is_kind; is_new = new; is_list = list })
     c.self.invariant.none)
 
 pub invariant_of-self-2 : goal.invariant_of-self-2
@@ -75,7 +75,7 @@ invariant_of-self-2 c =
     let new = second ∙ ap (λ (z : PortType). (r.free.items ++ Cut kind ∷ []) ++ Cut z ∷ []) c.opposite_of.ensures in
     let list = c.push_reserved-4.ensures.items ∙ ap (λ (z : List End). z ++ c.free-2.result ∷ []) (c.push_reserved-3.ensures.items ∙ ap (λ (z : List End). z ++ c.free.result ∷ []) items) in
     let given : cut_off.IsCutOff r c.args.cell.0 c.args.place b es c.len-own.result c.as_mut_slice.result.now c.symbol.result kind c.push_reserved-2.new.self.items c.free.result c.free-2.result c.push_reserved-4.new.self.items =
-    record { kept = kept; long = long; is_own = own; is_ends = value; cut = c.cut.ensures.cut (signature_of r.checked.now.tables); is_symbol = c.symbol.ensures; is_kind = is_kind; is_new = new; is_list = list } in
+    record { kept = kept; long = long; is_own = own; is_ends = value; cut = c.cut.ensures.cut (signature_of r.checked.now.program.tables); is_symbol = c.symbol.ensures; is_kind = is_kind; is_new = new; is_list = list } in
     let alike = still.kept_alike r.arena b kept in
     let few : length r.free.items + 2 ≤ most_free = (let m = cut_off.free_many r k in let v = ap (λ (m : MachineParts). length m.free) c.self.view_is in let f = c.requires.few in omega (arith, m, v, f)) in
     record {
@@ -85,7 +85,7 @@ invariant_of-self-2 c =
           net = cut_off.still_net r k c.args.cell.0 c.args.place can b es c.len-own.result c.as_mut_slice.result.now c.symbol.result kind c.push_reserved-2.new.self.items c.free.result c.free-2.result c.push_reserved-4.new.self.items given;
           few = subst AreAllowed (sym kept.cells) k.few;
           few_free = (let n = cut_off.two_longer r.free.items (Cut kind) (Cut c.opposite_of.result) c.push_reserved-2.new.self.items second in omega (arith, few, n));
-          free = cut_off.own_ends r.checked.now r.free.items kind _ c.push_reserved-2.new.self.items new k.free;
+          free = cut_off.own_ends r.checked.now.program r.free.items kind _ c.push_reserved-2.new.self.items new k.free;
           ends = (
               let f = k.ends in
               let n = cut_off.two_longer r.free.items (Cut kind) (Cut c.opposite_of.result) c.push_reserved-2.new.self.items second in

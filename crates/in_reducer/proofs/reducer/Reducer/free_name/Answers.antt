@@ -18,7 +18,7 @@ index-requires c =
     let r = c.self.inside.body in
     let es = r.ends.items in
     let room = c.self.invariant.all.net.ends in
-    let many = length-map r.free.items (declared_as r.checked.now) in
+    let many = length-map r.free.items (declared_as r.checked.now.program) in
     let same = same_many (own_free r) es (omega (arith, room, many)) in
     let low = subst (λ (m : MachineParts). c.args.number < length m.free) (sym c.self.view_is) c.requires in
     omega (arith, many, same, low, r.free.ok.0)
@@ -28,17 +28,17 @@ free_name-requires c =
     let r = c.self.inside.body in
     let es = r.ends.items in
     let room = c.self.invariant.all.net.ends in
-    let many = length-map r.free.items (declared_as r.checked.now) in
+    let many = length-map r.free.items (declared_as r.checked.now.program) in
     let same = same_many (own_free r) es (omega (arith, room, many)) in
     let low = subst (λ (m : MachineParts). c.args.number < length m.free) (sym c.self.view_is) c.requires in
     let at = slice_get_read r.free.items (length r.free.items) c.args.number c.index.result.now refl (omega (arith, many, same, low)) c.index.ensures in
     let own = c.self.invariant.all.net.free c.args.number c.index.result.now at in
-    subst (λ (n : Parts). c.in-Named.of_program < length n.free) (sym c.net.ensures) (subst (IsOwnEnd r.checked.now) c.in-Named.is own)
+    subst (λ (n : Parts). c.in-Named.of_program < length n.free) (sym c.net.ensures) (subst (IsOwnEnd r.checked.now.program) c.in-Named.is own)
 
 pub returns-in-Named : goal.returns-in-Named
 returns-in-Named c =
     let r = c.self.inside.body in
-    let p = r.checked.now in
+    let p = r.checked.now.program in
     let es = r.ends.items in
     let k = c.args.number in
     let j = c.in-Named.of_program in
@@ -56,7 +56,7 @@ returns-in-Named c =
 pub returns-in-Cut : goal.returns-in-Cut
 returns-in-Cut c =
     let r = c.self.inside.body in
-    let p = r.checked.now in
+    let p = r.checked.now.program in
     let es = r.ends.items in
     let k = c.args.number in
     let room = c.self.invariant.all.net.ends in

@@ -303,7 +303,7 @@ invariant_of-self c =
           few = subst AreAllowed (sym (copied.cells ∙ anew.cells)) k.few;
           few_free = glue.few_free r o k l apart.can own cuts apart.rest apart.part agents live rest_numbers each_rest part_numbers each_part a anew ns b copied new is_new sides list is_list queue is_queue
               (let e = c.requires.ends in let f = x.few_free in let w = c.free_ends.ensures in let p = c.free_ends-count.ensures in let g = c.requires.fewer in omega (arith, e, f, w, p, g));
-          free = glue.glued_own_ends r.checked.now o.checked.now own cuts r.free.items o.free.items new apart.can.program is_new apart.rest apart.part k.free l.free;
+          free = glue.glued_own_ends r.checked.now.program o.checked.now.program own cuts r.free.items o.free.items new apart.can.program is_new apart.rest apart.part k.free l.free;
           ends = glue.enough_ends r o k l apart.can own cuts apart.rest apart.part agents live rest_numbers each_rest part_numbers each_part a anew ns b copied new is_new sides list is_list queue is_queue c.add_sides.ensures.items.1;
           queue = (let f = k.queue in let e = ap all_of copied.cells in let h = ap all_of anew.cells in let g = c.add_pairs.ensures.room in omega (arith, e, f, g, h));
         };

@@ -34,7 +34,7 @@ join_last-requires-clause-shown c =
     let two : 2 ≤ length r.free.items = (let many = free_many r k in let view = ap (λ (m : MachineParts). length m.free) c.self.view_is in let least = c.requires.two in omega (arith, many, view, least)) in
     let own = c.len-own.result - 2 in
     let is_own : c.len-own.result - 2 + 2 ≡ length r.free.items = (let e = c.len-own.ensures in let ok = r.free.ok.0 in omega (arith, e, ok, two)) in
-    (signature_of r.checked.now.tables, net_in (reducer_view r), rejoined.shows r k two own is_own c.as_mut_slice.result.now c.as_mut_slice.ensures.value)
+    (signature_of r.checked.now.program.tables, net_in (reducer_view r), rejoined.shows r k two own is_own c.as_mut_slice.result.now c.as_mut_slice.ensures.value)
 
 pub join_last-requires-clause-symbols : goal.join_last-requires-clause-symbols
 join_last-requires-clause-symbols c =
@@ -60,13 +60,13 @@ queue_made-requires c =
     let es = (with_items r.ends ends).items in
     let long = ap length items ∙ longer in
     let shows = rejoined.shows r k two own is_own c.as_mut_slice.result.now c.as_mut_slice.ensures.value in
-    let joins : (n : Net ℕ) → IsShown b (take own es) n → JoinsEnds (net_in (reducer_view r)) own (suc own) n = λ n h. c.join_last.ensures.joined (signature_of r.checked.now.tables) (net_in (reducer_view r)) n shows (subst (λ (z : List End). IsShown b (take own z) n) items h) in
+    let joins : (n : Net ℕ) → IsShown b (take own es) n → JoinsEnds (net_in (reducer_view r)) own (suc own) n = λ n h. c.join_last.ensures.joined (signature_of r.checked.now.program.tables) (net_in (reducer_view r)) n shows (subst (λ (z : List End). IsShown b (take own z) n) items h) in
     let one = rejoined.first_end r k two own is_own in
     let other = rejoined.last_end r k two own is_own in
     let value = c.as_mut_slice.ensures.value in
     let made = c.join_last.new.made.items in
-    let adds : AddsPair r.checked.now.tables b one.0 other.0 [] made =
-    subst (λ (z : List (ℕ × ℕ)). AddsPair r.checked.now.tables b one.0 other.0 z made) c.self.invariant.all.tools.made (subst (λ (t : Tables). AddsPair t b one.0 other.0 r.tools.made.items made) c.symbols.ensures
+    let adds : AddsPair r.checked.now.program.tables b one.0 other.0 [] made =
+    subst (λ (z : List (ℕ × ℕ)). AddsPair r.checked.now.program.tables b one.0 other.0 z made) c.self.invariant.all.tools.made (subst (λ (t : Tables). AddsPair t b one.0 other.0 r.tools.made.items made) c.symbols.ensures
     (c.join_last.ensures.made one.0 other.0 (ap (λ (z : List End). slice_get z own) value ∙ one.1) (ap (λ (z : List End). slice_get z (suc own)) value ∙ other.1))) in
     let taken : take own r.free.items ≡ take own r.free.items = refl in
     let queue = rejoined.is_queue r k two own is_own b es c.join_last.ensures.kept long joins can (take own r.free.items) taken one.0 other.0 one.1 other.1 made adds in
@@ -93,13 +93,13 @@ returns c =
     let es = (with_items r.ends ends).items in
     let long = ap length items ∙ longer in
     let shows = rejoined.shows r k two own is_own c.as_mut_slice.result.now c.as_mut_slice.ensures.value in
-    let joins : (n : Net ℕ) → IsShown b (take own es) n → JoinsEnds (net_in (reducer_view r)) own (suc own) n = λ n h. c.join_last.ensures.joined (signature_of r.checked.now.tables) (net_in (reducer_view r)) n shows (subst (λ (z : List End). IsShown b (take own z) n) items h) in
+    let joins : (n : Net ℕ) → IsShown b (take own es) n → JoinsEnds (net_in (reducer_view r)) own (suc own) n = λ n h. c.join_last.ensures.joined (signature_of r.checked.now.program.tables) (net_in (reducer_view r)) n shows (subst (λ (z : List End). IsShown b (take own z) n) items h) in
     let one = rejoined.first_end r k two own is_own in
     let other = rejoined.last_end r k two own is_own in
     let value = c.as_mut_slice.ensures.value in
     let made = c.join_last.new.made.items in
-    let adds : AddsPair r.checked.now.tables b one.0 other.0 [] made =
-    subst (λ (z : List (ℕ × ℕ)). AddsPair r.checked.now.tables b one.0 other.0 z made) c.self.invariant.all.tools.made (subst (λ (t : Tables). AddsPair t b one.0 other.0 r.tools.made.items made) c.symbols.ensures
+    let adds : AddsPair r.checked.now.program.tables b one.0 other.0 [] made =
+    subst (λ (z : List (ℕ × ℕ)). AddsPair r.checked.now.program.tables b one.0 other.0 z made) c.self.invariant.all.tools.made (subst (λ (t : Tables). AddsPair t b one.0 other.0 r.tools.made.items made) c.symbols.ensures
     (c.join_last.ensures.made one.0 other.0 (ap (λ (z : List End). slice_get z own) value ∙ one.1) (ap (λ (z : List End). slice_get z (suc own)) value ∙ other.1))) in
     let taken : take own r.free.items ≡ take own r.free.items = refl in
     joins_there _ _ _ c.self.view_is
@@ -120,13 +120,13 @@ invariant_of-self c =
     let es = (with_items r.ends ends).items in
     let long = ap length items ∙ longer in
     let shows = rejoined.shows r k two own is_own c.as_mut_slice.result.now c.as_mut_slice.ensures.value in
-    let joins : (n : Net ℕ) → IsShown b (take own es) n → JoinsEnds (net_in (reducer_view r)) own (suc own) n = λ n h. c.join_last.ensures.joined (signature_of r.checked.now.tables) (net_in (reducer_view r)) n shows (subst (λ (z : List End). IsShown b (take own z) n) items h) in
+    let joins : (n : Net ℕ) → IsShown b (take own es) n → JoinsEnds (net_in (reducer_view r)) own (suc own) n = λ n h. c.join_last.ensures.joined (signature_of r.checked.now.program.tables) (net_in (reducer_view r)) n shows (subst (λ (z : List End). IsShown b (take own z) n) items h) in
     let one = rejoined.first_end r k two own is_own in
     let other = rejoined.last_end r k two own is_own in
     let value = c.as_mut_slice.ensures.value in
     let made = c.join_last.new.made.items in
-    let adds : AddsPair r.checked.now.tables b one.0 other.0 [] made =
-    subst (λ (z : List (ℕ × ℕ)). AddsPair r.checked.now.tables b one.0 other.0 z made) c.self.invariant.all.tools.made (subst (λ (t : Tables). AddsPair t b one.0 other.0 r.tools.made.items made) c.symbols.ensures
+    let adds : AddsPair r.checked.now.program.tables b one.0 other.0 [] made =
+    subst (λ (z : List (ℕ × ℕ)). AddsPair r.checked.now.program.tables b one.0 other.0 z made) c.self.invariant.all.tools.made (subst (λ (t : Tables). AddsPair t b one.0 other.0 r.tools.made.items made) c.symbols.ensures
     (c.join_last.ensures.made one.0 other.0 (ap (λ (z : List End). slice_get z own) value ∙ one.1) (ap (λ (z : List End). slice_get z (suc own)) value ∙ other.1))) in
     let taken : take own r.free.items ≡ take own r.free.items = refl in
     let new = c.truncate.new.self.items in
@@ -139,7 +139,7 @@ invariant_of-self c =
     record {
       all = record {
         net = record {
-          reducer = rejoined.is_reducer r k two own is_own b es kept long joins can new is_new c.queue_made.new.queue.items (subst (IsQueueOf r.checked.now.tables _) (sym c.queue_made.ensures.items) queue);
+          reducer = rejoined.is_reducer r k two own is_own b es kept long joins can new is_new c.queue_made.new.queue.items (subst (IsQueueOf r.checked.now.program.tables _) (sym c.queue_made.ensures.items) queue);
           net = rejoined.still_net r k two own is_own b es kept long joins can new is_new;
           few = subst AreAllowed (sym kept.cells) k.few;
           few_free = (let f = k.few_free in omega (arith, f, fewer, is_own));

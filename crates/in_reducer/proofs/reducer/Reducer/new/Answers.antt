@@ -11,8 +11,8 @@ use Rattle.in_reducer.proofs.reducer.Reducer.new.Goals as goal
 
 pub lay-requires : goal.lay-requires
 lay-requires c =
-    let p = c.args.checked.now in
-    let h = c.is_accepted.ensures in
+    let p = c.args.checked.now.program in
+    let h = c.is_accepted.ensures.accepted in
     let m = c.start.result.now in
     let of = member_is p c.args.templates.now m c.requires.templates c.start.ensures in
     let a = c.in_ok-fresh.fresh.arena in
@@ -33,8 +33,8 @@ drop-fresh-requires c =
 
 pub invariant_of-result : goal.invariant_of-result
 invariant_of-result c =
-    let h = c.is_accepted.ensures in
-    let p = c.args.checked.now in
+    let h = c.is_accepted.ensures.accepted in
+    let p = c.args.checked.now.program in
     let f = c.lay.new.fresh in
     let fresh = c.in_ok-fresh.ensures in
     let laid = c.in_ok-ends.ensures.laid in
@@ -58,8 +58,8 @@ invariant_of-result c =
 
 pub returns : goal.returns
 returns c =
-    let h = c.is_accepted.ensures in
-    let p = c.args.checked.now in
+    let h = c.is_accepted.ensures.accepted in
+    let p = c.args.checked.now.program in
     let f = c.lay.new.fresh in
     let fresh = c.in_ok-fresh.ensures in
     let laid = c.in_ok-ends.ensures.laid in

@@ -12,4 +12,4 @@ returns-clause-agents c =
     let q = c.at-one.result in
     let low = subst (λ (m : MachineParts). k < length m.queue) (sym c.self.view_is) c.requires in
     subst (λ (m : MachineParts). IsSome (symbol_in (parts_of m) q.0) × IsSome (symbol_in (parts_of m) q.1)) c.self.view_is
-    (have_symbols c.self.inside.body.checked.now.tables (parts_of (reducer_view c.self.inside.body)) q (c.self.invariant.all.net.reducer.queue.pairs k q (slice_get_read c.self.inside.body.queue.items (length c.self.inside.body.queue.items) k q refl low c.at-one.ensures)))
+    (have_symbols c.self.inside.body.checked.now.program.tables (parts_of (reducer_view c.self.inside.body)) q (c.self.invariant.all.net.reducer.queue.pairs k q (slice_get_read c.self.inside.body.queue.items (length c.self.inside.body.queue.items) k q refl low c.at-one.ensures)))

@@ -62,7 +62,7 @@ copy-requires-clause-room c =
     let can = subst (λ (m : MachineParts). CanSplit m c.args.agents.now c.args.own c.args.cuts) (sym c.self.view_is) c.requires.can in
     let a = c.in_ok-room.room.fresh.arena in
     let fresh = c.in_ok-room.ensures.fresh in
-    before.cells_for r c.self.invariant.all.net c.args.agents.now c.args.own c.args.cuts can a c.args.cells (λ d. all_free a (each c.args.cells) fresh.cells fresh.empty r.checked.now.tables d ∙ each_amount c.args.cells d) c.requires.fits
+    before.cells_for r c.self.invariant.all.net c.args.agents.now c.args.own c.args.cuts can a c.args.cells (λ d. all_free a (each c.args.cells) fresh.cells fresh.empty r.checked.now.program.tables d ∙ each_amount c.args.cells d) c.requires.fits
 
 pub copy-requires-clause-names : goal.copy-requires-clause-names
 copy-requires-clause-names c = λ j n at. (
@@ -246,7 +246,7 @@ invariant_of-self c =
           net = cells.rest_net r k a own cuts can (number_in x.rest_numbers) x.left h.lost;
           few = subst AreAllowed (sym h.lost.cells) k.few;
           few_free = kept.rest_few r k a own cuts can x h;
-          free = kept.picked_own r.checked.now (place_of_two own 0) (own + cuts) r.free.items x.rest_free h.rest_free k.free;
+          free = kept.picked_own r.checked.now.program (place_of_two own 0) (own + cuts) r.free.items x.rest_free h.rest_free k.free;
           ends = nets.rest_room r k a own cuts can x h;
           queue = (let e = ap all_of h.lost.cells in let l = k.queue in let g = c.split_queue.ensures.rest_room in omega (arith, e, l, g));
         };
@@ -292,7 +292,7 @@ invariant_of-result c =
           net = cells.part_net r k a own cuts can x.numbers x.names x.size x.first x.new h.same h.empty h.copied;
           few = subst AreAllowed (sym (h.copied.cells ∙ h.same)) (kept.each_allowed c.args.cells c.requires.cells);
           few_free = kept.part_few r k a own cuts can x h;
-          free = kept.picked_own r.checked.now (place_of_two own 1) cuts r.free.items x.part_free h.part_free k.free;
+          free = kept.picked_own r.checked.now.program (place_of_two own 1) cuts r.free.items x.part_free h.part_free k.free;
           ends = nets.part_room r k a own cuts can x h;
           queue = (let e = ap all_of h.copied.cells in let same = ap all_of h.same in let l = fresh.queue_room in let g = c.split_queue.ensures.part_room in omega (arith, e, same, l, g));
         };

@@ -33,9 +33,9 @@ wire_anew-requires-clause-ready g c =
     let ends = c.as_mut_slice.result.now in
     let own = place.own_ends r k i p at in
     let pair = place.pair_read r k i p at (c.args.agents.0.0, c.args.agents.1.0) read c.first_ends.result c.first_ends.ensures ends c.as_mut_slice.ensures.value in
-    let about = place.about_in r k i p at (c.args.agents.0.0, c.args.agents.1.0) read c.first_ends.result c.first_ends.ensures ends c.as_mut_slice.ensures.value r.checked.now.tables refl in (
-      r.checked.now.tables,
-      reuse.can_wire_anew r k i p at room c.self.invariant.none c.cells.ensures.1 pair own ends r.checked.now.tables refl about c.requires.unmarked c.as_mut_slice-2.result.now
+    let about = place.about_in r k i p at (c.args.agents.0.0, c.args.agents.1.0) read c.first_ends.result c.first_ends.ensures ends c.as_mut_slice.ensures.value r.checked.now.program.tables refl in (
+      r.checked.now.program.tables,
+      reuse.can_wire_anew r k i p at room c.self.invariant.none c.cells.ensures.1 pair own ends r.checked.now.program.tables refl about c.requires.unmarked c.as_mut_slice-2.result.now
           (let l = c.self.invariant.all.tools.points in let v = ap length c.as_mut_slice-2.ensures.value in omega (arith, l, v)),
     )
 
@@ -64,9 +64,9 @@ queue_begun-requires-clause-there g c =
     let middle = c.wire_anew.new.queue.items in
     let own = place.own_ends r k i p at in
     let pair = place.pair_read r k i p at (c.args.agents.0.0, c.args.agents.1.0) read c.first_ends.result c.first_ends.ensures ends c.as_mut_slice.ensures.value in
-    let about = place.about_in r k i p at (c.args.agents.0.0, c.args.agents.1.0) read c.first_ends.result c.first_ends.ensures ends c.as_mut_slice.ensures.value r.checked.now.tables refl in
-    let up = c.wire_anew.ensures.wired r.checked.now.tables
-    (reuse.can_wire_anew r k i p at room none c.cells.ensures.1 pair own ends r.checked.now.tables refl about c.requires.unmarked
+    let about = place.about_in r k i p at (c.args.agents.0.0, c.args.agents.1.0) read c.first_ends.result c.first_ends.ensures ends c.as_mut_slice.ensures.value r.checked.now.program.tables refl in
+    let up = c.wire_anew.ensures.wired r.checked.now.program.tables
+    (reuse.can_wire_anew r k i p at room none c.cells.ensures.1 pair own ends r.checked.now.program.tables refl about c.requires.unmarked
     c.as_mut_slice-2.result.now (let l = c.self.invariant.all.tools.points in let v = ap length c.as_mut_slice-2.ensures.value in omega (arith, l, v))) in
     let point_long = c.wire_anew.ensures.points ∙ ap length c.as_mut_slice-2.ensures.value in
     let is_points = with_items_is r.tools.points points (let ok = r.tools.points.ok.0 in omega (arith, ok, point_long)) in
@@ -94,9 +94,9 @@ queue_begun-requires-clause-room g c =
     let middle = c.wire_anew.new.queue.items in
     let own = place.own_ends r k i p at in
     let pair = place.pair_read r k i p at (c.args.agents.0.0, c.args.agents.1.0) read c.first_ends.result c.first_ends.ensures ends c.as_mut_slice.ensures.value in
-    let about = place.about_in r k i p at (c.args.agents.0.0, c.args.agents.1.0) read c.first_ends.result c.first_ends.ensures ends c.as_mut_slice.ensures.value r.checked.now.tables refl in
-    let up = c.wire_anew.ensures.wired r.checked.now.tables
-    (reuse.can_wire_anew r k i p at room none c.cells.ensures.1 pair own ends r.checked.now.tables refl about c.requires.unmarked
+    let about = place.about_in r k i p at (c.args.agents.0.0, c.args.agents.1.0) read c.first_ends.result c.first_ends.ensures ends c.as_mut_slice.ensures.value r.checked.now.program.tables refl in
+    let up = c.wire_anew.ensures.wired r.checked.now.program.tables
+    (reuse.can_wire_anew r k i p at room none c.cells.ensures.1 pair own ends r.checked.now.program.tables refl about c.requires.unmarked
     c.as_mut_slice-2.result.now (let l = c.self.invariant.all.tools.points in let v = ap length c.as_mut_slice-2.ensures.value in omega (arith, l, v))) in
     let long = c.wire_anew.ensures.long ∙ ap length c.as_mut_slice.ensures.value in
     let few = reuse.own_room r k i p at room none pair own refl ends about old a es points middle up long c.take_out.ensures.items in
@@ -123,9 +123,9 @@ invariant_of-self g c =
     let middle = c.wire_anew.new.queue.items in
     let own = place.own_ends r k i p at in
     let pair = place.pair_read r k i p at (c.args.agents.0.0, c.args.agents.1.0) read c.first_ends.result c.first_ends.ensures ends c.as_mut_slice.ensures.value in
-    let about = place.about_in r k i p at (c.args.agents.0.0, c.args.agents.1.0) read c.first_ends.result c.first_ends.ensures ends c.as_mut_slice.ensures.value r.checked.now.tables refl in
-    let up = c.wire_anew.ensures.wired r.checked.now.tables
-    (reuse.can_wire_anew r k i p at room none c.cells.ensures.1 pair own ends r.checked.now.tables refl about c.requires.unmarked
+    let about = place.about_in r k i p at (c.args.agents.0.0, c.args.agents.1.0) read c.first_ends.result c.first_ends.ensures ends c.as_mut_slice.ensures.value r.checked.now.program.tables refl in
+    let up = c.wire_anew.ensures.wired r.checked.now.program.tables
+    (reuse.can_wire_anew r k i p at room none c.cells.ensures.1 pair own ends r.checked.now.program.tables refl about c.requires.unmarked
     c.as_mut_slice-2.result.now (let l = c.self.invariant.all.tools.points in let v = ap length c.as_mut_slice-2.ensures.value in omega (arith, l, v))) in
     let long = c.wire_anew.ensures.long ∙ ap length c.as_mut_slice.ensures.value in
     let point_long = c.wire_anew.ensures.points ∙ ap length c.as_mut_slice-2.ensures.value in
@@ -183,9 +183,9 @@ returns g c =
     let middle = c.wire_anew.new.queue.items in
     let own = place.own_ends r k i p at in
     let pair = place.pair_read r k i p at (c.args.agents.0.0, c.args.agents.1.0) read c.first_ends.result c.first_ends.ensures ends c.as_mut_slice.ensures.value in
-    let about = place.about_in r k i p at (c.args.agents.0.0, c.args.agents.1.0) read c.first_ends.result c.first_ends.ensures ends c.as_mut_slice.ensures.value r.checked.now.tables refl in
-    let up = c.wire_anew.ensures.wired r.checked.now.tables
-    (reuse.can_wire_anew r k i p at room none c.cells.ensures.1 pair own ends r.checked.now.tables refl about c.requires.unmarked
+    let about = place.about_in r k i p at (c.args.agents.0.0, c.args.agents.1.0) read c.first_ends.result c.first_ends.ensures ends c.as_mut_slice.ensures.value r.checked.now.program.tables refl in
+    let up = c.wire_anew.ensures.wired r.checked.now.program.tables
+    (reuse.can_wire_anew r k i p at room none c.cells.ensures.1 pair own ends r.checked.now.program.tables refl about c.requires.unmarked
     c.as_mut_slice-2.result.now (let l = c.self.invariant.all.tools.points in let v = ap length c.as_mut_slice-2.ensures.value in omega (arith, l, v))) in
     let long = c.wire_anew.ensures.long ∙ ap length c.as_mut_slice.ensures.value in
     let point_long = c.wire_anew.ensures.points ∙ ap length c.as_mut_slice-2.ensures.value in

@@ -79,6 +79,6 @@ invariant_of-self c =
         };
       };
       none = still.still_unleased old new.arena alike
-          (still.begun_unleased r.checked.now.tables at.rule.member at.is_rule.over.member c.args.template.now.member at.template.member c.put.new.self.cells r.arena old
-          (laid.begun_of r.checked.now.tables at.rule.member at.is_rule.over.member c.args.template.now.member at.template.member c.put.new.self.cells r.arena old put) k.none);
+          (still.begun_unleased r.checked.now.program.tables at.rule.member at.is_rule.over.member c.args.template.now.member at.template.member c.put.new.self.cells r.arena old
+          (laid.begun_of r.checked.now.program.tables at.rule.member at.is_rule.over.member c.args.template.now.member at.template.member c.put.new.self.cells r.arena old put) k.none);
     }

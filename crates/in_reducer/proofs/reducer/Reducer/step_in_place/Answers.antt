@@ -22,8 +22,8 @@ wire_up-requires-clause-ready c =
     let p = c.args.template.now in
     let at = subst (λ (m : MachineParts). IsTemplateAt m c.args.number p) (sym c.self.view_is) c.requires.at in
     let room = subst (λ (m : MachineParts). HasRoomAt m c.args.number) (sym c.self.view_is) c.requires.room in (
-      r.checked.now.tables,
-      place.can_wire_up r k c.args.number p at c.at-one.result c.at-one.ensures c.first_ends.result c.first_ends.ensures c.as_mut_slice.result.now c.as_mut_slice.ensures.value r.checked.now.tables refl
+      r.checked.now.program.tables,
+      place.can_wire_up r k c.args.number p at c.at-one.result c.at-one.ensures c.first_ends.result c.first_ends.ensures c.as_mut_slice.result.now c.as_mut_slice.ensures.value r.checked.now.program.tables refl
           room c.self.invariant.none c.cells.ensures.1 c.requires.unmarked c.as_mut_slice-2.result.now (let l = c.self.invariant.all.tools.points in let v = ap length c.as_mut_slice-2.ensures.value in omega (arith, l, v)),
     )
 
@@ -51,9 +51,9 @@ queue_begun-requires-clause-there c =
     let middle = c.wire_up.new.queue.items in
     let own = place.own_ends r k i p at in
     let pair = place.pair_read r k i p at c.at-one.result c.at-one.ensures c.first_ends.result c.first_ends.ensures ends c.as_mut_slice.ensures.value in
-    let about = place.about_in r k i p at c.at-one.result c.at-one.ensures c.first_ends.result c.first_ends.ensures ends c.as_mut_slice.ensures.value r.checked.now.tables refl in
-    let up = c.wire_up.ensures.wired r.checked.now.tables
-    (place.can_wire_up r k i p at c.at-one.result c.at-one.ensures c.first_ends.result c.first_ends.ensures ends c.as_mut_slice.ensures.value r.checked.now.tables refl room none c.cells.ensures.1 c.requires.unmarked
+    let about = place.about_in r k i p at c.at-one.result c.at-one.ensures c.first_ends.result c.first_ends.ensures ends c.as_mut_slice.ensures.value r.checked.now.program.tables refl in
+    let up = c.wire_up.ensures.wired r.checked.now.program.tables
+    (place.can_wire_up r k i p at c.at-one.result c.at-one.ensures c.first_ends.result c.first_ends.ensures ends c.as_mut_slice.ensures.value r.checked.now.program.tables refl room none c.cells.ensures.1 c.requires.unmarked
     c.as_mut_slice-2.result.now (let l = c.self.invariant.all.tools.points in let v = ap length c.as_mut_slice-2.ensures.value in omega (arith, l, v))) in
     let point_long = c.wire_up.ensures.points ∙ ap length c.as_mut_slice-2.ensures.value in
     let is_points = with_items_is r.tools.points points (let ok = r.tools.points.ok.0 in omega (arith, ok, point_long)) in
@@ -80,9 +80,9 @@ queue_begun-requires-clause-room c =
     let middle = c.wire_up.new.queue.items in
     let own = place.own_ends r k i p at in
     let pair = place.pair_read r k i p at c.at-one.result c.at-one.ensures c.first_ends.result c.first_ends.ensures ends c.as_mut_slice.ensures.value in
-    let about = place.about_in r k i p at c.at-one.result c.at-one.ensures c.first_ends.result c.first_ends.ensures ends c.as_mut_slice.ensures.value r.checked.now.tables refl in
-    let up = c.wire_up.ensures.wired r.checked.now.tables
-    (place.can_wire_up r k i p at c.at-one.result c.at-one.ensures c.first_ends.result c.first_ends.ensures ends c.as_mut_slice.ensures.value r.checked.now.tables refl room none c.cells.ensures.1 c.requires.unmarked
+    let about = place.about_in r k i p at c.at-one.result c.at-one.ensures c.first_ends.result c.first_ends.ensures ends c.as_mut_slice.ensures.value r.checked.now.program.tables refl in
+    let up = c.wire_up.ensures.wired r.checked.now.program.tables
+    (place.can_wire_up r k i p at c.at-one.result c.at-one.ensures c.first_ends.result c.first_ends.ensures ends c.as_mut_slice.ensures.value r.checked.now.program.tables refl room none c.cells.ensures.1 c.requires.unmarked
     c.as_mut_slice-2.result.now (let l = c.self.invariant.all.tools.points in let v = ap length c.as_mut_slice-2.ensures.value in omega (arith, l, v))) in
     let long = c.wire_up.ensures.long ∙ ap length c.as_mut_slice.ensures.value in
     let few = place.own_room r k i p at room none pair own refl ends about old a es points middle up long c.take_out.ensures.items in
@@ -108,9 +108,9 @@ invariant_of-self c =
     let middle = c.wire_up.new.queue.items in
     let own = place.own_ends r k i p at in
     let pair = place.pair_read r k i p at c.at-one.result c.at-one.ensures c.first_ends.result c.first_ends.ensures ends c.as_mut_slice.ensures.value in
-    let about = place.about_in r k i p at c.at-one.result c.at-one.ensures c.first_ends.result c.first_ends.ensures ends c.as_mut_slice.ensures.value r.checked.now.tables refl in
-    let up = c.wire_up.ensures.wired r.checked.now.tables
-    (place.can_wire_up r k i p at c.at-one.result c.at-one.ensures c.first_ends.result c.first_ends.ensures ends c.as_mut_slice.ensures.value r.checked.now.tables refl room none c.cells.ensures.1 c.requires.unmarked
+    let about = place.about_in r k i p at c.at-one.result c.at-one.ensures c.first_ends.result c.first_ends.ensures ends c.as_mut_slice.ensures.value r.checked.now.program.tables refl in
+    let up = c.wire_up.ensures.wired r.checked.now.program.tables
+    (place.can_wire_up r k i p at c.at-one.result c.at-one.ensures c.first_ends.result c.first_ends.ensures ends c.as_mut_slice.ensures.value r.checked.now.program.tables refl room none c.cells.ensures.1 c.requires.unmarked
     c.as_mut_slice-2.result.now (let l = c.self.invariant.all.tools.points in let v = ap length c.as_mut_slice-2.ensures.value in omega (arith, l, v))) in
     let long = c.wire_up.ensures.long ∙ ap length c.as_mut_slice.ensures.value in
     let point_long = c.wire_up.ensures.points ∙ ap length c.as_mut_slice-2.ensures.value in
@@ -167,9 +167,9 @@ returns c =
     let middle = c.wire_up.new.queue.items in
     let own = place.own_ends r k i p at in
     let pair = place.pair_read r k i p at c.at-one.result c.at-one.ensures c.first_ends.result c.first_ends.ensures ends c.as_mut_slice.ensures.value in
-    let about = place.about_in r k i p at c.at-one.result c.at-one.ensures c.first_ends.result c.first_ends.ensures ends c.as_mut_slice.ensures.value r.checked.now.tables refl in
-    let up = c.wire_up.ensures.wired r.checked.now.tables
-    (place.can_wire_up r k i p at c.at-one.result c.at-one.ensures c.first_ends.result c.first_ends.ensures ends c.as_mut_slice.ensures.value r.checked.now.tables refl room none c.cells.ensures.1 c.requires.unmarked
+    let about = place.about_in r k i p at c.at-one.result c.at-one.ensures c.first_ends.result c.first_ends.ensures ends c.as_mut_slice.ensures.value r.checked.now.program.tables refl in
+    let up = c.wire_up.ensures.wired r.checked.now.program.tables
+    (place.can_wire_up r k i p at c.at-one.result c.at-one.ensures c.first_ends.result c.first_ends.ensures ends c.as_mut_slice.ensures.value r.checked.now.program.tables refl room none c.cells.ensures.1 c.requires.unmarked
     c.as_mut_slice-2.result.now (let l = c.self.invariant.all.tools.points in let v = ap length c.as_mut_slice-2.ensures.value in omega (arith, l, v))) in
     let long = c.wire_up.ensures.long ∙ ap length c.as_mut_slice.ensures.value in
     let point_long = c.wire_up.ensures.points ∙ ap length c.as_mut_slice-2.ensures.value in

@@ -1,27 +1,26 @@
-use Rattle.std.proofs.Common.{length, subst, ap, arith}
+use Rattle.std.proofs.Common.{sym, subst}
 use Rattle.in_open_nets.specs.Parts.{IsRest}
-use Rattle.in_simple_deriving.proofs.Planning.{plan_start}
-use Rattle.in_open_nets.proofs.Public.{in_length, each_split}
+use Rattle.in_simple_deriving.specs.Turns.{HeadedPart, IsNodeTurns, rest_of}
+use Rattle.in_simple_deriving.proofs.Begins.{starts, takes_head}
+use Rattle.in_simple_deriving.proofs.HeadParts.{rest_is}
 use Rattle.in_simple_deriving.proofs.plans.BegunPlan.of.Goals as goal
+
+pub returns-clause-rest : goal.returns-clause-rest
+returns-clause-rest c =
+    let x = c.apart-node.result.0.now in
+    let a = c.apart-node.result.1 in
+    subst (λ (z : HeadedPart). IsRest z.head z.nodes (rest_of x a)) (sym c.apart-node.ensures.part) (rest_is x a)
 
 pub invariant_of-result : goal.invariant_of-result
 invariant_of-result c =
-    let o = c.args.wired.now in
-    let n = c.args.node in
-    let net = c.nodes.ensures.net.net in
-    let a = c.nodes.ensures.count in
-    let b = c.in_ok-clear.ensures.size in
-    let k = c.requires.done in
-    let d = c.in_ok-rest.ensures.size in
-    let e = c.requires.size in
-    let parts = c.apart-nodes.ensures in
-    let nodes = ap length parts.nodes in
-    let done = ap length parts.done in
-    let left = subst (λ z. IsRest n z c.in_ok-rest.rest) parts.nodes c.in_ok-rest.ensures.rest in
-    let l = in_length c.args.part.nodes n c.requires.here in
-    record {
-      orderly = c.nodes.ensures.net;
-      node = omega arith;
-      plan = plan_start o net n _ (omega arith) (omega arith) c.in_ok-rest.ensures.out c.in_ok-clear.ensures.none c.new.ensures (each_split o net c.args.part.nodes c.in_ok-rest.rest n left c.requires.splits) (c.args.part.nodes, omega arith, left, c.requires.piece);
-      start = c.new.ensures;
-    }
+    let x = c.apart-node.result.0.now in
+    let a = c.apart-node.result.1 in
+    let h = subst IsNodeTurns c.order.ensures c.taken.ensures.turns in
+    starts c.args.wired.now x a c.args.part c.new.result h c.apart-node.ensures.head c.apart-node.ensures.part c.requires.net c.requires.first c.requires.piece c.new.ensures
+
+pub invariant_of-plan : goal.invariant_of-plan
+invariant_of-plan c =
+    let x = c.apart-node.result.0.now in
+    let a = c.apart-node.result.1 in
+    let h = subst IsNodeTurns c.order.ensures c.taken.ensures.turns in
+    (c.apart-node.ensures.head.0, takes_head c.args.wired.now x a c.args.part h c.apart-node.ensures.head c.apart-node.ensures.part c.requires.net c.requires.first)

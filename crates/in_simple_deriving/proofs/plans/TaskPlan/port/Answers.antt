@@ -1,9 +1,10 @@
-use Rattle.std.proofs.Common.{◌≡◌, suc, false, nat_eq, sym, subst}
+use Rattle.std.proofs.Common.{◌≡◌, suc, false, nat_eq, sym, subst, arith}
 use Rattle.in_simple_deriving.specs.Procedure.{StaysForRest, IsPlanAtTurn}
 use Rattle.in_open_nets.specs.Members.{nodes_in}
 use Rattle.in_simple_deriving.specs.Stacks.{shape, no_wires}
 use Rattle.in_open_nets.specs.Stuck.{turn}
-use Rattle.in_simple_deriving.proofs.Fates.{along, back_at, later_port, leads_away, met_derived, met_none}
+use Rattle.in_simple_deriving.specs.declared.plans.Fate.TheVariants.{Waits, Derived, Outside}
+use Rattle.in_simple_deriving.proofs.Fates.{along, back_at, derives_near, fate_of_port, later_port, leads_away, met_derived, met_none, plan_own}
 use Rattle.in_simple_deriving.proofs.Taking.{comes_done, comes_own, comes_component, comes_link}
 use Rattle.in_simple_deriving.proofs.ClassNets.{nothing_done, nothing_own, adds_component, adds_link}
 use Rattle.in_simple_deriving.proofs.Planning.{port_pass, port_derive, goes_make}
@@ -11,8 +12,14 @@ use Rattle.in_open_nets.proofs.Public.{not_both}
 use Rattle.in_simple_deriving.proofs.Stages.{own_turn}
 use Rattle.in_simple_deriving.proofs.plans.TaskPlan.port.Goals as goal
 
-pub returns-in_ok-derive-in-Waits : goal.returns-in_ok-derive-in-Waits
-returns-in_ok-derive-in-Waits c =
+pub fate-requires-clause-plan : goal.fate-requires-clause-plan
+fate-requires-clause-plan c = plan_own c.args.wired.now c.args.node c.args.port c.args.self c.requires.plan
+
+pub fate-requires-clause-turn : goal.fate-requires-clause-turn
+fate-requires-clause-turn c = let most = c.requires.plan.most in let port = c.requires.port.port in omega arith
+
+pub returns-in_ok-push-in-Waits : goal.returns-in_ok-push-in-Waits
+returns-in_ok-push-in-Waits c =
     let o = c.args.wired.now in
     let n = c.args.node in
     let i = c.args.port in
@@ -24,14 +31,15 @@ returns-in_ok-derive-in-Waits c =
     let w = c.partner-wire.result.0 in
     let q = c.partner-wire.result.1 in
     let wire = c.partner-wire.ensures.wire in
-    let l = c.in-Waits.near in
-    let f = c.in-Waits.ensures in
-    let there = along o net n p i w q wire l f.0 f.1 in
-    let d = c.in_ok-derive-in-Waits in
+    let f = fate_of_port o n i i w q p (Waits c.in-Waits.part) c.requires.plan.net c.requires.plan.node c.in-Waits.ensures wire own in
+    let l = f.0 in
+    let there = along o net n p i w q wire l f.1 f.2 in
+    let r = c.in_ok-push-in-Waits.field-0 in
+    let d = derives_near o n i l p r c.in-Waits.part c.requires.plan f.3 c.in_ok-push-in-Waits.ensures in
     record {
-      plan = subst (λ z. StaysForRest o n (suc z) p d.field-0) own (port_derive o net n p d.field-0 i w l f.0 h there f.2 f.3 d.ensures);
-      adds = (shape (nodes_in d.ensures.component) no_wires, adds_component o net n i p c.requires.plan i w l f.0 d.field-0 there f.2 f.3 d.ensures);
-      comes = comes_component o net n p i w a.agent a.auxiliary a.port h d.field-0 l f.0 there f.2 f.3 d.ensures;
+      plan = subst (λ z. StaysForRest o n (suc z) p r) own (port_derive o net n p r i w l f.1 h there f.4 f.5 d);
+      adds = (shape (nodes_in d.component.nodes) no_wires, adds_component o net n i p c.requires.plan i w l f.1 r there f.4 f.5 d);
+      comes = comes_component o net n p i w a.agent a.auxiliary a.port h r l f.1 there f.4 f.5 d;
     }
 
 pub returns-in-Derived : goal.returns-in-Derived
@@ -47,7 +55,7 @@ returns-in-Derived c =
     let w = c.partner-wire.result.0 in
     let q = c.partner-wire.result.1 in
     let wire = c.partner-wire.ensures.wire in
-    let f = c.in-Derived.ensures in
+    let f = fate_of_port o n i i w q p Derived c.requires.plan.net c.requires.plan.node c.in-Derived.ensures wire own in
     let there = along o net n p i w q wire f.0 f.1 f.2 in
     record {
       plan = subst (λ z. StaysForRest o n (suc z) p p) own (port_pass o net n p i a.port h (met_derived o net n p i w q wire f));
@@ -68,7 +76,7 @@ returns-then-leads_back c =
     let w = c.partner-wire.result.0 in
     let q = c.partner-wire.result.1 in
     let wire = c.partner-wire.ensures.wire in
-    let f = c.in-Outside.ensures in
+    let f = fate_of_port o n i i w q p Outside c.requires.plan.net c.requires.plan.node c.in-Outside.ensures wire own in
     let b = back_at n i q (c.leads_back.ensures.0 c.if-leads_back.true) in
     let there = along o net n p i w q wire b.0 b.1 b.2 in
     let out = subst (λ z. nodes_in p.rest z ≡ false) (sym b.3) h.out in
@@ -91,7 +99,7 @@ returns-in_ok-make-in-Outside c =
     let w = c.partner-wire.result.0 in
     let q = c.partner-wire.result.1 in
     let wire = c.partner-wire.ensures.wire in
-    let f = c.in-Outside.ensures in
+    let f = fate_of_port o n i i w q p Outside c.requires.plan.net c.requires.plan.node c.in-Outside.ensures wire own in
     let m = c.in_ok-make-in-Outside in
     let away = leads_away (nodes_in p.rest) n i q f (λ b. not_both c.leads_back.result (c.leads_back.ensures.1 b) c.if-leads_back.false) in
     record {

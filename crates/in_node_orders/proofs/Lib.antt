@@ -1,0 +1,14 @@
+pub mod Arriving
+pub mod Blobs
+pub mod Climbs
+pub mod Components
+pub mod Edges
+pub mod LeftNodes
+pub mod Listing
+pub mod OneOrder
+pub mod Prefixes
+pub mod Public
+pub mod Steps
+pub mod Tested
+pub mod Turning
+pub mod Ways

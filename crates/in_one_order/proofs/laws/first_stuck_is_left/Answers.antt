@@ -1,5 +1,0 @@
-use Rattle.in_one_order.proofs.Orders.{stuck_left}
-use Rattle.in_one_order.proofs.laws.first_stuck_is_left.Goals as goal
-
-pub returns : goal.returns
-returns c = λ o net s rest t ns h k. stuck_left o net s rest t ns h k

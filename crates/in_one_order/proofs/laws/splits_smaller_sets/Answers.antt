@@ -1,5 +1,0 @@
-use Rattle.in_one_order.proofs.Components.{splits_smaller}
-use Rattle.in_one_order.proofs.laws.splits_smaller_sets.Goals as goal
-
-pub returns : goal.returns
-returns c = λ o s d n inside h. splits_smaller o d s n inside h

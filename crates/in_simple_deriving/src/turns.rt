@@ -1,0 +1,186 @@
+//! One order of all nodes, by which all parts are taken apart, and the turn of each node in it.
+ghost use Rattle.std.specs.Prelude.{◌≡◌, ◌<◌, ◌≤◌, ◌^◌, length, IfOk, IsTrue, ℕ};
+ghost use Rattle.in_node_orders.specs.Orders.{IsNodeOrder};
+ghost use Rattle.in_open_nets.specs.OpenNets.{IsOrderly};
+ghost use Rattle.in_open_nets.specs.Parts.{IsFirstIn};
+ghost use Rattle.in_simple_deriving.specs.Turns.{AreBlank, AreDistinct, AreFirstTurns, IsNodeTurns, node_at, turn_of};
+
+use in_base::use_promise;
+use in_node_orders::is_order;
+use in_open_nets::{ClassGraph, NodeList, NodeSet, Part, Scratch, Wired, first_splitting};
+use in_order_search::likely_order;
+use in_syntax::with_room;
+use sqlite_items::Items;
+use std::alloc::{AllocError, Global};
+use std::marker::Model;
+
+/// The first node that splits what is left.
+fn first_left(
+    alloc: Global,
+    wired: &Wired,
+    left: &NodeSet,
+    graph: &mut ClassGraph,
+) -> Result<Option<usize>, AllocError>
+    requires { length left.now ≡ length wired.now.nodes }
+    ensures net { IfOk result (λ found. IsOrderly wired.now) }
+    ensures found { IfOk result (IsFirstIn wired.now left.now) }
+{
+    let part = Part { wired, nodes: left };
+    first_splitting(alloc, &part, graph)
+}
+
+/// The nodes that are taken out of the whole net in turn, each of them the first one that splits what is left, found one by one.
+fn found_order(alloc: Global, wired: &Wired) -> Result<Items<u32>, AllocError>
+    ensures { IfOk result (IsNodeOrder wired.now) }
+{
+    let count = wired.nodes();
+    let mut graph = ClassGraph::new(alloc);
+    let mut left = NodeSet::of(
+        NodeList::all(alloc, count as u32)?,
+        Scratch::new(alloc, count)?,
+    )?;
+    let mut order = Items::new(alloc);
+    while let Some(node) = first_left(alloc, wired, &left, &mut graph)? {
+        order.push(node as u32)?;
+        let (rest, _) = left.without(alloc, node)?;
+        left = rest;
+    }
+    Ok(order)
+}
+
+/// The same. The order is guessed, and found one by one only if the guess is wrong: that takes time in proportion to the square of the net.
+fn node_order(alloc: Global, wired: &Wired) -> Result<Items<u32>, AllocError>
+    ensures { IfOk result (IsNodeOrder wired.now) }
+{
+    let guess = likely_order(alloc, wired)?;
+    if is_order(alloc, wired, &guess)? {
+        return Ok(guess);
+    }
+    found_order(alloc, wired)
+}
+
+/// No turn.
+const NONE: u32 = u32::MAX;
+
+/// All nodes in the order in which they are taken out, then those that are never taken out, by number; and the turn of each node.
+pub(crate) struct NodeTurns<'a> {
+    wired: &'a Wired<'a>,
+    nodes: Items<u32>,
+    turns: Items<u32>,
+    taken: usize,
+}
+
+// By hand, so that each drop is a call: a derived one is written out in each proof, at each way out.
+impl<'a> Drop for NodeTurns<'a> {
+    fn drop(self) {
+        let NodeTurns {
+            wired: _,
+            nodes: _,
+            turns: _,
+            taken: _,
+        } = self;
+    }
+}
+
+// Contracts see the order.
+impl<'a> Model for NodeTurns<'a> {
+    ghost use Rattle.in_simple_deriving.specs.Turns.{IsNodeTurns, NodeOrder};
+
+    ghost Value = { NodeOrder };
+
+    ghost view = { λ x. record { net = x.wired.now; nodes = x.nodes; turns = x.turns; taken = x.taken } };
+
+    ghost invariant = { λ x. IsNodeTurns (record { net = x.wired.now; nodes = x.nodes; turns = x.turns; taken = x.taken }) };
+}
+
+/// `count` times no turn.
+fn no_turns(alloc: Global, count: usize) -> Result<Items<u32>, AllocError>
+    ensures { IfOk result (AreBlank count) }
+{
+    let mut turns = Vec::new(alloc);
+    turns.resize(count, NONE)?;
+    Ok(Items::from_vec(turns))
+}
+
+/// The turns of these nodes; the others have none.
+fn turns_of(alloc: Global, count: usize, nodes: &Items<u32>) -> Result<Items<u32>, AllocError>
+    requires few { length nodes.now < 2 ^ 32 }
+    requires nodes { AreDistinct count nodes.now }
+    ensures { IfOk result (AreFirstTurns count (length nodes.now) nodes.now) }
+{
+    let mut turns = no_turns(alloc, count)?;
+    for turn in 0..nodes.len() {
+        turns.set(nodes.as_slice()[turn] as usize, turn as u32);
+    }
+    Ok(turns)
+}
+
+impl<'a> NodeTurns<'a> {
+    /// The order of the nodes of an open net.
+    pub(crate) fn of(alloc: Global, wired: &'a Wired<'a>) -> Result<NodeTurns<'a>, AllocError>
+        ensures { IfOk result (λ turns. turns.net ≡ wired.now) }
+    {
+        let count = wired.nodes();
+        let mut nodes = node_order(alloc, wired)?;
+        let taken = nodes.len();
+        if taken >= NONE as usize {
+            return Err(AllocError);
+        }
+        let mut turns = turns_of(alloc, count, &nodes)?;
+        for node in 0..count {
+            if turns.as_slice()[node] == NONE {
+                if nodes.len() >= NONE as usize {
+                    return Err(AllocError);
+                }
+                turns.set(node, nodes.len() as u32);
+                nodes.push(node as u32)?;
+            }
+        }
+        Ok(NodeTurns {
+            wired,
+            nodes,
+            turns,
+            taken,
+        })
+    }
+
+    /// The open net, with its wires by port.
+    pub(crate) fn wired(&self) -> &'a Wired<'a>
+        ensures { result.now ≡ self.now.net }
+    {
+        self.wired
+    }
+
+    /// How many nodes are taken out in turn.
+    pub(crate) fn taken(&self) -> usize
+        ensures taken { result ≡ self.now.taken }
+        ensures turns { IsNodeTurns self.now }
+    {
+        self.taken
+    }
+
+    /// How many turns there are.
+    pub(crate) fn turns(&self) -> usize
+        ensures { result ≡ length self.now.nodes }
+    {
+        self.nodes.len()
+    }
+
+    /// The node that has this turn.
+    pub(crate) fn node(&self, turn: usize) -> u32
+        requires { turn < length self.now.nodes }
+        ensures node { result ≡ node_at self.now turn }
+        ensures turns { IsNodeTurns self.now }
+    {
+        self.nodes.as_slice()[turn]
+    }
+
+    /// The turn of a node.
+    pub(crate) fn turn(&self, node: usize) -> usize
+        requires { node < length self.now.net.nodes }
+        ensures turn { result ≡ turn_of self.now node }
+        ensures turns { IsNodeTurns self.now }
+    {
+        self.turns.as_slice()[node] as usize
+    }
+}
