@@ -16,12 +16,12 @@ _inet() {
   else
     case ${COMP_WORDS[1]} in
       check)
-        words='-h --help' files=1 ;;
+        words='--large -h --help' files=1 ;;
       derive)
-        words='-h --help' files=1 ;;
+        words='--large -h --help' files=1 ;;
       run)
         case $before in --workers|--limit|--cells|--small-cells|--large-cells|--wide-cells) return ;; esac
-        words='--workers --limit --cells --small-cells --large-cells --wide-cells --no-net --stats -h --help' files=1 ;;
+        words='--workers --limit --cells --small-cells --large-cells --wide-cells --no-net --stats --large -h --help' files=1 ;;
       help) if ((COMP_CWORD == 2)); then words='check derive run'; fi ;;
     esac
   fi
@@ -30,7 +30,7 @@ _inet() {
 complete -F _inet inet
 _inet_export() {
   local word=${COMP_WORDS[COMP_CWORD]} before=${COMP_WORDS[COMP_CWORD-1]} words files=
-  words='-h --help -V --version' files=1
+  words='--large -h --help -V --version' files=1
   _inet_offer "$files" "$word" "$words"
 }
 complete -F _inet_export inet_export

@@ -7,8 +7,10 @@ complete -c inet -n 'not __fish_seen_subcommand_from check derive run help' -a h
 complete -c inet -n 'not __fish_seen_subcommand_from check derive run help' -s h -l help -d 'Print help'
 complete -c inet -n 'not __fish_seen_subcommand_from check derive run help' -s V -l version -d 'Print version'
 complete -c inet -n '__fish_seen_subcommand_from check' -f -a "(__fish_complete_suffix .inet)"
+complete -c inet -n '__fish_seen_subcommand_from check' -l large -d 'Allows larger programs, with texts of up to 64 MiB and nets of up to 1048576 agents'
 complete -c inet -n '__fish_seen_subcommand_from check' -s h -l help -d 'Print help'
 complete -c inet -n '__fish_seen_subcommand_from derive' -f -a "(__fish_complete_suffix .inet)"
+complete -c inet -n '__fish_seen_subcommand_from derive' -l large -d 'Allows larger programs, with texts of up to 64 MiB and nets of up to 1048576 agents'
 complete -c inet -n '__fish_seen_subcommand_from derive' -s h -l help -d 'Print help'
 complete -c inet -n '__fish_seen_subcommand_from run' -f -a "(__fish_complete_suffix .inet)"
 complete -c inet -n '__fish_seen_subcommand_from run' -l workers -x -d 'The workers that share the interactions, 1 to 64'
@@ -19,8 +21,10 @@ complete -c inet -n '__fish_seen_subcommand_from run' -l large-cells -x -d 'The 
 complete -c inet -n '__fish_seen_subcommand_from run' -l wide-cells -x -d 'The cells for agents of arity 9 to 16, 16 to 8388608'
 complete -c inet -n '__fish_seen_subcommand_from run' -l no-net -d 'Prints no net, only how many interactions there were and why it stopped'
 complete -c inet -n '__fish_seen_subcommand_from run' -l stats -d 'Prints figures of the run on standard error'
+complete -c inet -n '__fish_seen_subcommand_from run' -l large -d 'Allows larger programs, with texts of up to 64 MiB and nets of up to 1048576 agents'
 complete -c inet -n '__fish_seen_subcommand_from run' -s h -l help -d 'Print help'
 complete -c inet -n '__fish_seen_subcommand_from help' -a 'check derive run'
 complete -c inet_export -f -a "(__fish_complete_suffix .inet)"
+complete -c inet_export -l large -d 'Allows larger programs, with texts of up to 64 MiB and nets of up to 1048576 agents'
 complete -c inet_export -s h -l help -d 'Print help'
 complete -c inet_export -s V -l version -d 'Print version'

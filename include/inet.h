@@ -124,6 +124,21 @@ enum inet_step_kind {
 uint8_t inet_verify(const uint8_t *text, size_t text_length, uint32_t number, const struct inet_step *steps, size_t step_count,
                     const uint32_t *parts, size_t part_count);
 
+/* The same calls for a larger program: a text of up to 64 MiB, a net of up to 1,048,576 agents, and more of all else, as by the option
+ * `--large` of the programs; docs/use/LANGUAGE.md has all limits. */
+uint8_t inet_check_large(const uint8_t *text, size_t text_length, uint8_t *room, size_t room_size, size_t *length);
+uint8_t inet_derive_large(const uint8_t *text, size_t text_length, uint8_t *room, size_t room_size, size_t *length);
+uint8_t inet_run_large(const uint8_t *text, size_t text_length, uint64_t limit, uint32_t cells, uint8_t *room, size_t room_size,
+                       size_t *length);
+uint8_t inet_diagnose_large(const uint8_t *text, size_t text_length, uint8_t *room, size_t room_size, size_t *length);
+uint8_t inet_diagnose_data_large(const uint8_t *text, size_t text_length, uint8_t *room, size_t room_size, size_t *length);
+uint8_t inet_export_large(const uint8_t *text, size_t text_length, uint8_t *room, size_t room_size, size_t *length);
+uint8_t inet_refusal_large(const uint8_t *text, size_t text_length, struct inet_fault *fault);
+uint8_t inet_run_by_large(const uint8_t *text, size_t text_length, const uint32_t *choices, size_t choice_count, uint64_t limit,
+                          uint32_t cells, struct inet_state *state, uint8_t *room, size_t room_size, size_t *length);
+uint8_t inet_verify_large(const uint8_t *text, size_t text_length, uint32_t number, const struct inet_step *steps, size_t step_count,
+                          const uint32_t *parts, size_t part_count);
+
 #ifdef __cplusplus
 }
 #endif

@@ -1,7 +1,7 @@
 #!/usr/bin/env python3
 """The checker and the runner `inet` for Python, over the shared object libinet.so (docs/use/LIBRARY.md). Not proved.
 
-Usage: inet.py check|derive|diagnose|export|run [LIMIT [CELLS]]     with a program's text on standard input, as `inet` has it
+Usage: inet.py [--large] check|derive|diagnose|export|run [LIMIT [CELLS]]     with a program's text on standard input, as `inet` has it
 
 From Python:
 
@@ -10,9 +10,10 @@ From Python:
     if status == REFUSED:
         print(inet.diagnose(text).text)
 
-A text is a str, or bytes, a bytearray or a memoryview. A call answers the program's status and the bytes that it writes, and lets other
-threads run meanwhile; a text that is refused and memory that runs out are statuses, not exceptions. What is wrong with a call itself is an
-InetError. As a program it ends with the statuses of `inet`: 2 for wrong words, 6 where a stream fails, and 70 for its own failures.
+A text is a str, or bytes, a bytearray or a memoryview; with large=True it has the large limits, as by the option --large of `inet`. A call
+answers the program's status and the bytes that it writes, and lets other threads run meanwhile; a text that is refused and memory that runs
+out are statuses, not exceptions. What is wrong with a call itself is an InetError. As a program it ends with the statuses of `inet`: 2 for
+wrong words, 6 where a stream fails, and 70 for its own failures.
 """
 import ctypes
 import json
@@ -135,10 +136,14 @@ class Inet:
             library = ctypes.CDLL(path)
             library.inet_version.restype = ctypes.c_uint32
             self.version = library.inet_version()
+            if self.version // 1_000_000 == VERSION // 1_000_000:
+                self._add_calls(library)
         except (OSError, AttributeError) as error:
             raise LibraryError(f"{path} is no libinet: {error}; bindings/library make puts it into out/inet, and INET_LIBRARY names another one") from error
         if self.version // 1_000_000 != VERSION // 1_000_000:
             raise LibraryError(f"{path} has version {self.version}, and this module is for {VERSION}")
+
+    def _add_calls(self, library):
         size = ctypes.c_size_t
         answer = [ctypes.c_char_p, size, ctypes.POINTER(size)]
         numbers = {"run": [ctypes.c_uint64, ctypes.c_uint32]}
@@ -149,39 +154,41 @@ class Inet:
         self._add(library, "verify", ctypes.c_uint32, ctypes.POINTER(_Step), size, ctypes.POINTER(ctypes.c_uint32), size)
 
     def _add(self, library, name, *rest):
-        call = getattr(library, f"inet_{name}")
-        call.argtypes, call.restype = [ctypes.c_char_p, ctypes.c_size_t, *rest], ctypes.c_uint8
-        setattr(self, f"_{name}", call)
+        """Keeps the two calls of this name, for texts with the usual limits and with the large ones."""
+        calls = [getattr(library, f"inet_{name}{end}") for end in ("", "_large")]
+        for call in calls:
+            call.argtypes, call.restype = [ctypes.c_char_p, ctypes.c_size_t, *rest], ctypes.c_uint8
+        setattr(self, f"_{name}", calls)
 
-    def check(self, text):
+    def check(self, text, *, large=False):
         """One line: what the program has, or why it is refused."""
-        return self._answer(self._check, text)
+        return self._answer(self._check[large], text)
 
-    def derive(self, text):
+    def derive(self, text, *, large=False):
         """The steps that build the rules and the net, or the line of the refusal."""
-        return self._answer(self._derive, text)
+        return self._answer(self._derive[large], text)
 
-    def diagnose(self, text):
+    def diagnose(self, text, *, large=False):
         """What is wrong with a text that is refused, in lines for people; nothing where it is accepted."""
-        return self._answer(self._diagnose, text)
+        return self._answer(self._diagnose[large], text)
 
-    def diagnose_data(self, text):
+    def diagnose_data(self, text, *, large=False):
         """The same as a value of `json`, None where there is none; and the status."""
-        status, line = self._answer(self._diagnose_data, text)
+        status, line = self._answer(self._diagnose_data[large], text)
         return status, json.loads(line) if line else None
 
-    def export(self, text):
+    def export(self, text, *, large=False):
         """The accepted program as one line of JSON, or the line of the refusal."""
-        return self._answer(self._export, text)
+        return self._answer(self._export[large], text)
 
-    def run(self, text, limit=1_000_000, cells=65_536):
+    def run(self, text, limit=1_000_000, cells=65_536, *, large=False):
         """The net that a run of one worker comes to, how many interactions there were and why it stopped, or the line of the refusal."""
         # ctypes would cut a number that is out of its range.
         if not (0 <= limit < 2**64 and 0 <= cells < 2**32):
             return Answer(WRONG_NUMBERS, b"")
-        return self._answer(self._run, text, limit, cells)
+        return self._answer(self._run[large], text, limit, cells)
 
-    def run_by(self, text, choices, limit=0, cells=65_536) -> tuple[Answer, State]:
+    def run_by(self, text, choices, limit=0, cells=65_536, *, large=False) -> tuple[Answer, State]:
         """The net after the interactions of the pairs of these numbers, each in the queue that the one before it left, and of at most `limit`
         more; and where the run stands."""
         state = _State()
@@ -189,16 +196,16 @@ class Inet:
             return Answer(WRONG_NUMBERS, b""), State(0, 0, 0, 0)
         # A pointer to no elements is one too.
         given = (ctypes.c_uint32 * (len(choices) + 1))(*choices)
-        answer = self._answer(self._run_by, text, given, len(choices), limit, cells, state)
+        answer = self._answer(self._run_by[large], text, given, len(choices), limit, cells, state)
         return answer, State(*(getattr(state, name) for name, _ in _State._fields_))
 
-    def refusal(self, text) -> tuple[int, Optional[Refusal]]:
+    def refusal(self, text, *, large=False) -> tuple[int, Optional[Refusal]]:
         """The status of a text, and why it is refused, None where it isn't."""
         text, fault = _bytes_of(text), _Fault()
-        status = self._refusal(text, len(text), fault)
+        status = self._refusal[large](text, len(text), fault)
         return status, Refusal(*(getattr(fault, name) for name, _ in _Fault._fields_)) if status == REFUSED else None
 
-    def verify(self, text, number, steps):
+    def verify(self, text, number, steps, *, large=False):
         """The status of these steps, in the form of the export, for the rule of that number; the net has the number after the last rule's."""
         text, parts = _bytes_of(text), []
         given = [_numbers_of(step, parts) for step in steps]
@@ -206,7 +213,7 @@ class Inet:
             return WRONG_NUMBERS
         # A pointer to no elements is one too.
         steps, numbers = (_Step * (len(given) + 1))(*given), (ctypes.c_uint32 * (len(parts) + 1))(*parts)
-        return self._verify(text, len(text), number, steps, len(given), numbers, len(parts))
+        return self._verify[large](text, len(text), number, steps, len(given), numbers, len(parts))
 
     @staticmethod
     def _answer(call, text, *numbers):
@@ -220,13 +227,14 @@ class Inet:
 
 
 def _asked(words):
-    """The command and its numbers; None where the words are wrong."""
-    command, *numbers = words or [""]
+    """Whether the text has the large limits, the command and its numbers; None where the words are wrong."""
+    large = words[:1] == ["--large"]
+    command, *numbers = words[large:] or [""]
     if command not in ("check", "derive", "diagnose", "export", "run") or len(numbers) > (2 if command == "run" else 0):
         return None
     if not all(number.isascii() and number.isdigit() for number in numbers):
         return None
-    return command, [int(number) for number in numbers]
+    return large, command, [int(number) for number in numbers]
 
 
 def _write(stream, data):
@@ -244,7 +252,7 @@ def main(words):
     if not asked:
         sys.stderr.write(__doc__.split("\n\n")[1] + "\n")
         return WRONG_NUMBERS
-    command, numbers = asked
+    large, command, numbers = asked
     try:
         inet = Inet()
     except LibraryError as error:
@@ -254,13 +262,13 @@ def main(words):
         text = sys.stdin.buffer.read()
     except OSError:
         return STREAM
-    status, lines = getattr(inet, command)(text, *numbers)
+    status, lines = getattr(inet, command)(text, *numbers, large=large)
     # A diagnosis is for people, and a refused text has one: that it can't be written changes nothing.
     if not _write(sys.stdout.buffer, lines):
         os.dup2(os.open(os.devnull, os.O_WRONLY), 1)
         return STREAM
     if status == REFUSED and command != "diagnose":
-        _write(sys.stderr.buffer, inet.diagnose(text).bytes)
+        _write(sys.stderr.buffer, inet.diagnose(text, large=large).bytes)
     return status
 
 

@@ -61,6 +61,22 @@ static uint8_t call(int which, const struct text *text, uint8_t *room, size_t ro
     }
 }
 
+/* The same for a text with the large limits. */
+static uint8_t call_large(int which, const struct text *text, uint8_t *room, size_t room_size, size_t *length)
+{
+    static const uint32_t choices[3] = {0, 0, 0};
+    struct inet_state state;
+    switch (which) {
+    case 0: return inet_check_large(text->bytes, text->length, room, room_size, length);
+    case 1: return inet_derive_large(text->bytes, text->length, room, room_size, length);
+    case 2: return inet_run_large(text->bytes, text->length, LIMIT, CELLS, room, room_size, length);
+    case 3: return inet_diagnose_large(text->bytes, text->length, room, room_size, length);
+    case 4: return inet_diagnose_data_large(text->bytes, text->length, room, room_size, length);
+    case 5: return inet_export_large(text->bytes, text->length, room, room_size, length);
+    default: return inet_run_by_large(text->bytes, text->length, choices, 3, LIMIT, CELLS, &state, room, room_size, length);
+    }
+}
+
 static struct answer whole(int which, const struct text *text)
 {
     struct answer answer = {0, 0, taken(1)};
@@ -89,15 +105,31 @@ static void try_room(int which, const struct text *text, size_t size)
     free(room);
 }
 
+/* By the large limits the answer is the same, since no text given passes the usual ones. */
+static void try_large(int which, const struct text *text)
+{
+    const struct answer *wanted = &text->answers[which];
+    uint8_t *room = taken(wanted->length);
+    size_t length = 0;
+    uint8_t status = call_large(which, text, room, wanted->length, &length);
+    if (status != wanted->status || length != wanted->length || memcmp(room, wanted->bytes, length)) {
+        wrong = 1;
+        printf("%s of %s by the large limits: status %d, %zu bytes; wanted: %d, %zu\n", names[which], text->name, status, length, wanted->status, wanted->length);
+    }
+    free(room);
+}
+
 /* The calls that answer by numbers agree with the others: the status of a text, and a step that builds nothing. */
 static void try_numbers(const struct text *text)
 {
-    struct inet_fault fault;
+    struct inet_fault fault, large;
     struct inet_step step = {INET_EMPTY, 0, 0, 0};
     uint32_t part = 0;
     uint8_t wanted = text->answers[0].status, status = inet_refusal(text->bytes, text->length, &fault);
     uint8_t verified = inet_verify(text->bytes, text->length, UINT32_MAX, &step, 1, &part, 0);
-    if (status != wanted || (status == INET_REFUSED) != (fault.code > 0) || fault.to > text->length || verified != (wanted == INET_OK ? INET_WRONG_NUMBERS : wanted)) {
+    int same = inet_refusal_large(text->bytes, text->length, &large) == status && large.code == fault.code && large.from == fault.from && large.to == fault.to
+        && inet_verify_large(text->bytes, text->length, UINT32_MAX, &step, 1, &part, 0) == verified;
+    if (!same || status != wanted || (status == INET_REFUSED) != (fault.code > 0) || fault.to > text->length || verified != (wanted == INET_OK ? INET_WRONG_NUMBERS : wanted)) {
         wrong = 1;
         printf("%s: refusal %d, code %u; verify %d; wanted: %d\n", text->name, status, fault.code, verified, wanted);
     }
@@ -112,6 +144,7 @@ static void *calls_on_all(void *number)
             try_room(which, text, length + 3);
             if ((size_t)number != (size_t)which)
                 continue;
+            try_large(which, text);
             try_room(which, text, 0);
             try_room(which, text, length);
             if (length)

@@ -10,6 +10,7 @@ import sys
 import tempfile
 from functools import partial
 
+from harness.large import net_agents
 from harness.programs import EXAMPLES, HERE, MEMORY, MOST_BYTES, REFUSED, VALGRIND, WRONG_WORDS, Program, answering, differing, text_of
 from harness.refusals import Refuser
 
@@ -297,6 +298,31 @@ def numbers(program, binding):
         yield f"Python: limit {limit}, cells {cells}", answering(run, WRONG_WORDS, b"")
 
 
+# All calls on a text beyond the usual limits, in one process: a line of JSON.
+LARGER = """
+import json, sys
+sys.path.insert(0, sys.argv[1])
+from inet import Inet
+inet, text = Inet(), sys.stdin.buffer.read()
+program = json.loads(inet.export(text, large=True).bytes)
+steps = program["net"]["steps"]
+print(json.dumps([inet.check(text).status, inet.check(text, large=True).text, inet.derive(text, large=True).status, inet.run(text, 10, large=True).status,
+                  inet.run_by(text, [0], 10, large=True)[1], inet.refusal(text, large=True), inet.diagnose(text, large=True).text,
+                  inet.diagnose_data(text, large=True), inet.verify(text, 1, steps, large=True), inet.verify(text, 1, steps[:-1], large=True)]))
+"""
+
+
+def larger(program, binding):
+    """A net with more agents than are usually allowed."""
+    made = net_agents(4_002)
+    text = made.text.encode()
+    run = partial(program.run_command, [sys.executable, "-c", LARGER, PYTHON], text, binding.shared)
+    wanted = [REFUSED, made.line(), 0, 3, [1, 10, 1_990, 3_980], [0, None], "", [0, None], 0, WRONG_WORDS]
+    yield "Python: a larger net", lambda: differing(run(), 0, (json.dumps(wanted) + "\n").encode())
+    for words in COMMANDS:
+        yield f"Python: --large {words[0]}", as_program(program, partial(binding.run, ["--large", *words], text), [*words, "--large"], text)
+
+
 def wrong_without_memory(answer, usual):
     """What is wrong where one request for memory was refused: the usual answer is right, its diagnosis may be missing; so is running out of memory."""
     if (answer.status, answer.output) == (usual.status, usual.output):
@@ -319,6 +345,8 @@ def by_threads(program, library):
     """Calls by eight threads at once: plainly, with the address sanitizer, and under valgrind; and the blocks of each call and each refused
     request."""
     every, some = (sorted(glob.glob(os.path.join(EXAMPLES, names))) for names in ("*.inet", FOR_VALGRIND))
+    # By the large limits each answer has to be the same: only the usual ones refuse this example.
+    every.remove(os.path.join(EXAMPLES, "right_member_too_large.inet"))
     counted = [os.path.join(EXAMPLES, f"{name}.inet") for name in COUNTED]
     plain = library.caller("threads")
     yield "blocks, each request refused", answering(partial(program.run_command, [plain, "blocks", *counted], b""), 0, b"")
@@ -407,7 +435,7 @@ def first_programs(program, library, shared):
 def own_failures(program, checker, binding, shared):
     """The statuses of the programs for what is none of the library's: wrong words, streams that fail, no library."""
     text = text_of("sum")
-    for words in ([], ["walk"], ["check", "1"], ["run", "1e6"], ["run", "-1"], ["run", "1", "2", "3"]):
+    for words in ([], ["walk"], ["--large"], ["check", "--large"], ["check", "1"], ["run", "1e6"], ["run", "-1"], ["run", "1", "2", "3"]):
         yield f"Python: words {words}", partial(wrong_status, binding, words, text, WRONG_WORDS)
     yield "Python: no library", partial(wrong_status, Binding(program, os.path.join(TOP, "no such file")), ["check"], text, OWN_FAILURE)
     yield "Python: another library", partial(wrong_status, Binding(program, "libc.so.6"), ["check"], text, OWN_FAILURE)
@@ -454,4 +482,5 @@ def library(program):
     yield from beside_program(program, checker, binding)
     yield from numbers(program, binding)
     yield from choices(program, binding)
+    yield from larger(program, binding)
     yield from refused_memory(checker)

@@ -594,7 +594,7 @@ class Native:
         if name == "run_by":
             answer, state = inet.run_by(text, *rest)
         elif name == "diagnose_data":
-            answer = inet._answer(inet._diagnose_data, text)
+            answer = inet._answer(inet._diagnose_data[False], text)
         else:
             answer = getattr(inet, name)(text, *rest)
         return [answer.status, len(answer.bytes), hashlib.sha256(answer.bytes).hexdigest(), list(state) if state else None]

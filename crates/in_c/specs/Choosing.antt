@@ -1,6 +1,7 @@
 -- The view of a run whose first pairs a caller chooses.
 use Rattle.std.specs.Prelude.{◌≡◌, ◌≢◌, ◌⊎◌, ◌<◌, ◌≤◌, ℕ, List, [], length, count_by, is_some, slice_get, Option, Some, None, Ok}
 use Rattle.in_syntax.specs.declared.faults.Refusal.{Refusal}
+use Rattle.in_syntax.specs.declared.text_limits.TextLimits.{TextLimits}
 use Rattle.in_check.specs.Checking.{IsAccepted, IsRefused}
 use Rattle.in_check.specs.Programs.{Program}
 use Rattle.in_limits.specs.AllowedLimits.{AreLimits}
@@ -55,10 +56,10 @@ ShowsProgram p choices l a =
     ⊎ (((c : CellClass) × (need : ℕ) × (free : ℕ) × DoesNotFit p l.cells c need free × AreGivenOut a [] no_run (status 4)) ⊎ AreGivenOut a [] no_run memory_status)
 
 -- .. of a text: of its program, or that it is refused
-abbrev pub ShowsText : List ℕ → List ℕ → Limits → Shown → Type 0
-ShowsText text choices l a =
-    ((p : Program) × IsAccepted text p × ShowsProgram p choices l a) ⊎ (((r : Refusal) × IsRefused text r × AreGivenOut a [] no_run (status 1)) ⊎ AreGivenOut a [] no_run memory_status)
+abbrev pub ShowsText : TextLimits → List ℕ → List ℕ → Limits → Shown → Type 0
+ShowsText limits text choices l a =
+    ((p : Program) × IsAccepted limits text p × ShowsProgram p choices l a) ⊎ (((r : Refusal) × IsRefused limits text r × AreGivenOut a [] no_run (status 1)) ⊎ AreGivenOut a [] no_run memory_status)
 
 -- .. within these numbers; nothing, with the status of wrong words, if one of them is out of range
-abbrev pub IsRunBy : List ℕ → List ℕ → ℕ → ℕ → Shown → Type 0
-IsRunBy text choices limit cells a = ((l : Limits) × AreLimits 1 limit cells (Some l) × ShowsText text choices l a) ⊎ (AreLimits 1 limit cells None × AreGivenOut a [] no_run (status 2))
+abbrev pub IsRunBy : TextLimits → List ℕ → List ℕ → ℕ → ℕ → Shown → Type 0
+IsRunBy limits text choices limit cells a = ((l : Limits) × AreLimits 1 limit cells (Some l) × ShowsText limits text choices l a) ⊎ (AreLimits 1 limit cells None × AreGivenOut a [] no_run (status 2))

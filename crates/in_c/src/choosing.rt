@@ -10,7 +10,7 @@ use in_chosen_runs::{Chosen, run_chosen};
 use in_print::write_net;
 use in_program::Status;
 use in_run::{Limits, Machine, StartFault};
-use in_syntax::Fault;
+use in_syntax::{Fault, TextLimits};
 use std::alloc::{AllocError, Global};
 
 /// The counts of a run: the number of choices done, of interactions after them, of active pairs left, and of agents.
@@ -136,10 +136,16 @@ fn run_by(alloc: Global, checked: &Checked, choices: &[u32], limits: Limits) -> 
 }
 
 /// The same of a text.
-fn run_text_by(alloc: Global, text: &[u8], choices: &[u32], limits: Limits) -> Shown
-    ensures { ShowsText text.now choices.now limits result }
+fn run_text_by(
+    alloc: Global,
+    text_limits: TextLimits,
+    text: &[u8],
+    choices: &[u32],
+    limits: Limits,
+) -> Shown
+    ensures { ShowsText text_limits text.now choices.now limits result }
 {
-    match check(alloc, text) {
+    match check(alloc, text_limits, text) {
         Ok(checked) => {
             let shown = run_by(alloc, &checked, choices, limits);
             drop(checked);
@@ -152,11 +158,18 @@ fn run_text_by(alloc: Global, text: &[u8], choices: &[u32], limits: Limits) -> S
 
 /// The end of a run of a text: first the pairs of these numbers interact, one after another, and then at most `limit` pairs first in, first out,
 /// with `cells` cells of each class. If one of the two is out of range, nothing is shown.
-pub fn ran_by(alloc: Global, text: &[u8], choices: &[u32], limit: u64, cells: u32) -> Shown
-    ensures { IsRunBy text.now choices.now limit cells result }
+pub fn ran_by(
+    alloc: Global,
+    text_limits: TextLimits,
+    text: &[u8],
+    choices: &[u32],
+    limit: u64,
+    cells: u32,
+) -> Shown
+    ensures { IsRunBy text_limits text.now choices.now limit cells result }
 {
     match Limits::new(1, limit, cells) {
-        Some(limits) => run_text_by(alloc, text, choices, limits),
+        Some(limits) => run_text_by(alloc, text_limits, text, choices, limits),
         None => nothing(alloc, WRONG_WORDS),
     }
 }

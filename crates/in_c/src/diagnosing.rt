@@ -2,13 +2,14 @@ ghost use Rattle.in_c.specs.Answers.{IsDiagnosis, IsDiagnosisData};
 
 use crate::answers::{ACCEPTED, Answer, MEMORY, REFUSED};
 use in_diagnosis::{diagnosis, diagnosis_data};
+use in_syntax::TextLimits;
 use std::alloc::Global;
 
 /// The diagnosis of a refused text.
-pub fn told(alloc: Global, text: &[u8]) -> Answer
-    ensures { IsDiagnosis text.now result.bytes.items result.status }
+pub fn told(alloc: Global, text_limits: TextLimits, text: &[u8]) -> Answer
+    ensures { IsDiagnosis text_limits text.now result.bytes.items result.status }
 {
-    match diagnosis(alloc, text) {
+    match diagnosis(alloc, text_limits, text) {
         Ok(Some(words)) => Answer {
             bytes: words.into_bytes(),
             status: REFUSED,
@@ -25,10 +26,10 @@ pub fn told(alloc: Global, text: &[u8]) -> Answer
 }
 
 /// The same as data.
-pub fn told_as_data(alloc: Global, text: &[u8]) -> Answer
-    ensures { IsDiagnosisData text.now result.bytes.items result.status }
+pub fn told_as_data(alloc: Global, text_limits: TextLimits, text: &[u8]) -> Answer
+    ensures { IsDiagnosisData text_limits text.now result.bytes.items result.status }
 {
-    match diagnosis_data(alloc, text) {
+    match diagnosis_data(alloc, text_limits, text) {
         Ok(Some(line)) => Answer {
             bytes: line,
             status: REFUSED,

@@ -3,10 +3,11 @@
 //!
 //! Nothing is kept from call to call, so several threads may call at once, each on its own text and room.
 //!
-//! There is an export for each call. It makes its answer in memory (`saying`, `exporting`, `diagnosing`) by a writer that keeps all bytes
-//! (`collecting`), and copies it to the caller's room (`giving`); or it answers by numbers (`refusing`, `verifying`). The answers are those of
-//! `in_program`'s `report_text` and `run_text`. `run_text` runs with one worker, since an export has no runtime to give to `act`. No crate can use a
-//! static library, so its tests are `tests/run --only library`. `docs/use/LIBRARY.md` has the page for users.
+//! There are two exports for each call: the one here is for a text with the usual limits, the one in `large` for a text with the large limits. An
+//! export makes its answer in memory (`saying`, `exporting`, `diagnosing`) by a writer that keeps all bytes (`collecting`), and copies it to the
+//! caller's room (`giving`); or it answers by numbers (`refusing`, `verifying`). The answers are those of `in_program`'s `report_text` and `run_text`.
+//! `run_text` runs with one worker, since an export has no runtime to give to `act`. No crate can use a static library, so its tests are
+//! `tests/run --only library`. `docs/use/LIBRARY.md` has the page for users.
 #![tactic(auto)]
 
 ghost use Rattle.std.specs.Prelude.{◌≡◌};
@@ -14,6 +15,7 @@ ghost use Rattle.in_c.specs.Answers.{Answers, AnswersRun, AnswersRunBy, Diagnose
 ghost use Rattle.in_c.specs.Numbers.{version_number};
 ghost use Rattle.in_program.specs.Acting.{status};
 ghost use Rattle.in_command_line.specs.declared.action.Action.TheVariants.{Check, Derive};
+ghost use Rattle.in_syntax.specs.declared.text_limits.TextLimits.TheVariants.{Usual};
 
 mod answers;
 mod choosing;
@@ -21,6 +23,7 @@ mod collecting;
 mod diagnosing;
 mod exporting;
 mod giving;
+pub mod large;
 pub mod laws;
 mod refusing;
 mod saying;
@@ -35,6 +38,7 @@ use crate::refusing::{Numbers, refused};
 use crate::saying::{ran, reported};
 use crate::verifying::verified;
 use in_certificates::GivenStep;
+use in_syntax::TextLimits;
 use std::alloc::Global;
 
 /// The version of these calls: a million for the first number of `in_version`'s, a thousand for the second one, and the third one.
@@ -52,17 +56,21 @@ pub extern "C" fn inet_version() -> u32
 /// status.
 #[unsafe(no_mangle)]
 pub extern "C" fn inet_check(alloc: Global, text: &[u8], room: &mut [u8], length: &mut usize) -> u8
-    ensures { Answers Check text.now room.old room.new length.new result }
+    ensures { Answers Usual Check text.now room.old room.new length.new result }
 {
-    give(reported(alloc, false, text), room, length)
+    give(
+        reported(alloc, TextLimits::Usual, false, text),
+        room,
+        length,
+    )
 }
 
 /// The same of `inet derive`.
 #[unsafe(no_mangle)]
 pub extern "C" fn inet_derive(alloc: Global, text: &[u8], room: &mut [u8], length: &mut usize) -> u8
-    ensures { Answers Derive text.now room.old room.new length.new result }
+    ensures { Answers Usual Derive text.now room.old room.new length.new result }
 {
-    give(reported(alloc, true, text), room, length)
+    give(reported(alloc, TextLimits::Usual, true, text), room, length)
 }
 
 /// The same of `inet run` with one worker, at most `limit` interactions, and `cells` cells of each class: if one of the two numbers is out of range,
@@ -76,9 +84,13 @@ pub extern "C" fn inet_run(
     room: &mut [u8],
     length: &mut usize,
 ) -> u8
-    ensures { AnswersRun limit cells text.now room.old room.new length.new result }
+    ensures { AnswersRun Usual limit cells text.now room.old room.new length.new result }
 {
-    give(ran(alloc, limit, cells, text), room, length)
+    give(
+        ran(alloc, TextLimits::Usual, limit, cells, text),
+        room,
+        length,
+    )
 }
 
 /// The diagnosis that `inet check` writes to standard error on a refused text; nothing if it is accepted, and none when out of memory. Returns the
@@ -90,9 +102,9 @@ pub extern "C" fn inet_diagnose(
     room: &mut [u8],
     length: &mut usize,
 ) -> u8
-    ensures { Diagnoses text.now room.old room.new length.new result }
+    ensures { Diagnoses Usual text.now room.old room.new length.new result }
 {
-    give(Ok(told(alloc, text)), room, length)
+    give(Ok(told(alloc, TextLimits::Usual, text)), room, length)
 }
 
 /// The same diagnosis as data: one JSON object and a line feed, as by `in_diagnosis::diagnosis_data`; nothing if the text is accepted, and none
@@ -104,26 +116,30 @@ pub extern "C" fn inet_diagnose_data(
     room: &mut [u8],
     length: &mut usize,
 ) -> u8
-    ensures { DiagnosesAsData text.now room.old room.new length.new result }
+    ensures { DiagnosesAsData Usual text.now room.old room.new length.new result }
 {
-    give(Ok(told_as_data(alloc, text)), room, length)
+    give(
+        Ok(told_as_data(alloc, TextLimits::Usual, text)),
+        room,
+        length,
+    )
 }
 
 /// The accepted program as data, as the program `inet_export` writes it; if the text is refused, the output of `inet check`. Returns the program's
 /// status.
 #[unsafe(no_mangle)]
 pub extern "C" fn inet_export(alloc: Global, text: &[u8], room: &mut [u8], length: &mut usize) -> u8
-    ensures { AnswersExport text.now room.old room.new length.new result }
+    ensures { AnswersExport Usual text.now room.old room.new length.new result }
 {
-    give(exported(alloc, text), room, length)
+    give(exported(alloc, TextLimits::Usual, text), room, length)
 }
 
 /// The refusal of a text as numbers; all are 0 if it is accepted, and when out of memory. Returns the status of the text.
 #[unsafe(no_mangle)]
 pub extern "C" fn inet_refusal(alloc: Global, text: &[u8], refusal: &mut Numbers) -> u8
-    ensures { IsRefusedAs text.now refusal.new (status result) }
+    ensures { IsRefusedAs Usual text.now refusal.new (status result) }
 {
-    let (numbers, status) = refused(alloc, text);
+    let (numbers, status) = refused(alloc, TextLimits::Usual, text);
     *refusal = numbers;
     status.0
 }
@@ -138,9 +154,9 @@ pub extern "C" fn inet_verify(
     steps: &[GivenStep],
     parts: &[u32],
 ) -> u8
-    ensures { IsVerified text.now number steps.now parts.now (status result) }
+    ensures { IsVerified Usual text.now number steps.now parts.now (status result) }
 {
-    verified(alloc, text, number, steps, parts).0
+    verified(alloc, TextLimits::Usual, text, number, steps, parts).0
 }
 
 /// A run in which first the pairs of these numbers in the queue interact, one after another, and then at most `limit` pairs first in, first out,
@@ -159,13 +175,13 @@ pub extern "C" fn inet_run_by(
     room: &mut [u8],
     length: &mut usize,
 ) -> u8
-    ensures { AnswersRunBy limit cells text.now choices.now numbers.new room.old room.new length.new result }
+    ensures { AnswersRunBy Usual limit cells text.now choices.now numbers.new room.old room.new length.new result }
 {
     let Shown {
         numbers: found,
         bytes,
         status,
-    } = ran_by(alloc, text, choices, limit, cells);
+    } = ran_by(alloc, TextLimits::Usual, text, choices, limit, cells);
     *numbers = found;
     give(Ok(Answer { bytes, status }), room, length)
 }

@@ -7,7 +7,7 @@ use crate::answers::{ACCEPTED, MEMORY, REFUSED};
 use in_check::check;
 use in_diagnosis::code_number;
 use in_program::Status;
-use in_syntax::{Fault, Refusal};
+use in_syntax::{Fault, Refusal, TextLimits};
 use std::alloc::Global;
 
 /// A refusal of a text: the number of the code, 1 to 15; the line and the column, from 1; the number, from 0, of the place's first byte, and of the
@@ -62,10 +62,10 @@ fn no_numbers() -> Numbers
 }
 
 /// The refusal of a text, and the status of the text.
-pub fn refused(alloc: Global, text: &[u8]) -> (Numbers, Status)
-    ensures { IsRefusedAs text.now result.0 result.1 }
+pub fn refused(alloc: Global, text_limits: TextLimits, text: &[u8]) -> (Numbers, Status)
+    ensures { IsRefusedAs text_limits text.now result.0 result.1 }
 {
-    match check(alloc, text) {
+    match check(alloc, text_limits, text) {
         Ok(_program) => (no_numbers(), ACCEPTED),
         Err(Fault::Refused(refusal)) => (numbers_of(refusal), REFUSED),
         Err(Fault::Memory(_)) => (no_numbers(), MEMORY),

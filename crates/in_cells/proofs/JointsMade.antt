@@ -12,7 +12,7 @@ use Rattle.in_net.specs.ActivePairs.{IsOrdered}
 use Rattle.in_net.specs.Nets.{Point, Port, Free, Net, signature_of}
 use Rattle.in_net.specs.Parts.{symbol_in}
 use Rattle.in_symbols.specs.Tables.{Tables}
-use Rattle.in_symbols.specs.declared.symbols.SymbolNo.{SymbolNo}
+use Rattle.in_syntax.specs.declared.symbol_no.SymbolNo.{SymbolNo}
 use Rattle.in_gluing.specs.AsGluing.{ends_from, two_parts, old_and_new}
 use Rattle.in_gluing.specs.EndByEnd.{outer_end, inner_end}
 use Rattle.in_gluing.specs.Joining.{JoinsEnds}

@@ -14,7 +14,7 @@ use Rattle.in_net.specs.Interactions.{Redex, Outer}
 use Rattle.in_net.specs.Nets.{Point, Port, Free, Signature, Net, IsPoint, net_of, signature_of}
 use Rattle.in_net.proofs.Public.{symbol_of, symbol_known}
 use Rattle.in_symbols.specs.Tables.{Tables, IsSymbol}
-use Rattle.in_symbols.specs.declared.symbols.SymbolNo.{SymbolNo}
+use Rattle.in_syntax.specs.declared.symbol_no.SymbolNo.{SymbolNo}
 use Rattle.in_net.specs.Built.{IsOver}
 use Rattle.in_net.specs.Parts.{Parts, symbol_in}
 use Rattle.in_gluing.specs.AsGluing.{IsInRest, IsRestOf, CanStep, boundary_port}

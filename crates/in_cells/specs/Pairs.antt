@@ -8,7 +8,7 @@ use Rattle.in_interaction.specs.Queues.{numbers_of}
 use Rattle.in_net.specs.declared.nets.AgentNo.{AgentNo}
 use Rattle.in_net.specs.ActivePairs.{IsOrdered}
 use Rattle.in_symbols.specs.Tables.{Tables}
-use Rattle.in_symbols.specs.declared.symbols.SymbolNo.{SymbolNo}
+use Rattle.in_syntax.specs.declared.symbol_no.SymbolNo.{SymbolNo}
 
 -- if the end is at a cell, the cell is live
 abbrev pub IsAtLive : ArenaView → End → Type 0

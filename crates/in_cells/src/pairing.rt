@@ -7,7 +7,8 @@ ghost use Rattle.in_cells.specs.Pairs.{IsAtLive, IsPairOf, IsNoPair, AddsPair};
 
 use in_arena::{Arena, CellNo, EndWord};
 use in_net::{AgentNo, in_order};
-use in_symbols::{SymbolNo, Symbols};
+use in_symbols::Symbols;
+use in_syntax::SymbolNo;
 
 /// An agent of the net with its symbol.
 #[inline(always)]

@@ -32,10 +32,10 @@ module _ (p q : Certified) (one : AreOneCertified p q) (k : ℕ) where
       same_test b c (λ yes. g.1 (subst same shape_same (h.0 yes))) (λ yes. h.1 (subst same (sym shape_same) (g.0 yes)))
 
 pub steps_are_judged_once : StepsAreJudgedOnce
-steps_are_judged_once text k given parts (Ok b) (Ok c) (p, accepted, h) (q, accepted_too, g) = judged_alike p q (checked_once text (Ok p) (Ok q) accepted accepted_too) k given parts b c h g
-steps_are_judged_once text k given parts (Ok b) (Err (Refused r)) (p, accepted, h) refused = checked_once text (Ok p) (Err (Refused r)) accepted refused
-steps_are_judged_once text k given parts (Ok b) (Err (Memory e)) h g = tt
-steps_are_judged_once text k given parts (Err (Refused r)) (Ok b) refused (p, accepted, h) = checked_once text (Err (Refused r)) (Ok p) refused accepted
-steps_are_judged_once text k given parts (Err (Refused r)) (Err (Refused s)) one other = checked_once text (Err (Refused r)) (Err (Refused s)) one other
-steps_are_judged_once text k given parts (Err (Refused r)) (Err (Memory e)) h g = tt
-steps_are_judged_once text k given parts (Err (Memory e)) b h g = tt
+steps_are_judged_once limits text k given parts (Ok b) (Ok c) (p, accepted, h) (q, accepted_too, g) = judged_alike p q (checked_once limits text (Ok p) (Ok q) accepted accepted_too) k given parts b c h g
+steps_are_judged_once limits text k given parts (Ok b) (Err (Refused r)) (p, accepted, h) refused = checked_once limits text (Ok p) (Err (Refused r)) accepted refused
+steps_are_judged_once limits text k given parts (Ok b) (Err (Memory e)) h g = tt
+steps_are_judged_once limits text k given parts (Err (Refused r)) (Ok b) refused (p, accepted, h) = checked_once limits text (Err (Refused r)) (Ok p) refused accepted
+steps_are_judged_once limits text k given parts (Err (Refused r)) (Err (Refused s)) one other = checked_once limits text (Err (Refused r)) (Err (Refused s)) one other
+steps_are_judged_once limits text k given parts (Err (Refused r)) (Err (Memory e)) h g = tt
+steps_are_judged_once limits text k given parts (Err (Memory e)) b h g = tt

@@ -1,5 +1,6 @@
 -- Whether given steps build a rule or the net of a text.
 use Rattle.std.specs.Prelude.{ℕ, nat_lt, ◌==◌, if◌then◌else◌, Bool, IsTrue, ◌↔◌, List, length, Option, Some, None, option_map, Result, Ok, Err}
+use Rattle.in_syntax.specs.declared.text_limits.TextLimits.{TextLimits}
 use Rattle.in_syntax.specs.declared.faults.Fault.{Fault}
 use Rattle.in_syntax.specs.declared.faults.Fault.TheVariants.{Refused, Memory}
 use Rattle.in_open_nets.specs.OpenNets.{OpenNet}
@@ -27,7 +28,7 @@ AreStepsOf (Some shape) (Some steps) = IsDerivation shape steps
 AreStepsOf _ _ = ⊥
 
 -- whether the numbers are steps that build the rule of that number, or the net, of the accepted program; or the text has this refusal
-abbrev pub Verifies : List ℕ → ℕ → List GivenStep → List ℕ → Result Bool Fault → Type 0
-Verifies text k given parts (Ok builds) = (c : Certified) × IsCertified text c × (IsTrue builds ↔ AreStepsOf (shape_of c (item_of c.program k)) (steps_of parts given))
-Verifies text k given parts (Err (Refused r)) = IsRefused text r
-Verifies text k given parts (Err (Memory e)) = Unit {0}
+abbrev pub Verifies : TextLimits → List ℕ → ℕ → List GivenStep → List ℕ → Result Bool Fault → Type 0
+Verifies limits text k given parts (Ok builds) = (c : Certified) × IsCertified limits text c × (IsTrue builds ↔ AreStepsOf (shape_of c (item_of c.program k)) (steps_of parts given))
+Verifies limits text k given parts (Err (Refused r)) = IsRefused limits text r
+Verifies limits text k given parts (Err (Memory e)) = Unit {0}

@@ -8,7 +8,7 @@ use crate::given::{GivenStep, steps_of};
 use in_check::{Checked, Item, check};
 use in_cover::RuleNo;
 use in_simple::{Derivation, OpenNet, verify};
-use in_syntax::Fault;
+use in_syntax::{Fault, TextLimits};
 use std::alloc::{AllocError, Global};
 
 /// The rule of that number, or the net, which has the number after the last rule's.
@@ -55,8 +55,8 @@ fn builds_item(
     }
 }
 
-/// Whether these steps build the open net of a rule of a text's program, or of its net, if the text is accepted: each names earlier steps
-/// that fit it, each except the last is named once, each node is in one step, and the open ends of the last one lead to the free ends. `number`
+/// Whether these steps build the open net of a rule of the program of a text with these limits, or of its net, if the text is accepted: each names
+/// earlier steps that fit it, each except the last is named once, each node is in one step, and the open ends of the last one lead to the free ends. `number`
 /// is the rule's, from 0 in the order of the text, or the number of rules for the net; for any other number the answer is no. The nodes and
 /// wires are numbered as `in_export` writes them, and `parts` has the steps to which agents are grafted. The answer is that of
 /// `in_simple::verify`, for steps from anywhere.
@@ -64,14 +64,15 @@ fn builds_item(
 /// Otherwise the text is refused as `check` refuses it, or memory runs out.
 pub fn verify_given(
     alloc: Global,
+    limits: TextLimits,
     text: &[u8],
     number: u32,
     given: &[GivenStep],
     parts: &[u32],
 ) -> Result<bool, Fault>
-    ensures { Verifies text.now number given.now parts.now result }
+    ensures { Verifies limits text.now number given.now parts.now result }
 {
-    let checked = check(alloc, text)?;
+    let checked = check(alloc, limits, text)?;
     match builds_item(alloc, &checked, number, given, parts) {
         Ok(yes) => Ok(yes),
         Err(error) => Err(Fault::Memory(error)),

@@ -20,7 +20,7 @@ use Rattle.in_base.proofs.Each.{at_index}
 -- ---- rule by rule
 
 pub rules_whole : (s : Source) (t : Tables) (rules : List RuleParts) → BuildsRules s t (Ok rules) → AllByRecursion (IsRuleWhole t) rules
-rules_whole s t rules h = all_of (IsRuleWhole t) rules (λ i p e. let b = h.each i p e in rule_whole t b.0 p b.2)
+rules_whole s t rules h = all_of (IsRuleWhole t) rules (λ i p e. let b = h.each i p e in rule_whole s.limits t b.0 p b.2)
 
 -- the first rule that is refused
 pub at_stuck_rule : (t : Tables) (rules : List RuleParts) (cs : List Certificate) (i : ℕ) (p : RuleParts) (e : Fault) → slice_get rules i ≡ Some p → length cs ≡ i →

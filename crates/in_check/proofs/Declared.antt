@@ -10,6 +10,8 @@ use Rattle.in_check.specs.declared.checking.DeclaredText.{DeclaredText}
 use Rattle.in_check.specs.Checking.{AreOfText, BuildsRules, ChecksNames, ChecksNet, ChecksRules, ChecksTypes, DeclaresNames, DeclaresText, IsChecked}
 use Rattle.in_check.specs.Programs.{Certified}
 use Rattle.in_check.proofs.Chain.{chain_of, then_rest}
+use Rattle.in_syntax.specs.declared.text_limits.TextLimits.{TextLimits}
+use Rattle.in_syntax.proofs.Public.{of_text}
 
 -- all declared parts are of one tree
 pub declared_of : (s : Source) (d : DeclaredText) → IsOfText s → DeclaresNames s (Ok d) → AreOfText d.symbols d.rules d.net
@@ -39,13 +41,13 @@ names_refused s (Refused r) (inr (t, tabulates, inr (rules, builds_rules, inr (n
 names_refused s (Memory e) h = tt
 
 -- .. and so for a text
-pub text_declared : (text : List ℕ) (d : DeclaredText) → DeclaresText text (Ok d) → AreOfText d.symbols d.rules d.net
-text_declared text d (s, parses, h) = declared_of s d (record { text = text; tree = parses }) h
+pub text_declared : (limits : TextLimits) (text : List ℕ) (d : DeclaredText) → DeclaresText limits text (Ok d) → AreOfText d.symbols d.rules d.net
+text_declared limits text d (s, parses, h) = declared_of s d (of_text limits text s parses) h
 
-pub text_checked : (text : List ℕ) (d : DeclaredText) (x : Result Certified Fault) → DeclaresText text (Ok d) → ChecksTypes d.symbols d.rules d.net x → IsChecked text x
-text_checked text d x (s, parses, h) typed = chain_of text x (then_rest (Parses text) ChecksNames s x parses (names_checked s d x h typed))
+pub text_checked : (limits : TextLimits) (text : List ℕ) (d : DeclaredText) (x : Result Certified Fault) → DeclaresText limits text (Ok d) → ChecksTypes d.symbols d.rules d.net x → IsChecked limits text x
+text_checked limits text d x (s, parses, h) typed = chain_of limits text x (then_rest (Parses limits text) ChecksNames s x parses (names_checked s d x h typed))
 
-pub text_refused : (text : List ℕ) (e : Fault) → DeclaresText text (Err e) → IsChecked text (Err e)
-text_refused text (Refused r) (inl h) = chain_of text (Err (Refused r)) (inl h)
-text_refused text (Refused r) (inr (s, parses, h)) = chain_of text (Err (Refused r)) (inr (s, parses, names_refused s (Refused r) h))
-text_refused text (Memory e) h = chain_of text (Err (Memory e)) tt
+pub text_refused : (limits : TextLimits) (text : List ℕ) (e : Fault) → DeclaresText limits text (Err e) → IsChecked limits text (Err e)
+text_refused limits text (Refused r) (inl h) = chain_of limits text (Err (Refused r)) (inl h)
+text_refused limits text (Refused r) (inr (s, parses, h)) = chain_of limits text (Err (Refused r)) (inr (s, parses, names_refused s (Refused r) h))
+text_refused limits text (Memory e) h = chain_of limits text (Err (Memory e)) tt

@@ -6,7 +6,7 @@ use Rattle.in_syntax.specs.declared.faults.Fault.TheVariants.{Refused, Memory}
 use Rattle.in_syntax.specs.declared.tree.Source.{Source}
 use Rattle.in_syntax.specs.Answers.{AgreeBy, IsOneBy}
 use Rattle.in_syntax.specs.Parsing.{IsOfText, Parses}
-use Rattle.in_syntax.proofs.Public.{then_same, then_two, texts_begin_apart, parsed_once}
+use Rattle.in_syntax.proofs.Public.{of_text, then_same, then_two, texts_begin_apart, parsed_once}
 use Rattle.in_symbols.specs.Tables.{Tables, Tabulates}
 use Rattle.in_symbols.proofs.Public.{one_tables}
 use Rattle.in_net.specs.Parts.{Parts}
@@ -28,6 +28,7 @@ use Rattle.in_check.specs.Checking.{BuildsRules, ChecksNames, ChecksNet, ChecksN
 use Rattle.in_check.specs.Laws.{AreOneCertified, AreOneProgram, TextsAreCheckedOnce}
 use Rattle.in_check.specs.Programs.{Certified, Program}
 use Rattle.in_check.proofs.OnePass.{AllOne, one_certified, one_rules, one_rules_steps, one_types}
+use Rattle.in_syntax.specs.declared.text_limits.TextLimits.{TextLimits}
 
 kept : (t : Tables) (rules : List RuleParts) (n : Parts) (a b : Cells) (cs : List Certificate) (c : Certificate) → AreOneTable a b → (x y : Result Certified Fault) → KeepsAnswers t rules n a cs c x → KeepsAnswers t rules n b cs c y → AgreeBy AreOneCertified x y
 kept t rules n a b cs c e (Ok p) (Ok q) h k =
@@ -44,7 +45,7 @@ net_opens : (s : Source) (t : Tables) (n : Parts) (o : OpenNet) → Tabulates s 
 net_opens s t n o tabled builds opens = is_open_net t n o (tables_numbered s t tabled.0) builds.1.whole builds.0 opens
 
 rule_opens : (s : Source) (t : Tables) (i : ℕ) (p : RuleParts) (o : OpenNet) → Tabulates s (Ok t) → BuildsRule s t i (Ok p) → OpensRule t p o → IsOpenNet o
-rule_opens s t i p o tabled builds opens = rules_open t p o (tables_numbered s t tabled.0) (rule_whole t builds.0 p builds.2) builds.2.1.member.whole builds.2.0 opens
+rule_opens s t i p o tabled builds opens = rules_open t p o (tables_numbered s t tabled.0) (rule_whole s.limits t builds.0 p builds.2) builds.2.1.member.whole builds.2.0 opens
 
 -- ---- each pass up to the net has one result, and then the others
 
@@ -73,17 +74,17 @@ module _ (s : Source) (t : Tables) (of_text : IsOfText s) (tabled : Tabulates s 
 
 pub checked_once : TextsAreCheckedOnce
 unfolding IsChecked
-checked_once text =
-    then_same AreOneCertified (Parses text) ChecksNames (parsed_once text) (λ s tree.
-    let of_text : IsOfText s = record { text = text; tree = tree } in
-    then_same AreOneCertified (Tabulates s) (ChecksRules s) (one_tables s (texts_begin_apart text s tree)) (λ t tabled. rules_and_net_once s t of_text tabled))
+checked_once limits text =
+    then_same AreOneCertified (Parses limits text) ChecksNames (parsed_once limits text) (λ s tree.
+    let tree_of : IsOfText s = of_text limits text s tree in
+    then_same AreOneCertified (Tabulates s) (ChecksRules s) (one_tables s (texts_begin_apart limits text s tree)) (λ t tabled. rules_and_net_once s t tree_of tabled))
 
 -- .. so an accepted text has one program, and no refusal
-pub programs_once : (text : List ℕ) (p q : Program) → IsAccepted text p → IsAccepted text q → AreOneProgram p q
-programs_once text p q (c, is, h) (d, was, k) = subst (AreOneProgram p) was (subst (λ z. AreOneProgram z d.program) is (checked_once text (Ok c) (Ok d) h k).program)
+pub programs_once : (limits : TextLimits) (text : List ℕ) (p q : Program) → IsAccepted limits text p → IsAccepted limits text q → AreOneProgram p q
+programs_once limits text p q (c, is, h) (d, was, k) = subst (AreOneProgram p) was (subst (λ z. AreOneProgram z d.program) is (checked_once limits text (Ok c) (Ok d) h k).program)
 
-pub never_both : (text : List ℕ) (p : Program) (r : Refusal) → IsAccepted text p → IsRefused text r → ⊥
-never_both text p r (c, is, h) k = checked_once text (Ok c) (Err (Refused r)) h k
+pub never_both : (limits : TextLimits) (text : List ℕ) (p : Program) (r : Refusal) → IsAccepted limits text p → IsRefused limits text r → ⊥
+never_both limits text p r (c, is, h) k = checked_once limits text (Ok c) (Err (Refused r)) h k
 
 -- ---- findings
 

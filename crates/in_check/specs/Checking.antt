@@ -19,6 +19,7 @@ use Rattle.in_check.specs.declared.checked.Certificate.{Certificate}
 use Rattle.in_check.specs.declared.checking.DeclaredText.{DeclaredText}
 use Rattle.in_check.specs.Certificates.{CertifiesRules, CertifiesNet}
 use Rattle.in_check.specs.Programs.{Certified, Program}
+use Rattle.in_syntax.specs.declared.text_limits.TextLimits.{TextLimits}
 
 -- ---- rule by rule
 
@@ -100,8 +101,8 @@ ChecksNames s = Then (Tabulates s) (ChecksRules s)
 
 -- the tree, and the rest: the program that all passes accept, with its certificates, or the refusal of the first that refuses. (A proof that
 -- only has a program need not look inside.)
-unfoldable pub IsChecked : List ℕ → Result Certified Fault → Type 0
-IsChecked text = Then (Parses text) ChecksNames
+unfoldable pub IsChecked : TextLimits → List ℕ → Result Certified Fault → Type 0
+IsChecked limits text = Then (Parses limits text) ChecksNames
 
 -- ---- the parts that a text declares, before the passes over them
 
@@ -119,22 +120,22 @@ DeclaresRules s t = Then (BuildsRules s t) (DeclaresNet s t)
 abbrev pub DeclaresNames : Source → Result DeclaredText Fault → Type 0
 DeclaresNames s = Then (Tabulates s) (DeclaresRules s)
 
-abbrev pub DeclaresText : List ℕ → Result DeclaredText Fault → Type 0
-DeclaresText text = Then (Parses text) DeclaresNames
+abbrev pub DeclaresText : TextLimits → List ℕ → Result DeclaredText Fault → Type 0
+DeclaresText limits text = Then (Parses limits text) DeclaresNames
 
 -- ---- all passes
 
 -- the program of a text that all passes accept, with its certificates
-abbrev pub IsCertified : List ℕ → Certified → Type 0
-IsCertified text c = IsChecked text (Ok c)
+abbrev pub IsCertified : TextLimits → List ℕ → Certified → Type 0
+IsCertified limits text c = IsChecked limits text (Ok c)
 
 -- .. and the program alone
-abbrev pub IsAccepted : List ℕ → Program → Type 0
-IsAccepted text p = (c : Certified) × (c.program ≡ p) × IsCertified text c
+abbrev pub IsAccepted : TextLimits → List ℕ → Program → Type 0
+IsAccepted limits text p = (c : Certified) × (c.program ≡ p) × IsCertified limits text c
 
 -- the first pass that refuses the text gives this refusal
-abbrev pub IsRefused : List ℕ → Refusal → Type 0
-IsRefused text r = IsChecked text (Err (Refused r))
+abbrev pub IsRefused : TextLimits → List ℕ → Refusal → Type 0
+IsRefused limits text r = IsChecked limits text (Err (Refused r))
 
 -- the refusal is found; if memory ran out, the finding is that of before
 abbrev pub IsFound : Option Refusal → Option Refusal → Fault → Type 0
@@ -145,9 +146,9 @@ IsFound before found (Memory e) = found ≡ before
 
 -- the text has a tree, the tree tables, rules and a net, each wire fits, each pair has its rule, and each rule and the net are built by
 -- their steps
-pub record IsProgramOf (text : List ℕ) (p : Program) : Type 0 where
+pub record IsProgramOf (limits : TextLimits) (text : List ℕ) (p : Program) : Type 0 where
   pub source : Source
-  pub parses : Parses text (Ok source)
+  pub parses : Parses limits text (Ok source)
   pub tabulates : Tabulates source (Ok p.tables)
   pub builds_rules : BuildsRules source p.tables (Ok p.rules)
   pub builds : Builds source p.tables (Ok p.net)

@@ -6,6 +6,7 @@ use Rattle.in_syntax.specs.Answers.{IsOneBy}
 use Rattle.in_cover.specs.Laws.{AreOneTable}
 use Rattle.in_check.specs.Checking.{IsChecked, IsFound}
 use Rattle.in_check.specs.Programs.{Certified, Program}
+use Rattle.in_syntax.specs.declared.text_limits.TextLimits.{TextLimits}
 
 -- two programs of one text: their values for each accessor are equal
 pub record AreOneProgram (p q : Program) : Type 0 where
@@ -22,7 +23,7 @@ pub record AreOneCertified (c d : Certified) : Type 0 where
 
 -- all results that checking may have for a text agree
 abbrev pub TextsAreCheckedOnce : Type 0
-TextsAreCheckedOnce = (text : List ℕ) → IsOneBy AreOneCertified (IsChecked text)
+TextsAreCheckedOnce = (limits : TextLimits) (text : List ℕ) → IsOneBy AreOneCertified (IsChecked limits text)
 
 -- after a fault there is one finding
 abbrev pub FindingsAreOne : Type 0

@@ -1,7 +1,7 @@
 -- The state of a run: the slow reducer's program, net and count, and the result of one step. That its
 -- agents are numbers, and which numbers new agents get, is this project's own choice; the interaction is that of Lafont 1990.
 use Rattle.std.specs.Prelude.{◌≡◌, ◌≤◌, count_by, is_some, ◌++◌, ℕ, zero, suc, true, List, map, slice_get, Some}
-use Rattle.in_symbols.specs.declared.symbols.SymbolNo.{SymbolNo}
+use Rattle.in_syntax.specs.declared.symbol_no.SymbolNo.{SymbolNo}
 use Rattle.in_symbols.specs.Tables.{is_constructor}
 use Rattle.in_net.specs.declared.nets.AgentNo.{AgentNo}
 use Rattle.in_net.specs.declared.nets.Point.TheVariants.{Port}
@@ -16,6 +16,7 @@ use Rattle.in_check.specs.Programs.{Program}
 use Rattle.in_check.specs.Promises.{IsAsPromised}
 use Rattle.in_check.specs.Runs.{Reached}
 use Rattle.in_check.specs.Systems.{system_of}
+use Rattle.in_syntax.specs.declared.text_limits.TextLimits.{TextLimits}
 
 -- the program and its net
 pub record PlainParts : Type 0 where
@@ -81,7 +82,7 @@ PlainStepsUnderNames = (p q : PlainParts) (a b : AgentNo) (name : ℕ → ℕ) �
 
 -- .. and in an accepted program a step leads to one net: its net with its numbers, its wires in their order, and its free ends
 abbrev pub PlainStepsAreOne : Type 0
-PlainStepsAreOne = (text : List ℕ) (p q r : PlainParts) (a b : AgentNo) → IsAccepted text p.program → IsPlain p → IsPairAt p a b → count_by is_some p.net.cells ≤ most_agents →
+PlainStepsAreOne = (limits : TextLimits) (text : List ℕ) (p q r : PlainParts) (a b : AgentNo) → IsAccepted limits text p.program → IsPlain p → IsPairAt p a b → count_by is_some p.net.cells ≤ most_agents →
     IsWhole q.net → IsWhole r.net → StepsTo p a b q → StepsTo p a b r → q ≡ r
 
 -- the symbols of an active pair match, and each rule for them, in either order, has them in this order
@@ -91,9 +92,9 @@ HasItsRules p a b at =
 
 -- .. and so for each active pair of an accepted program
 abbrev pub PairsHaveTheirRule : Type 0
-PairsHaveTheirRule = (text : List ℕ) (p : PlainParts) (a b : AgentNo) → IsAccepted text p.program → IsPlain p → (at : IsPairAt p a b) →
+PairsHaveTheirRule = (limits : TextLimits) (text : List ℕ) (p : PlainParts) (a b : AgentNo) → IsAccepted limits text p.program → IsPlain p → (at : IsPairAt p a b) →
     HasItsRules p a b at
 
 -- .. and each net that is reached is as promised
 abbrev pub PlainAsPromised : Type 0
-PlainAsPromised = (text : List ℕ) (p : PlainParts) → IsAccepted text p.program → IsPlain p → IsAsPromised (system_of p.program) (net_of p.net)
+PlainAsPromised = (limits : TextLimits) (text : List ℕ) (p : PlainParts) → IsAccepted limits text p.program → IsPlain p → IsAsPromised (system_of p.program) (net_of p.net)

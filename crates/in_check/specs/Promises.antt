@@ -15,6 +15,7 @@ use Rattle.in_check.specs.Runs.{IsRenamed, moved, IsPairWithRule, IsInteraction,
 use Rattle.in_check.specs.Systems.{System, IsMatching, HasOneRule, IsSoundSystem, system_of}
 use Rattle.in_check.specs.Checking.{IsAccepted}
 use Rattle.in_check.specs.Programs.{Program}
+use Rattle.in_syntax.specs.declared.text_limits.TextLimits.{TextLimits}
 
 -- ---- the six sentences
 
@@ -77,7 +78,7 @@ abbrev pub SoundReachesAsPromised : Type 0
 SoundReachesAsPromised = (p : System) → IsSoundSystem p → ReachesAsPromised p
 
 abbrev pub AcceptedIsSound : Type 0
-AcceptedIsSound = (text : List ℕ) (p : Program) → IsAccepted text p → IsSoundSystem (system_of p)
+AcceptedIsSound = (limits : TextLimits) (text : List ℕ) (p : Program) → IsAccepted limits text p → IsSoundSystem (system_of p)
 
 -- a reached net after one more interaction is reached by one more
 abbrev pub StepsReach : Type 0

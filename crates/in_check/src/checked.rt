@@ -1,3 +1,4 @@
+ghost use Rattle.in_syntax.specs.declared.text_limits.TextLimits.{TextLimits};
 ghost use Rattle.std.specs.Prelude.{◌≡◌, ◌<◌, ℕ, List, length, slice_get, option_map, Some};
 ghost use Rattle.in_check.specs.Checking.{IsAccepted, IsCertified};
 ghost use Rattle.in_cover.specs.Cover.{IsPair, IsRuleFor};
@@ -7,7 +8,8 @@ use in_base::use_invariant;
 use in_cover::{RuleNo, RuleTable};
 use in_net::{Net, Rule};
 use in_open_nets::{Derivation, OpenNet};
-use in_symbols::{SymbolNo, Symbols};
+use in_symbols::Symbols;
+use in_syntax::SymbolNo;
 use sqlite_items::Items;
 use std::marker::Model;
 
@@ -77,20 +79,21 @@ pub struct Checked {
 impl Model for Checked {
     ghost use Rattle.in_check.specs.Programs as programs;
     ghost use Rattle.in_check.specs.Checking as checking;
+    ghost use Rattle.in_syntax.specs.declared.text_limits.TextLimits.{TextLimits};
     ghost use Rattle.std.specs.Prelude.{◌≡◌, ◌^◌, ◌<◌, List, ℕ, length};
 
     ghost Value = { programs.Certified };
 
     ghost view = { λ c. c.passed };
 
-    ghost invariant = { λ c. (length c.passed.program.rules < 2 ^ 32) × (length c.passed.rule_certificates ≡ length c.passed.program.rules) × ((text : List ℕ) × checking.IsCertified text c.passed) };
+    ghost invariant = { λ c. (length c.passed.program.rules < 2 ^ 32) × (length c.passed.rule_certificates ≡ length c.passed.program.rules) × ((limits : TextLimits) × (text : List ℕ) × checking.IsCertified limits text c.passed) };
 }
 
 impl Checked {
     /// The program is the accepted one of some text, and certified, for proofs. The call does nothing.
     pub fn is_accepted(&self)
-        ensures accepted { (text : List ℕ) × IsAccepted text self.now.program }
-        ensures certified { (text : List ℕ) × IsCertified text self.now }
+        ensures accepted { (limits : TextLimits) × (text : List ℕ) × IsAccepted limits text self.now.program }
+        ensures certified { (limits : TextLimits) × (text : List ℕ) × IsCertified limits text self.now }
     {
         use_invariant!(self.passed);
     }

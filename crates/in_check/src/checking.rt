@@ -37,7 +37,7 @@ use crate::misfits::misfit_at;
 use in_cover::{RuleTable, cover};
 use in_net::{Net, Rule, build_net, build_rule};
 use in_symbols::Symbols;
-use in_syntax::{Code, Fault, Refusal, Source, parse_expecting, with_room};
+use in_syntax::{Code, Fault, Refusal, Source, TextLimits, parse_expecting, with_room};
 use in_typing::{type_net, type_rule};
 use sqlite_items::Items;
 use std::alloc::{AllocError, Global};
@@ -298,11 +298,16 @@ fn declare_tree(
 }
 
 /// Builds the tree, and then all parts that it declares.
-fn declare_text(alloc: Global, text: &[u8], findings: &mut Findings) -> Result<DeclaredText, Fault>
-    ensures declared { DeclaresText text.now result }
+fn declare_text(
+    alloc: Global,
+    limits: TextLimits,
+    text: &[u8],
+    findings: &mut Findings,
+) -> Result<DeclaredText, Fault>
+    ensures declared { DeclaresText limits text.now result }
     ensures kept { findings.new ≡ findings.old }
 {
-    match parse_expecting(alloc, text, &mut findings.expected) {
+    match parse_expecting(alloc, limits, text, &mut findings.expected) {
         Ok(source) => declare_tree(alloc, source, findings),
         Err(fault) => Err(fault),
     }
@@ -324,27 +329,37 @@ fn check_names(
 }
 
 /// Builds all parts that the text declares, and then checks the types and the rest.
-fn check_text(alloc: Global, text: &[u8], findings: &mut Findings) -> Result<Passed, Fault>
-    ensures checked { IsChecked text.now result }
+fn check_text(
+    alloc: Global,
+    limits: TextLimits,
+    text: &[u8],
+    findings: &mut Findings,
+) -> Result<Passed, Fault>
+    ensures checked { IsChecked limits text.now result }
     ensures kept { findings.new ≡ findings.old }
 {
-    match declare_text(alloc, text, findings) {
+    match declare_text(alloc, limits, text, findings) {
         Ok(declared) => check_types(alloc, declared, &mut findings.evidence),
         Err(fault) => Err(fault),
     }
 }
 
 /// The program of a text that all passes accept.
-fn checked_text(alloc: Global, text: &[u8], findings: &mut Findings) -> Result<Checked, Fault>
-    ensures checked { IsChecked text.now result }
+fn checked_text(
+    alloc: Global,
+    limits: TextLimits,
+    text: &[u8],
+    findings: &mut Findings,
+) -> Result<Checked, Fault>
+    ensures checked { IsChecked limits text.now result }
     ensures promised { IfOk result (λ c. ReachesAsPromised (system_of c.program)) }
     ensures kept { findings.new ≡ findings.old }
 {
-    let passed = check_text(alloc, text, findings)?;
+    let passed = check_text(alloc, limits, text, findings)?;
     Ok(Checked { passed })
 }
 
-/// Checks a program's text: its tokens and its tree, then its names, then rule by rule and the net at last its agents, variables
+/// Checks a program's text by these limits: its tokens and its tree, then its names, then rule by rule and the net at last its agents, variables
 /// and wires, then in the same order the types of wires, then that every two matching symbols have one rule, then rule by rule and
 /// the net at last whether it is semi-simple. Returns the parts of an accepted program.
 ///
@@ -355,22 +370,27 @@ fn checked_text(alloc: Global, text: &[u8], findings: &mut Findings) -> Result<C
 /// Every net that an accepted program reaches, by any number of interactions in any order, is typed; has exactly one rule for each
 /// active pair; has no crossing circle, and so no vicious one; lets each interaction end, with no closed alternating path left;
 /// leads on from each agent to an active pair or to a free end at which it waits; and is written whole.
-pub fn check(alloc: Global, text: &[u8]) -> Result<Checked, Fault>
-    ensures checked { IsChecked text.now result }
+pub fn check(alloc: Global, limits: TextLimits, text: &[u8]) -> Result<Checked, Fault>
+    ensures checked { IsChecked limits text.now result }
     ensures promised { IfOk result (λ c. ReachesAsPromised (system_of c.program)) }
 {
-    check_finding(alloc, text, &mut Findings::none())
+    check_finding(alloc, limits, text, &mut Findings::none())
 }
 
 /// As `check`. If it refuses the text, `findings` gets the refusal, with what was found until then; else it has the refusal that it had before, if
 /// any.
-pub fn check_finding(alloc: Global, text: &[u8], findings: &mut Findings) -> Result<Checked, Fault>
-    ensures checked { IsChecked text.now result }
+pub fn check_finding(
+    alloc: Global,
+    limits: TextLimits,
+    text: &[u8],
+    findings: &mut Findings,
+) -> Result<Checked, Fault>
+    ensures checked { IsChecked limits text.now result }
     ensures promised { IfOk result (λ c. ReachesAsPromised (system_of c.program)) }
     ensures found { IfErr result (IsFound findings.old findings.new) }
     ensures accepted { IfOk result (λ _. findings.new ≡ findings.old) }
 {
-    match checked_text(alloc, text, findings) {
+    match checked_text(alloc, limits, text, findings) {
         Ok(checked) => Ok(checked),
         Err(Fault::Refused(refusal)) => {
             findings.refuse(refusal);

@@ -1,7 +1,7 @@
 //! The two ends of a wire whose types don't fit, for the diagnosis.
 use in_net::{AgentNo, Net, Point, Rule};
-use in_symbols::{SymbolNo, Symbols};
-use in_syntax::Place;
+use in_symbols::Symbols;
+use in_syntax::{Place, SymbolNo};
 
 /// An end of a wire.
 #[derive(Clone, Copy, Debug, PartialEq, Eq)]

@@ -17,6 +17,7 @@ use Rattle.in_machine.proofs.Public.{as_reducer}
 use Rattle.in_chosen_runs.specs.Choosing.{CannotStep, IsAsChosen, StepsBy}
 use Rattle.in_chosen_runs.specs.Laws.{ChosenRunsAreMachines, ChosenRunsAreOne}
 use Rattle.in_chosen_runs.specs.declared.running.Chosen.{Chosen}
+use Rattle.in_syntax.specs.declared.text_limits.TextLimits.{TextLimits}
 
 turned : (m n : MachineParts) → IsMachine m → AreSame m n → AreSame n m
 turned m n machine same = an_equivalence.back m n (as_reducer m machine) same
@@ -53,15 +54,15 @@ not_fewer m n o u (i ∷ choices) (suc j) (suc k) h g same (a, s, one) left (b, 
     not_fewer a b o u choices j k (machine_on m a i h s) (machine_on n b i g t)
     (same_step same.0 m n a b i (as_reducer m h) (as_reducer n g) same.1 s t) one left two (omega (arith, few)) (omega (arith, l))
 
-module _ (text : List ℕ) (p : Program) (accepted : IsAccepted text p) (choices : List ℕ) (limit : ℕ) (cells : CellCounts) (few : AreAllowed cells) (o u : Chosen) (h : IsAsChosen p choices limit cells o) (g : IsAsChosen p choices limit cells u) where
+module _ (limits : TextLimits) (text : List ℕ) (p : Program) (accepted : IsAccepted limits text p) (choices : List ℕ) (limit : ℕ) (cells : CellCounts) (few : AreAllowed cells) (o u : Chosen) (h : IsAsChosen p choices limit cells o) (g : IsAsChosen p choices limit cells u) where
   one : IsMachine h.start
-  one = start_machine text p accepted cells h.start h.is_start few
+  one = start_machine limits text p accepted cells h.start h.is_start few
 
   two : IsMachine g.start
-  two = start_machine text p accepted cells g.start g.is_start few
+  two = start_machine limits text p accepted cells g.start g.is_start few
 
   start : AreSame h.start g.start
-  start = same_start text p accepted cells h.start g.start h.is_start g.is_start
+  start = same_start limits text p accepted cells h.start g.start h.is_start g.is_start
 
   as_many : o.chosen ≡ u.chosen
   as_many = elim (let z : (o.chosen < u.chosen) ⊎ (u.chosen < o.chosen) ⊎ (o.chosen ≡ u.chosen) = grind arith in z) [
@@ -101,9 +102,9 @@ module _ (text : List ℕ) (p : Program) (accepted : IsAccepted text p) (choices
   one_end = (as_many, further.0, further.1)
 
 pub chosen_runs_are_one : ChosenRunsAreOne
-chosen_runs_are_one text p choices limit cells o u accepted few h g = one_end text p accepted choices limit cells few o u h g
+chosen_runs_are_one limits text p choices limit cells o u accepted few h g = one_end limits text p accepted choices limit cells few o u h g
 
 pub chosen_runs_are_machines : ChosenRunsAreMachines
-chosen_runs_are_machines text p choices limit cells o accepted few h =
+chosen_runs_are_machines limits text p choices limit cells o accepted few h =
     let on = h.in_turn in
-    machine_runs on.0 o.machine o.further (machine_same h.middle on.0 (middle text p accepted choices limit cells few o o h h).0 on.1) on.2
+    machine_runs on.0 o.machine o.further (machine_same h.middle on.0 (middle limits text p accepted choices limit cells few o o h h).0 on.1) on.2

@@ -13,10 +13,11 @@ use Rattle.in_machine.specs.Starts.{IsNoStart}
 use Rattle.in_machine.specs.declared.starting.StartFault.TheVariants as start
 use Rattle.in_chosen_runs.specs.Choosing.{RunsAsChosen}
 use Rattle.in_chosen_runs.specs.declared.running.Chosen.{Chosen}
+use Rattle.in_syntax.specs.declared.text_limits.TextLimits.{TextLimits}
 
 -- an accepted program, choices and limits lead to one end, up to the numbers of agents
 abbrev pub ChosenRunsAreOne : Type 0
-ChosenRunsAreOne = (text : List ℕ) (p : Program) (choices : List ℕ) (limit : ℕ) (cells : CellCounts) (o u : Chosen) → IsAccepted text p → AreAllowed cells →
+ChosenRunsAreOne = (limits : TextLimits) (text : List ℕ) (p : Program) (choices : List ℕ) (limit : ℕ) (cells : CellCounts) (o u : Chosen) → IsAccepted limits text p → AreAllowed cells →
     RunsAsChosen p choices limit cells (Ok o) → RunsAsChosen p choices limit cells (Ok u) →
     (o.chosen ≡ u.chosen) × (o.further ≡ u.further) × AreSame o.machine u.machine
 
@@ -33,4 +34,4 @@ ChosenRunsAreRefusedOnce = (p : Program) (choices : List ℕ) (limit : ℕ) (cel
 
 -- the end of such a run is a machine
 abbrev pub ChosenRunsAreMachines : Type 0
-ChosenRunsAreMachines = (text : List ℕ) (p : Program) (choices : List ℕ) (limit : ℕ) (cells : CellCounts) (o : Chosen) → IsAccepted text p → AreAllowed cells → RunsAsChosen p choices limit cells (Ok o) → IsMachine o.machine
+ChosenRunsAreMachines = (limits : TextLimits) (text : List ℕ) (p : Program) (choices : List ℕ) (limit : ℕ) (cells : CellCounts) (o : Chosen) → IsAccepted limits text p → AreAllowed cells → RunsAsChosen p choices limit cells (Ok o) → IsMachine o.machine

@@ -18,7 +18,7 @@ use Rattle.in_command_line.specs.Asking.{HasLimits, Spells, faults}
 use Rattle.in_command_line.specs.CommandLine.{command_line}
 use Rattle.in_command_line.proofs.Options.{new_row}
 use Rattle.in_command_line.proofs.Refusals.{in_word}
-use Rattle.in_command_line.specs.Laws.{FilesAreAsked, FlagsAreAsked, RunAsksForEachClass, RunAsksForTheGiven, RunAsksForTheOthers, RunAsksForTheUsual, SubcommandsAsk, AreUsualLimits}
+use Rattle.in_command_line.specs.Laws.{FilesAreAsked, FlagsAreAsked, LargeIsAsked, RunAsksForEachClass, RunAsksForTheGiven, RunAsksForTheOthers, RunAsksForTheUsual, SubcommandsAsk, AreUsualLimits}
 
 abbrev check_words : List Text
 check_words = codes "inet" ∷ codes "check" ∷ []
@@ -44,8 +44,15 @@ usual_limit = new_row (codes "workers") (codes "1") DefaultValue ∷ new_row (co
 abbrev usual_numbers : List Row
 usual_numbers = usual_limit ++ new_row (codes "cells") (codes "65536") DefaultValue ∷ []
 
+-- the row of `--large`, if it is not among the words, and if it is
+abbrev not_large : List Row
+not_large = new_row (codes "large") (codes "false") DefaultValue ∷ []
+
+abbrev large_row : Row
+large_row = new_row (codes "large") (codes "true") CommandLine
+
 abbrev usual_flags : List Row
-usual_flags = new_row (codes "no-net") (codes "false") DefaultValue ∷ new_row (codes "stats") (codes "false") DefaultValue ∷ []
+usual_flags = new_row (codes "no-net") (codes "false") DefaultValue ∷ new_row (codes "stats") (codes "false") DefaultValue ∷ not_large
 
 abbrev usual_rows : List Row
 usual_rows = usual_numbers ++ usual_flags
@@ -72,7 +79,7 @@ check_taken : faults check_words ≡ []
 unfolding clap_on_literals
 check_taken = refl
 
-check_given : subcommand_of command_line check_words ≡ Some (codes "check", [])
+check_given : subcommand_of command_line check_words ≡ Some (codes "check", not_large)
 unfolding clap_on_literals
 check_given = refl
 
@@ -80,7 +87,7 @@ derive_taken : faults derive_words ≡ []
 unfolding clap_on_literals
 derive_taken = refl
 
-derive_given : subcommand_of command_line derive_words ≡ Some (codes "derive", [])
+derive_given : subcommand_of command_line derive_words ≡ Some (codes "derive", not_large)
 unfolding clap_on_literals
 derive_given = refl
 
@@ -149,8 +156,8 @@ usual_limits l usual = (
 
 pub named_ask : SubcommandsAsk
 named_ask = (
-  record { name = codes "check"; options = []; taken = check_taken; given = check_given; named = refl; file_is = refl; stats_are = refl },
-  record { name = codes "derive"; options = []; taken = derive_taken; given = derive_given; named = refl; file_is = refl; stats_are = refl },
+  record { name = codes "check"; options = not_large; taken = check_taken; given = check_given; named = refl; file_is = refl; stats_are = refl; large_is = refl },
+  record { name = codes "derive"; options = not_large; taken = derive_taken; given = derive_given; named = refl; file_is = refl; stats_are = refl; large_is = refl },
 )
 
 pub usual_asks : RunAsksForTheUsual
@@ -162,6 +169,7 @@ usual_asks l usual = record {
   named = (refl, usual_limits l usual, refl);
   file_is = refl;
   stats_are = refl;
+  large_is = refl;
 }
 
 pub given_asks : RunAsksForTheGiven
@@ -178,6 +186,7 @@ given_asks workers limit cells n l has is are few same =
       named = (refl, ((workers, refl, has), (limit, refl, is), ((cells, refl, (are.0, small ∙ are.1)), (cells, refl, (are.0, large ∙ are.1)), (cells, refl, (are.0, wide ∙ are.1)))), refl);
       file_is = refl;
       stats_are = refl;
+      large_is = refl;
     }
 
 pub classes_ask : RunAsksForEachClass
@@ -189,6 +198,7 @@ classes_ask small large wide l alone usual has is are = record {
   named = (refl, ((codes "1", refl, ((omega arith, search rules), alone)), (codes "1000000", refl, ((omega arith, search rules), usual)), ((small, refl, has), (large, refl, is), (wide, refl, are))), refl);
   file_is = refl;
   stats_are = refl;
+  large_is = refl;
 }
 
 pub others_ask : RunAsksForTheOthers
@@ -202,6 +212,7 @@ others_ask cells small n l alone usual are few has large wide =
       named = (refl, ((codes "1", refl, ((omega arith, search rules), alone)), (codes "1000000", refl, ((omega arith, search rules), usual)), ((small, refl, has), (cells, refl, (are.0, large ∙ are.1)), (cells, refl, (are.0, wide ∙ are.1)))), refl);
       file_is = refl;
       stats_are = refl;
+      large_is = refl;
     }
 
 -- ---- flags and files
@@ -213,7 +224,7 @@ no_net_taken : faults no_net_words ≡ []
 unfolding clap_on_literals
 no_net_taken = refl
 
-no_net_given : subcommand_of command_line no_net_words ≡ Some (codes "run", no_net_row ∷ usual_numbers ++ (stats_row DefaultValue (codes "false") ∷ []))
+no_net_given : subcommand_of command_line no_net_words ≡ Some (codes "run", no_net_row ∷ usual_numbers ++ (stats_row DefaultValue (codes "false") ∷ not_large))
 unfolding clap_on_literals
 no_net_given = refl
 
@@ -224,14 +235,14 @@ stats_taken : faults stats_words ≡ []
 unfolding clap_on_literals
 stats_taken = refl
 
-stats_given : subcommand_of command_line stats_words ≡ Some (codes "run", stats_row CommandLine (codes "true") ∷ usual_numbers ++ (new_row (codes "no-net") (codes "false") DefaultValue ∷ []))
+stats_given : subcommand_of command_line stats_words ≡ Some (codes "run", stats_row CommandLine (codes "true") ∷ usual_numbers ++ (new_row (codes "no-net") (codes "false") DefaultValue ∷ not_large))
 unfolding clap_on_literals
 stats_given = refl
 
 pub flags_asked : FlagsAreAsked
 flags_asked l usual = (
-  record { name = codes "run"; options = _; taken = no_net_taken; given = no_net_given; named = (refl, usual_limits l usual, refl); file_is = refl; stats_are = refl },
-  record { name = codes "run"; options = _; taken = stats_taken; given = stats_given; named = (refl, usual_limits l usual, refl); file_is = refl; stats_are = refl },
+  record { name = codes "run"; options = _; taken = no_net_taken; given = no_net_given; named = (refl, usual_limits l usual, refl); file_is = refl; stats_are = refl; large_is = refl },
+  record { name = codes "run"; options = _; taken = stats_taken; given = stats_given; named = (refl, usual_limits l usual, refl); file_is = refl; stats_are = refl; large_is = refl },
 )
 
 abbrev a_file : Text
@@ -241,7 +252,7 @@ file_checked : faults (codes "inet" ∷ codes "check" ∷ a_file ∷ []) ≡ []
 unfolding clap_on_literals
 file_checked = refl
 
-file_of_check : subcommand_of command_line (codes "inet" ∷ codes "check" ∷ a_file ∷ []) ≡ Some (codes "check", file_row a_file ∷ [])
+file_of_check : subcommand_of command_line (codes "inet" ∷ codes "check" ∷ a_file ∷ []) ≡ Some (codes "check", file_row a_file ∷ not_large)
 unfolding clap_on_literals
 file_of_check = refl
 
@@ -249,7 +260,7 @@ file_derived : faults (codes "inet" ∷ codes "derive" ∷ a_file ∷ []) ≡ []
 unfolding clap_on_literals
 file_derived = refl
 
-file_of_derive : subcommand_of command_line (codes "inet" ∷ codes "derive" ∷ a_file ∷ []) ≡ Some (codes "derive", file_row a_file ∷ [])
+file_of_derive : subcommand_of command_line (codes "inet" ∷ codes "derive" ∷ a_file ∷ []) ≡ Some (codes "derive", file_row a_file ∷ not_large)
 unfolding clap_on_literals
 file_of_derive = refl
 
@@ -257,7 +268,7 @@ input_checked : faults (codes "inet" ∷ codes "check" ∷ codes "-" ∷ []) ≡
 unfolding clap_on_literals
 input_checked = refl
 
-input_of_check : subcommand_of command_line (codes "inet" ∷ codes "check" ∷ codes "-" ∷ []) ≡ Some (codes "check", file_row (codes "-") ∷ [])
+input_of_check : subcommand_of command_line (codes "inet" ∷ codes "check" ∷ codes "-" ∷ []) ≡ Some (codes "check", file_row (codes "-") ∷ not_large)
 unfolding clap_on_literals
 input_of_check = refl
 
@@ -265,7 +276,7 @@ file_first : faults (codes "inet" ∷ codes "run" ∷ a_file ∷ codes "--no-net
 unfolding clap_on_literals
 file_first = refl
 
-file_first_given : subcommand_of command_line (codes "inet" ∷ codes "run" ∷ a_file ∷ codes "--no-net" ∷ []) ≡ Some (codes "run", file_row a_file ∷ no_net_row ∷ usual_numbers ++ (stats_row DefaultValue (codes "false") ∷ []))
+file_first_given : subcommand_of command_line (codes "inet" ∷ codes "run" ∷ a_file ∷ codes "--no-net" ∷ []) ≡ Some (codes "run", file_row a_file ∷ no_net_row ∷ usual_numbers ++ (stats_row DefaultValue (codes "false") ∷ not_large))
 unfolding clap_on_literals
 file_first_given = refl
 
@@ -273,17 +284,59 @@ file_last : faults (codes "inet" ∷ codes "run" ∷ codes "--no-net" ∷ a_file
 unfolding clap_on_literals
 file_last = refl
 
-file_last_given : subcommand_of command_line (codes "inet" ∷ codes "run" ∷ codes "--no-net" ∷ a_file ∷ []) ≡ Some (codes "run", no_net_row ∷ file_row a_file ∷ usual_numbers ++ (stats_row DefaultValue (codes "false") ∷ []))
+file_last_given : subcommand_of command_line (codes "inet" ∷ codes "run" ∷ codes "--no-net" ∷ a_file ∷ []) ≡ Some (codes "run", no_net_row ∷ file_row a_file ∷ usual_numbers ++ (stats_row DefaultValue (codes "false") ∷ not_large))
 unfolding clap_on_literals
 file_last_given = refl
 
 pub files_asked : FilesAreAsked
 files_asked = (
-  record { name = codes "check"; options = _; taken = file_checked; given = file_of_check; named = refl; file_is = refl; stats_are = refl },
-  record { name = codes "derive"; options = _; taken = file_derived; given = file_of_derive; named = refl; file_is = refl; stats_are = refl },
-  record { name = codes "check"; options = _; taken = input_checked; given = input_of_check; named = refl; file_is = refl; stats_are = refl },
+  record { name = codes "check"; options = _; taken = file_checked; given = file_of_check; named = refl; file_is = refl; stats_are = refl; large_is = refl },
+  record { name = codes "derive"; options = _; taken = file_derived; given = file_of_derive; named = refl; file_is = refl; stats_are = refl; large_is = refl },
+  record { name = codes "check"; options = _; taken = input_checked; given = input_of_check; named = refl; file_is = refl; stats_are = refl; large_is = refl },
   λ l usual. (
-    record { name = codes "run"; options = _; taken = file_first; given = file_first_given; named = (refl, usual_limits l usual, refl); file_is = refl; stats_are = refl },
-    record { name = codes "run"; options = _; taken = file_last; given = file_last_given; named = (refl, usual_limits l usual, refl); file_is = refl; stats_are = refl },
+    record { name = codes "run"; options = _; taken = file_first; given = file_first_given; named = (refl, usual_limits l usual, refl); file_is = refl; stats_are = refl; large_is = refl },
+    record { name = codes "run"; options = _; taken = file_last; given = file_last_given; named = (refl, usual_limits l usual, refl); file_is = refl; stats_are = refl; large_is = refl },
   ),
+)
+
+-- ---- large limits
+
+large_checked : faults (codes "inet" ∷ codes "check" ∷ codes "--large" ∷ []) ≡ []
+unfolding clap_on_literals
+large_checked = refl
+
+large_of_check : subcommand_of command_line (codes "inet" ∷ codes "check" ∷ codes "--large" ∷ []) ≡ Some (codes "check", large_row ∷ [])
+unfolding clap_on_literals
+large_of_check = refl
+
+large_derived : faults (codes "inet" ∷ codes "derive" ∷ codes "--large" ∷ []) ≡ []
+unfolding clap_on_literals
+large_derived = refl
+
+large_of_derive : subcommand_of command_line (codes "inet" ∷ codes "derive" ∷ codes "--large" ∷ []) ≡ Some (codes "derive", large_row ∷ [])
+unfolding clap_on_literals
+large_of_derive = refl
+
+large_file_checked : faults (codes "inet" ∷ codes "check" ∷ codes "--large" ∷ a_file ∷ []) ≡ []
+unfolding clap_on_literals
+large_file_checked = refl
+
+large_file_of_check : subcommand_of command_line (codes "inet" ∷ codes "check" ∷ codes "--large" ∷ a_file ∷ []) ≡ Some (codes "check", large_row ∷ file_row a_file ∷ [])
+unfolding clap_on_literals
+large_file_of_check = refl
+
+large_run : faults (codes "inet" ∷ codes "run" ∷ codes "--large" ∷ []) ≡ []
+unfolding clap_on_literals
+large_run = refl
+
+large_of_run : subcommand_of command_line (codes "inet" ∷ codes "run" ∷ codes "--large" ∷ []) ≡ Some (codes "run", large_row ∷ usual_numbers ++ (new_row (codes "no-net") (codes "false") DefaultValue ∷ stats_row DefaultValue (codes "false") ∷ []))
+unfolding clap_on_literals
+large_of_run = refl
+
+pub large_asked : LargeIsAsked
+large_asked = (
+  record { name = codes "check"; options = _; taken = large_checked; given = large_of_check; named = refl; file_is = refl; stats_are = refl; large_is = refl },
+  record { name = codes "derive"; options = _; taken = large_derived; given = large_of_derive; named = refl; file_is = refl; stats_are = refl; large_is = refl },
+  record { name = codes "check"; options = _; taken = large_file_checked; given = large_file_of_check; named = refl; file_is = refl; stats_are = refl; large_is = refl },
+  λ l usual. record { name = codes "run"; options = _; taken = large_run; given = large_of_run; named = (refl, usual_limits l usual, refl); file_is = refl; stats_are = refl; large_is = refl },
 )

@@ -28,15 +28,15 @@ help_command = built_leaf help_shape
 -- the request of the words, if the subcommand is this one
 abbrev Asks : Option (Text × List Row) → Type 0
 Asks found = (a : Asked) × (name : Text) × (options : List Row) × (found ≡ Some (name, options)) × Names name options a.action × (a.file ≡ file_in options)
-    × (a.stats ≡ is_set (codes "stats") options)
+    × (a.stats ≡ is_set (codes "stats") options) × (a.large ≡ is_set (codes "large") options)
 
 -- a run with these options
 run_asked : (options : List Row) (l : Limits) → HasLimits options l → Asks (Some (codes "run", options))
 run_asked options l limits = go (is_set (codes "no-net") options) refl
   where
     go : (b : Bool) → is_set (codes "no-net") options ≡ b → Asks (Some (codes "run", options))
-    go true is = (record { action = Count l; file = file_in options; stats = is_set (codes "stats") options }, codes "run", options, refl, (refl, limits, is), refl, refl)
-    go false is = (record { action = Run l; file = file_in options; stats = is_set (codes "stats") options }, codes "run", options, refl, (refl, limits, is), refl, refl)
+    go true is = (record { action = Count l; file = file_in options; stats = is_set (codes "stats") options; large = is_set (codes "large") options }, codes "run", options, refl, (refl, limits, is), refl, refl, refl)
+    go false is = (record { action = Run l; file = file_in options; stats = is_set (codes "stats") options; large = is_set (codes "large") options }, codes "run", options, refl, (refl, limits, is), refl, refl, refl)
 
 -- the word isn't `help`
 not_help : (name : Text) → IsNoHelp name → (bytes_eq (codes "help") name || false) ≡ true → ⊥
@@ -57,10 +57,10 @@ at_subcommand : (name : Text) (rest : List Text) (a b c d : Bool) → (d ≡ tru
     → is_some (option_map (λ s. rows_at s rest) (met_of a b c d)) ≡ true → Asks (option_map (λ s. rows_at s rest) (met_of a b c d))
 at_subcommand name rest true b c d well none some =
     let options = (rows_at (plain_shape (codes "check")) rest).1 in
-    (record { action = Check; file = file_in options; stats = is_set (codes "stats") options }, codes "check", options, refl, refl, refl, refl)
+    (record { action = Check; file = file_in options; stats = is_set (codes "stats") options; large = is_set (codes "large") options }, codes "check", options, refl, refl, refl, refl, refl)
 at_subcommand name rest false true c d well none some =
     let options = (rows_at (plain_shape (codes "derive")) rest).1 in
-    (record { action = Derive; file = file_in options; stats = is_set (codes "stats") options }, codes "derive", options, refl, refl, refl, refl)
+    (record { action = Derive; file = file_in options; stats = is_set (codes "stats") options; large = is_set (codes "large") options }, codes "derive", options, refl, refl, refl, refl, refl)
 at_subcommand name rest false false true d well none some =
     let l = limits_asked rest none in
     run_asked (rows_at run_shape rest).1 l.0 l.1
@@ -88,4 +88,4 @@ faultless_asks words none =
     let well = walk_well inet.top (names_of inet) refl args (walk_from nothing_held) tt first.0 in
     let some = needs_one (finished inet.top.rules end.held) (is_some (entered inet end.stopped)) fourth.1 in
     let asks = at_stop end.stopped well second.0 some in
-    (asks.0, record { name = asks.1; options = asks.2; taken = none; given = asks.3; named = asks.4; file_is = asks.5; stats_are = asks.6 })
+    (asks.0, record { name = asks.1; options = asks.2; taken = none; given = asks.3; named = asks.4; file_is = asks.5; stats_are = asks.6; large_is = asks.7 })

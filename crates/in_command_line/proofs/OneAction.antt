@@ -40,4 +40,5 @@ one_action words a b h g =
     let actions : a.action ≡ b.action = one_name g.name g.options a.action b.action (subst (λ (p : Text × List Row). Names p.0 p.1 a.action) same h.named) g.named in
     let files : a.file ≡ b.file = h.file_is ∙ ap (λ (p : Text × List Row). file_in p.1) same ∙ sym g.file_is in
     let figures : a.stats ≡ b.stats = h.stats_are ∙ ap (λ (p : Text × List Row). is_set (codes "stats") p.1) same ∙ sym g.stats_are in
-    λ i. (let z : Asked = record { action = actions i; file = files i; stats = figures i } in z)
+    let sizes : a.large ≡ b.large = h.large_is ∙ ap (λ (p : Text × List Row). is_set (codes "large") p.1) same ∙ sym g.large_is in
+    λ i. (let z : Asked = record { action = actions i; file = files i; stats = figures i; large = sizes i } in z)

@@ -90,6 +90,9 @@ no_net_rule = flag_rule (codes "no-net")
 abbrev pub stats_rule : Rule
 stats_rule = flag_rule (codes "stats")
 
+abbrev pub large_rule : Rule
+large_rule = flag_rule (codes "large")
+
 abbrev pub file_rule : Rule
 file_rule = with_index 1 (filled file_argument)
 
@@ -190,16 +193,17 @@ file_keeps again values rows good none =
     values_keep (codes "file") (reading_by file_rule) CommandLine (values_or_missing file_rule values) (without (codes "file") rows) (λ e. cc, λ e. cc, λ e. cc, λ e. cc, λ e. cc, λ e. cc) (without_keeps (codes "file") rows good)
 
 -- the rules of arguments with other rows, after those with numbers
-others_keep : (a : Rule) (w x y z : Bool) → cond w (Some no_net_rule) (cond x (Some stats_rule) (cond y (Some file_rule) (cond z (Some help_flag) None))) ≡ Some a → Keeps Good a
-others_keep a true x y z e = subst (Keeps Good) (same_Some _ _ e) (flag_keeps (codes "no-net") (λ values. (λ e. cc, λ e. cc, λ e. cc, λ e. cc, λ e. cc, λ e. cc)))
-others_keep a false true y z e = subst (Keeps Good) (same_Some _ _ e) (flag_keeps (codes "stats") (λ values. (λ e. cc, λ e. cc, λ e. cc, λ e. cc, λ e. cc, λ e. cc)))
-others_keep a false false true z e = subst (Keeps Good) (same_Some _ _ e) file_keeps
-others_keep a false false false true e = subst (Keeps Good) (same_Some _ _ e) (λ again values rows good none. good)
-others_keep a false false false false e = cc
+others_keep : (a : Rule) (w x v y z : Bool) → cond w (Some no_net_rule) (cond x (Some stats_rule) (cond v (Some large_rule) (cond y (Some file_rule) (cond z (Some help_flag) None)))) ≡ Some a → Keeps Good a
+others_keep a true x v y z e = subst (Keeps Good) (same_Some _ _ e) (flag_keeps (codes "no-net") (λ values. (λ e. cc, λ e. cc, λ e. cc, λ e. cc, λ e. cc, λ e. cc)))
+others_keep a false true v y z e = subst (Keeps Good) (same_Some _ _ e) (flag_keeps (codes "stats") (λ values. (λ e. cc, λ e. cc, λ e. cc, λ e. cc, λ e. cc, λ e. cc)))
+others_keep a false false true y z e = subst (Keeps Good) (same_Some _ _ e) (flag_keeps (codes "large") (λ values. (λ e. cc, λ e. cc, λ e. cc, λ e. cc, λ e. cc, λ e. cc)))
+others_keep a false false false true z e = subst (Keeps Good) (same_Some _ _ e) file_keeps
+others_keep a false false false false true e = subst (Keeps Good) (same_Some _ _ e) (λ again values rows good none. good)
+others_keep a false false false false false e = cc
 
-pub options_keep : AllKeep Good (workers_rule ∷ limit_rule ∷ cells_rule ∷ small_cells_rule ∷ large_cells_rule ∷ wide_cells_rule ∷ no_net_rule ∷ stats_rule ∷ file_rule ∷ help_flag ∷ [])
+pub options_keep : AllKeep Good (workers_rule ∷ limit_rule ∷ cells_rule ∷ small_cells_rule ∷ large_cells_rule ∷ wide_cells_rule ∷ no_net_rule ∷ stats_rule ∷ large_rule ∷ file_rule ∷ help_flag ∷ [])
 options_keep f a is =
-    go _ (others_keep a (f no_net_rule) (f stats_rule) (f file_rule) (f help_flag)) (f workers_rule) (f limit_rule) (f cells_rule) (f small_cells_rule) (f large_cells_rule) (f wide_cells_rule) is
+    go _ (others_keep a (f no_net_rule) (f stats_rule) (f large_rule) (f file_rule) (f help_flag)) (f workers_rule) (f limit_rule) (f cells_rule) (f small_cells_rule) (f large_cells_rule) (f wide_cells_rule) is
   where
     go : (others : Option Rule) → (others ≡ Some a → Keeps Good a) → (q r s t u v : Bool) → cond q (Some workers_rule) (cond r (Some limit_rule) (cond s (Some cells_rule) (cond t (Some small_cells_rule) (cond u (Some large_cells_rule) (cond v (Some wide_cells_rule) others))))) ≡ Some a
         → Keeps Good a
@@ -273,8 +277,21 @@ has_beside other name rows has = go (has_row name rows)
     go true = has
     go false = has_kept other name (reading_by (flag_rule name)) DefaultValue (codes "false" ∷ []) rows has
 
-has_beside_flags : (other : Text) (rows : List Row) → has_row other rows ≡ true → has_row other (with_default (with_default rows no_net_rule) stats_rule) ≡ true
-has_beside_flags other rows has = has_beside other (codes "stats") (with_default rows no_net_rule) (has_beside other (codes "no-net") rows has)
+-- the rows with the usual texts of the flags
+abbrev with_flags : List Row → List Row
+with_flags rows = with_default (with_default (with_default rows no_net_rule) stats_rule) large_rule
+
+has_beside_flags : (other : Text) (rows : List Row) → has_row other rows ≡ true → has_row other (with_flags rows) ≡ true
+has_beside_flags other rows has =
+    has_beside other (codes "large") (with_default (with_default rows no_net_rule) stats_rule)
+    (has_beside other (codes "stats") (with_default rows no_net_rule) (has_beside other (codes "no-net") rows has))
+
+flags_keep : (rows : List Row) → Good rows → Good (with_flags rows)
+flags_keep rows good =
+    let with_no_net = with_default rows no_net_rule in
+    let good_no_net = flag_default_keeps (codes "no-net") (λ e. cc, λ e. cc, λ e. cc, λ e. cc, λ e. cc, λ e. cc) rows good in
+    let good_stats = flag_default_keeps (codes "stats") (λ e. cc, λ e. cc, λ e. cc, λ e. cc, λ e. cc, λ e. cc) with_no_net good_no_net in
+    flag_default_keeps (codes "large") (λ e. cc, λ e. cc, λ e. cc, λ e. cc, λ e. cc, λ e. cc) (with_default with_no_net stats_rule) good_stats
 
 -- the options of each class, the file and the help flag have none
 either_way : (b : Bool) (rows : List Row) → cond b rows rows ≡ rows
@@ -351,16 +368,14 @@ limits_asked args none =
     let limit_first = has_default (codes "limit") (codes "1000000") 0 most_interactions with_workers refl in
     let has_limit = has_still (codes "limit") (codes "cells") (codes "65536") least_cells most_cells with_limit limit_first in
     let has_cells = has_default (codes "cells") (codes "65536") least_cells most_cells with_limit refl in
-    let with_no_net = with_default with_all no_net_rule in
-    let with_flags = with_default with_no_net stats_rule in
-    let good_no_net = flag_default_keeps (codes "no-net") (λ e. cc, λ e. cc, λ e. cc, λ e. cc, λ e. cc, λ e. cc) with_all good_all in
-    let good_flags = flag_default_keeps (codes "stats") (λ e. cc, λ e. cc, λ e. cc, λ e. cc, λ e. cc, λ e. cc) with_no_net good_no_net in
-    let workers = read_number (codes "workers") 1 most_workers (λ r g. g.0) with_flags good_flags (has_beside_flags (codes "workers") with_all has_workers) in
-    let limit = read_number (codes "limit") 0 most_interactions (λ r g. g.1) with_flags good_flags (has_beside_flags (codes "limit") with_all has_limit) in
+    let flagged = with_flags with_all in
+    let good_flags = flags_keep with_all good_all in
+    let workers = read_number (codes "workers") 1 most_workers (λ r g. g.0) flagged good_flags (has_beside_flags (codes "workers") with_all has_workers) in
+    let limit = read_number (codes "limit") 0 most_interactions (λ r g. g.1) flagged good_flags (has_beside_flags (codes "limit") with_all has_limit) in
     let has_still_cells = has_beside_flags (codes "cells") with_all has_cells in
-    let small = read_count (codes "small-cells") most_small_cells (omega arith) (λ r g. g.3) with_flags good_flags has_still_cells in
-    let large = read_count (codes "large-cells") most_larger_cells (omega arith) (λ r g. g.4) with_flags good_flags has_still_cells in
-    let wide = read_count (codes "wide-cells") most_larger_cells (omega arith) (λ r g. g.5) with_flags good_flags has_still_cells in
+    let small = read_count (codes "small-cells") most_small_cells (omega arith) (λ r g. g.3) flagged good_flags has_still_cells in
+    let large = read_count (codes "large-cells") most_larger_cells (omega arith) (λ r g. g.4) flagged good_flags has_still_cells in
+    let wide = read_count (codes "wide-cells") most_larger_cells (omega arith) (λ r g. g.5) flagged good_flags has_still_cells in
     let l : Limits = record {
       workers = workers.0;
       limit = limit.0;
@@ -371,6 +386,6 @@ limits_asked args none =
       least = (small.2, large.2, wide.2);
       most = record { small = small.3; large = large.3; wide = wide.3 };
     } in
-    let with_counts_flags = with_default (with_default (with_default (with_default (with_default with_all small_cells_rule) large_cells_rule) wide_cells_rule) no_net_rule) stats_rule in
-    let same : with_counts_flags ≡ with_flags = ap (λ (rs : List Row). with_default (with_default rs no_net_rule) stats_rule) (with_counts with_all) in
+    let with_counts_flags = with_flags (with_default (with_default (with_default with_all small_cells_rule) large_cells_rule) wide_cells_rule) in
+    let same : with_counts_flags ≡ flagged = ap with_flags (with_counts with_all) in
     (l, subst (λ (rs : List Row). HasLimits rs l) (sym (with_help (with_default with_counts_flags file_rule) ∙ with_file with_counts_flags ∙ same)) (workers.1, limit.1, (small.1, large.1, wide.1)))

@@ -23,7 +23,7 @@ version_asked = (refl, refl)
 
 pub others_wrong : OtherWordsAreWrong
 unfolding clap_on_literals
-others_wrong = (refl, refl, refl)
+others_wrong = (refl, refl, refl, refl)
 
 -- a number out of range is not accepted
 unaccepted : (least most n : ℕ) (text : Text) → Spells text n → (n < least) ⊎ (most < n) → accepts false (Unsigned least most) text ≡ false

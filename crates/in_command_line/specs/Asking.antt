@@ -57,22 +57,27 @@ unless_input file = if bytes_eq file (codes "-") then None else Some file
 abbrev pub file_in : List Row → Option Text
 file_in options = option_and_then unless_input (first_of (codes "file") options)
 
--- a request: an action on a file, or on standard input, and whether figures of it are wanted
+-- a request: an action on a file, or on standard input, whether figures of it are wanted, and whether the text has the large limits
 pub record Asked : Type 0 where
   pub action : Action
   pub file : Option Text
   pub stats : Bool
+  pub large : Bool
 
--- an action on standard input, without figures
+-- an action on standard input, without figures, by the usual limits
 abbrev pub on_input : Action → Asked
-on_input a = record { action = a; file = None; stats = false }
+on_input a = record { action = a; file = None; stats = false; large = false }
 
 -- .. and one on a file
 abbrev pub on_file_of : Text → Action → Asked
-on_file_of file a = record { action = a; file = Some file; stats = false }
+on_file_of file a = record { action = a; file = Some file; stats = false; large = false }
+
+-- the same request by the large limits
+abbrev pub by_large : Asked → Asked
+by_large a = record a { large = true }
 
 abbrev pub asked_of : Request → Asked
-asked_of r = record { action = r.action; file = option_map (λ s. s.now) r.file; stats = r.stats }
+asked_of r = record { action = r.action; file = option_map (λ s. s.now) r.file; stats = r.stats; large = r.large }
 
 -- a subcommand with these options requests the action
 abbrev pub Names : Text → List Row → Action → Type 0
@@ -90,6 +95,7 @@ pub record AsksFor (words : List Text) (a : Asked) : Type 0 where
   pub named : Names name options a.action
   pub file_is : a.file ≡ file_in options
   pub stats_are : a.stats ≡ is_set (codes "stats") options
+  pub large_is : a.large ≡ is_set (codes "large") options
 
 -- the words are refused: they request help or the version, or have another error; and memory may run out at any words
 abbrev pub AreWordsRefused : List Text → Usage → Type 0
@@ -138,5 +144,5 @@ IsNamed name options None = (a : Action) → Names name options a → ⊥
 -- the request of a match, if its subcommand names an action
 abbrev pub IsRequested : Option (Text × List Row) → Option Request → Type 0
 IsRequested found (Some r) = (name : Text) × (options : List Row) × (found ≡ Some (name, options)) × Names name options r.action
-    × (option_map (λ s. s.now) r.file ≡ file_in options) × (r.stats ≡ is_set (codes "stats") options)
+    × (option_map (λ s. s.now) r.file ≡ file_in options) × (r.stats ≡ is_set (codes "stats") options) × (r.large ≡ is_set (codes "large") options)
 IsRequested found None = (name : Text) (options : List Row) (a : Action) → found ≡ Some (name, options) → Names name options a → ⊥

@@ -53,13 +53,17 @@ no_net_flag = flag (codes "no-net")
 abbrev pub stats_flag : Rule
 stats_flag = flag (codes "stats")
 
+-- whether the text has the large limits
+abbrev pub large_flag : Rule
+large_flag = flag (codes "large")
+
 -- the argument `FILE`, which may be missing
 abbrev pub file_argument : Rule
 file_argument = record (new_rule (codes "file")) { action = Some Set; value_names = 1 }
 
--- a command that only has a file
+-- a command that only has a text: its limits and its file
 abbrev pub on_file : Text → App
-on_file name = with_rule (new_app name) file_argument
+on_file name = with_rule (with_rule (new_app name) large_flag) file_argument
 
 -- `run` with the numbers of its workers, its interactions and its cells
 abbrev pub cells_command : App
@@ -71,7 +75,7 @@ limits_command = with_rule (with_rule (with_rule cells_command small_cells_optio
 
 -- .. and with its flags and its file
 abbrev pub run_command : App
-run_command = with_rule (with_rule (with_rule limits_command no_net_flag) stats_flag) file_argument
+run_command = with_rule (with_rule (with_rule (with_rule limits_command no_net_flag) stats_flag) large_flag) file_argument
 
 abbrev pub needs_subcommand : App → App
 needs_subcommand a = record a { top = record a.top { subcommand_required = true } }
@@ -79,7 +83,7 @@ needs_subcommand a = record a { top = record a.top { subcommand_required = true 
 abbrev pub tells_version : App → App
 tells_version a = record a { top = record a.top { has_version = true } }
 
--- `inet check`, `inet derive` and `inet run` with its options, each with a file, and `inet --version`
+-- `inet check`, `inet derive` and `inet run` with its options, each with `--large` and a file, and `inet --version`
 abbrev pub command_line : App
 command_line = with_subcommand (with_subcommand (with_subcommand
     (tells_version (needs_subcommand (new_app (codes "inet"))))

@@ -1,12 +1,12 @@
 -- Laws over the requests that the words of a command line make.
-use Rattle.std.specs.Prelude.{◌≡◌, ◌≤◌, ◌<◌, ◌⊎◌, ◌++◌, ℕ, true, List, [], ◌∷◌, None, codes}
+use Rattle.std.specs.Prelude.{◌≡◌, ◌≤◌, ◌<◌, ◌⊎◌, ◌++◌, ℕ, true, false, List, [], ◌∷◌, None, codes}
 use Rattle.clap.specs.Words.{Text}
 use Rattle.clap.specs.declared.error.kind.ErrorKind.TheVariants.{ArgumentConflict, DisplayHelp, DisplayVersion, MissingSubcommand, UnknownArgument, ValueValidation}
 use Rattle.in_arena.specs.Classes.{each}
 use Rattle.in_arena.specs.Limiting.{most_larger_cells, most_small_cells}
 use Rattle.in_limits.specs.Limiting.{least_cells, most_cells, most_interactions, most_workers}
 use Rattle.in_limits.specs.declared.limits.Limits.{Limits}
-use Rattle.in_command_line.specs.Asking.{Asked, AsksFor, Spells, faults, on_file_of, on_input}
+use Rattle.in_command_line.specs.Asking.{Asked, AsksFor, Spells, by_large, faults, on_file_of, on_input}
 use Rattle.in_command_line.specs.declared.action.Action.TheVariants.{Check, Derive, Run, Count}
 
 -- words make at most one request
@@ -48,7 +48,14 @@ RunAsksForTheOthers = (cells small : Text) (n : ℕ) (l : Limits) → l.workers 
 abbrev pub FlagsAreAsked : Type 0
 FlagsAreAsked = (l : Limits) → AreUsualLimits l
     → AsksFor (codes "inet" ∷ codes "run" ∷ codes "--no-net" ∷ []) (on_input (Count l))
-    × AsksFor (codes "inet" ∷ codes "run" ∷ codes "--stats" ∷ []) (record { action = Run l; file = None; stats = true })
+    × AsksFor (codes "inet" ∷ codes "run" ∷ codes "--stats" ∷ []) (record { action = Run l; file = None; stats = true; large = false })
+
+-- with `--large` each subcommand requests the same by the large limits
+abbrev pub LargeIsAsked : Type 0
+LargeIsAsked = AsksFor (codes "inet" ∷ codes "check" ∷ codes "--large" ∷ []) (by_large (on_input Check))
+    × AsksFor (codes "inet" ∷ codes "derive" ∷ codes "--large" ∷ []) (by_large (on_input Derive))
+    × AsksFor (codes "inet" ∷ codes "check" ∷ codes "--large" ∷ codes "sum.inet" ∷ []) (by_large (on_file_of (codes "sum.inet") Check))
+    × ((l : Limits) → AreUsualLimits l → AsksFor (codes "inet" ∷ codes "run" ∷ codes "--large" ∷ []) (by_large (on_input (Run l))))
 
 -- a word after the command is the program's file, before and after options; `-` is standard input
 abbrev pub FilesAreAsked : Type 0
@@ -70,11 +77,12 @@ abbrev pub VersionIsAsked : Type 0
 VersionIsAsked = (faults (codes "inet" ∷ codes "-V" ∷ []) ≡ DisplayVersion ∷ [])
     × (faults (codes "inet" ∷ codes "--version" ∷ []) ≡ DisplayVersion ∷ [])
 
--- `inet` alone, a word too many and an option that occurs twice are wrong
+-- `inet` alone, a word too many, and an option or a flag that occurs twice are wrong
 abbrev pub OtherWordsAreWrong : Type 0
 OtherWordsAreWrong = (faults (codes "inet" ∷ []) ≡ MissingSubcommand ∷ [])
     × (faults (codes "inet" ∷ codes "check" ∷ codes "sum.inet" ∷ codes "max.inet" ∷ []) ≡ UnknownArgument ∷ [])
     × (faults (codes "inet" ∷ codes "run" ∷ codes "--limit=1" ∷ codes "--limit=1" ∷ []) ≡ ArgumentConflict ∷ [])
+    × (faults (codes "inet" ∷ codes "check" ∷ codes "--large" ∷ codes "--large" ∷ []) ≡ ArgumentConflict ∷ [])
 
 -- .. and so is a number that is out of range
 abbrev pub NumbersOutOfRangeAreWrong : Type 0

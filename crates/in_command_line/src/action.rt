@@ -3,7 +3,7 @@ ghost use Rattle.clap.specs.Words.{app_of, found_of, kind_of, new_app, rows_of, 
 ghost use Rattle.clap.specs.Walk.{texts};
 ghost use Rattle.clap.specs.declared.builder.command.Command.TheViews.{out-Command};
 ghost use Rattle.in_command_line.specs.Asking.{AreCountsGiven, AreGiven, AsksFor, IsOptionGiven, IsNamed, IsRequested, IsRunNamed, AreWordsRefused, IsErrorTold, asked_of, file_in, is_set, option_for};
-ghost use Rattle.in_command_line.specs.CommandLine.{cells_command, command_line, count_option, file_argument, flag, limits_command, needs_subcommand, on_file, run_command, tells_version};
+ghost use Rattle.in_command_line.specs.CommandLine.{cells_command, command_line, count_option, file_argument, flag, large_flag, limits_command, needs_subcommand, on_file, run_command, tells_version};
 
 use clap::builder::ValueParser;
 use clap::error::ErrorKind;
@@ -35,6 +35,8 @@ pub struct Request<'a> {
     pub file: Option<&'a str>,
     /// Whether figures of the run are wanted on standard error.
     pub stats: bool,
+    /// Whether the text has the large limits in place of the usual ones.
+    pub large: bool,
 }
 
 /// The reason why the words name no action.
@@ -105,6 +107,18 @@ fn flag<'a>(alloc: Global, name: &'a str, help: &'a str) -> Arg<'a>
         .long(name)
         .help(help)
         .action(ArgAction::SetTrue)
+}
+
+/// The flag `--large`.
+fn large_flag<'a>(alloc: Global) -> Arg<'a>
+    ensures rule { rule_of result ≡ large_flag }
+    ensures local { result.global ≡ false }
+{
+    flag(
+        alloc,
+        "large",
+        "Allows larger programs, with texts of up to 64 MiB and nets of up to 1048576 agents",
+    )
 }
 
 /// `run` with the numbers of its workers, its interactions and its cells, whose bounds are those of `Limits::new`.
@@ -188,10 +202,11 @@ fn run_command<'a>(alloc: Global) -> Result<Command<'a>, AllocError>
             "stats",
             "Prints figures of the run on standard error",
         ))?
+        .arg(large_flag(alloc))?
         .arg(file_argument(alloc))
 }
 
-/// A command that only has a file.
+/// A command that only has a text: its limits and its file.
 fn command_on_file<'a>(
     alloc: Global,
     name: &'a str,
@@ -202,6 +217,7 @@ fn command_on_file<'a>(
 {
     Command::new(alloc, name)
         .about(about)
+        .arg(large_flag(alloc))?
         .arg(file_argument(alloc))
 }
 
@@ -383,6 +399,7 @@ fn request_in<'a>(matches: &ArgMatches<'a>) -> Option<Request<'a>>
         action,
         file: file_in(options),
         stats: is_set(options, "stats"),
+        large: is_set(options, "large"),
     })
 }
 

@@ -15,8 +15,9 @@ use Rattle.in_check.specs.Programs.{Program}
 use Rattle.in_compile.specs.declared.cells.Need.{Need}
 use Rattle.in_compile.specs.Cells.{IsEnough, IsFirstShort, IsNeedOf}
 use Rattle.in_compile.specs.Members.{MemberParts, IsMemberOf}
-use Rattle.in_compile.specs.Templates.{TemplateParts, HasHeads, IsTemplateOf, TemplatesParts, template_at, IsLargestNeed, AreTemplatesOf}
+use Rattle.in_compile.specs.Templates.{TemplateParts, HasHeads, IsTemplateOf, TemplatesParts, template_at, IsLargestNeed, AreMostAgents, AreTemplatesOf}
 use Rattle.in_compile.specs.Wires.{both_points, over_of, over_point, within_of}
+use Rattle.in_syntax.specs.declared.text_limits.TextLimits.{TextLimits}
 
 -- the two symbols have a rule, and its template is found for them; no other template has these heads
 pub record HasOneTemplate (p : Program) (ts : TemplatesParts) (c d : ℕ) : Type 0 where
@@ -29,7 +30,7 @@ pub record HasOneTemplate (p : Program) (ts : TemplatesParts) (c d : ℕ) : Type
   pub alone : (k : ℕ) (other : TemplateParts) → slice_get ts.templates k ≡ Some other → HasHeads other c d → k ≡ number
 
 abbrev pub EachPairHasOneTemplate : Type 0
-EachPairHasOneTemplate = (text : List ℕ) (p : Program) (ts : TemplatesParts) (c d : ℕ) → IsAccepted text p → AreTemplatesOf p ts → IsPair p.tables c d → HasOneTemplate p ts c d
+EachPairHasOneTemplate = (limits : TextLimits) (text : List ℕ) (p : Program) (ts : TemplatesParts) (c d : ℕ) → IsAccepted limits text p → AreTemplatesOf p ts → IsPair p.tables c d → HasOneTemplate p ts c d
 
 -- a template is determined by its rule
 abbrev pub TemplatesAreOne : Type 0
@@ -48,6 +49,10 @@ TemplatesOfAreOne = (p : Program) (ts us : TemplatesParts) → AreTemplatesOf p 
 -- .. and the largest need by the templates
 abbrev pub LargestNeedsAreOne : Type 0
 LargestNeedsAreOne = (ts : List TemplateParts) (n m : Need) → IsLargestNeed ts n → IsLargestNeed ts m → n ≡ m
+
+-- .. and the most agents of one
+abbrev pub MostAgentsAreOne : Type 0
+MostAgentsAreOne = (ts : List TemplateParts) (n m : ℕ) → AreMostAgents ts n → AreMostAgents ts m → n ≡ m
 
 -- agents need one number of cells of each class
 abbrev pub AgentNeedsAreOne : Type 0

@@ -8,7 +8,7 @@ use Rattle.in_arena.specs.declared.content.CellClass.{CellClass}
 use Rattle.in_arena.specs.declared.content.CellNo.{CellNo}
 use Rattle.in_arena.specs.declared.content.End.TheVariants.{Cell, Free}
 use Rattle.in_symbols.specs.Tables.{Tables}
-use Rattle.in_symbols.specs.declared.symbols.SymbolNo.{SymbolNo}
+use Rattle.in_syntax.specs.declared.symbol_no.SymbolNo.{SymbolNo}
 use Rattle.in_net.specs.Parts.{Parts}
 use Rattle.in_compile.specs.declared.cells.Need.{Need}
 use Rattle.in_compile.specs.declared.joints.Joint.TheVariants.{ToAgent, ToBoundary}

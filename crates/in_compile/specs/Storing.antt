@@ -4,7 +4,7 @@ use Rattle.in_symbols.specs.Tables.{Tables}
 use Rattle.in_net.specs.declared.nets.Cell.{Cell}
 use Rattle.in_net.specs.declared.nets.Point.{Point}
 use Rattle.in_net.specs.declared.nets.Point.TheVariants.{Port, Free}
-use Rattle.in_net.specs.NetFaults.{max_member_agents}
+use Rattle.in_syntax.specs.TextLimits.{most_member_agents}
 use Rattle.in_net.specs.Parts.{Parts}
 use Rattle.in_syntax.specs.Grammar.{max_ports}
 use Rattle.in_compile.specs.declared.joints.Joint.{Joint}
@@ -23,13 +23,13 @@ at_boundary = 4294967295
 abbrev pub joint_from : ℕ → ℕ → Joint
 joint_from number place = cond (nat_eq place at_boundary) (ToBoundary number) (ToAgent number place)
 
--- numbers of places and of boundary ends fit a byte
+-- numbers of places fit a byte, and those of boundary ends two
 abbrev pub FitsJoint : ℕ → ℕ → Type 0
-FitsJoint number place = (place ≡ at_boundary → number < 2 ^ 8) × (place ≢ at_boundary → place < 2 ^ 8)
+FitsJoint number place = (place ≡ at_boundary → number < 2 ^ 16) × (place ≢ at_boundary → place < 2 ^ 8)
 
 abbrev pub IsNarrow : Point → Type 0
 IsNarrow (Port x i) = Unit {0}
-IsNarrow (Free e) = e < 2 ^ 8
+IsNarrow (Free e) = e < 2 ^ 16
 
 abbrev pub AreNarrow : List Point → Type 0
 AreNarrow ps = (k : ℕ) (q : Point) → slice_get ps k ≡ Some q → IsNarrow q
@@ -56,9 +56,9 @@ pub record IsLaidOut (agents : List MemberAgent) (joints : List Joint) (boundary
 
 -- a right member's boundary ends and its agents are few
 abbrev pub IsSmallMember : MemberParts → Type 0
-IsSmallMember m = (length m.joints ≤ first_agent_slot) × (length m.agents ≤ max_member_agents)
+IsSmallMember m = (length m.joints ≤ first_agent_slot) × (length m.agents ≤ most_member_agents)
 
--- ---- joints of a right member in two bytes
+-- ---- joints of a right member by slots
 
 abbrev pub joint_at_slot : ℕ → ℕ → Joint
 joint_at_slot slot place = cond (nat_lt slot first_agent_slot) (ToBoundary slot) (ToAgent (slot - first_agent_slot) place)
@@ -68,7 +68,7 @@ abbrev pub FitsSlot : ℕ → ℕ → Type 0
 FitsSlot slot place = (slot < slots) × (place ≤ max_ports) × (slot < first_agent_slot → place ≡ 0)
 
 abbrev pub IsSmallJoint : Joint → Type 0
-IsSmallJoint (ToAgent k i) = (k < max_member_agents) × (i ≤ max_ports)
+IsSmallJoint (ToAgent k i) = (k < most_member_agents) × (i ≤ max_ports)
 IsSmallJoint (ToBoundary e) = e < first_agent_slot
 
 -- ---- the parts that compiling adds

@@ -1,7 +1,7 @@
 -- Templates: a rule's right member, with the data that join it in the place of an active pair.
 use Rattle.std.specs.Prelude.{◌≡◌, ◌⊎◌, ◌↔◌, ◌≤◌, ℕ, Bool, true, IsTrue, List, length, map, Option, Some, option_and_then, slice_get}
 use Rattle.in_arena.specs.declared.content.CellClass.{CellClass}
-use Rattle.in_symbols.specs.declared.symbols.SymbolNo.{SymbolNo}
+use Rattle.in_syntax.specs.declared.symbol_no.SymbolNo.{SymbolNo}
 use Rattle.in_symbols.specs.Tables.{Tables, arity_of}
 use Rattle.in_net.specs.Nets.{signature_of}
 use Rattle.in_net.specs.Rules.{RuleParts}
@@ -63,13 +63,25 @@ pub record HaveFirst (t : Tables) (rules : List RuleParts) (count : ℕ) (templa
 abbrev pub HaveTemplates : Tables → List RuleParts → List TemplateParts → Type 0
 HaveTemplates t rules templates = HaveFirst t rules (length rules) templates
 
--- some template needs `most` cells of this class, and none needs more; without templates it is 0
-abbrev pub IsMost : List TemplateParts → CellClass → ℕ → Type 0
-IsMost templates c most = ((k : ℕ) (p : TemplateParts) → slice_get templates k ≡ Some p → count_of p.member.need c ≤ most)
-    × (((length templates ≡ 0) × (most ≡ 0)) ⊎ ((k : ℕ) × (p : TemplateParts) × (slice_get templates k ≡ Some p) × (count_of p.member.need c ≡ most)))
+-- some template has `most`, counted in this way, and none has more; without templates it is 0
+abbrev pub IsMost : List TemplateParts → (TemplateParts → ℕ) → ℕ → Type 0
+IsMost templates count most = ((k : ℕ) (p : TemplateParts) → slice_get templates k ≡ Some p → count p ≤ most)
+    × (((length templates ≡ 0) × (most ≡ 0)) ⊎ ((k : ℕ) × (p : TemplateParts) × (slice_get templates k ≡ Some p) × (count p ≡ most)))
+
+-- the cells of this class that a template needs
+abbrev pub cells_needed : CellClass → TemplateParts → ℕ
+cells_needed c p = count_of p.member.need c
 
 abbrev pub IsLargestNeed : List TemplateParts → Need → Type 0
-IsLargestNeed templates need = (c : CellClass) → IsMost templates c (count_of need c)
+IsLargestNeed templates need = (c : CellClass) → IsMost templates (cells_needed c) (count_of need c)
+
+-- the agents of a template
+abbrev pub agents_of : TemplateParts → ℕ
+agents_of p = length p.member.agents
+
+-- the most agents that a template has
+abbrev pub AreMostAgents : List TemplateParts → ℕ → Type 0
+AreMostAgents templates most = IsMost templates agents_of most
 
 -- the templates of the program's rules, for two symbols exactly when it has a rule for them, and its net
 pub record AreTemplatesOf (p : Program) (ts : TemplatesParts) : Type 0 where

@@ -3,7 +3,7 @@
 use Rattle.std.specs.Prelude.{◌&&◌, ◌||◌, ◌+◌, ◌*◌, ℕ, Bool, true, false, nat_eq, nat_lt, nat_le, List, map}
 use Rattle.std.specs.List.{filter, enumerate_from, flat_map}
 use Rattle.in_syntax.specs.Grammar.{max_ports}
-use Rattle.in_net.specs.NetFaults.{max_member_agents}
+use Rattle.in_syntax.specs.TextLimits.{most_member_agents}
 use Rattle.in_net.specs.Nets.{Point, Port, Free}
 use Rattle.in_compile.specs.declared.joints.Joint.{Joint}
 use Rattle.in_compile.specs.declared.joints.Joint.TheVariants.{ToAgent, ToBoundary}
@@ -55,7 +55,7 @@ abbrev pub first_agent_slot : ℕ
 first_agent_slot = 2 * max_ports
 
 abbrev pub slots : ℕ
-slots = first_agent_slot + max_member_agents
+slots = first_agent_slot + most_member_agents
 
 -- a joint's slot, and the place in it
 abbrev pub slot_of : Joint → ℕ

@@ -9,7 +9,8 @@ ghost use Rattle.in_compile.specs.Cells.{is_of, agents_of, count_of, IsNeedOf, I
 
 use in_arena::{Arena, CellClass, CellCounts};
 use in_net::{AgentNo, Net};
-use in_symbols::{SymbolNo, Symbols};
+use in_symbols::Symbols;
+use in_syntax::SymbolNo;
 
 /// Whether `need` cells more than the floor are free.
 fn is_above(free: u32, need: u32, floor: u32) -> bool

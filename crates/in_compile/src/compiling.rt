@@ -3,7 +3,7 @@ ghost use Rattle.std.specs.Prelude.{◌≡◌, ◌<◌, IfOk, OnOk, length};
 ghost use Rattle.in_cover.specs.Cover.{IsTableOf};
 ghost use Rattle.in_compile.specs.Finding.{AreFoundBySymbols, AreNumberedBySymbols, PutsAt, listed};
 ghost use Rattle.in_compile.specs.Members.{IsMemberOf};
-ghost use Rattle.in_compile.specs.Templates.{HaveTemplates, IsLargestNeed, AreTemplatesOf};
+ghost use Rattle.in_compile.specs.Templates.{AreMostAgents, HaveTemplates, IsLargestNeed, AreTemplatesOf};
 
 use crate::cells::Need;
 use crate::member::Member;
@@ -57,6 +57,17 @@ fn largest_need(templates: &[Arc<Template>]) -> Need
         largest = largest.or_more(templates[number].need());
     }
     largest
+}
+
+/// The most agents that a template has.
+fn most_agents(templates: &[Arc<Template>]) -> u32
+    ensures { AreMostAgents (listed templates.now) result }
+{
+    let mut most = 0;
+    for number in 0..templates.len() {
+        most = most.max(templates[number].agents());
+    }
+    most
 }
 
 /// A table of that many places, without a template.
@@ -117,6 +128,7 @@ pub fn compile(alloc: Global, checked: &Checked) -> Result<Templates, AllocError
     let numbers = numbers_of(alloc, checked)?;
     let start = start_of(alloc, checked)?;
     let largest = largest_need(templates.as_slice());
+    let most_agents = most_agents(templates.as_slice());
     let size = checked.symbols().symbols();
     let found = by_symbols(alloc, templates.as_slice(), &numbers, size)?;
     Ok(Templates {
@@ -126,5 +138,6 @@ pub fn compile(alloc: Global, checked: &Checked) -> Result<Templates, AllocError
         size,
         start,
         largest,
+        most_agents,
     })
 }

@@ -11,7 +11,7 @@ use std::marker::Model;
 #[derive(Clone, Copy, Debug, PartialEq, Eq)]
 pub enum Joint {
     ToAgent(u32, u8),
-    ToBoundary(u8),
+    ToBoundary(u16),
 }
 
 impl Joint {
@@ -22,7 +22,7 @@ impl Joint {
     {
         match point {
             Point::Port(agent, place) => Joint::ToAgent(agent.0, place),
-            Point::Free(end) => Joint::ToBoundary(end as u8),
+            Point::Free(end) => Joint::ToBoundary(end as u16),
         }
     }
 }
@@ -71,7 +71,7 @@ impl StoredJoint {
         ensures { result ≡ self.now }
     {
         if self.place == AT_BOUNDARY {
-            Joint::ToBoundary(self.number as u8)
+            Joint::ToBoundary(self.number as u16)
         } else {
             Joint::ToAgent(self.number, self.place as u8)
         }

@@ -1,6 +1,6 @@
 //! Laws on templates, stocks and placed members, for proofs above them. No function here does anything.
 
-ghost use Rattle.in_compile.specs.Laws.{EachPairHasOneTemplate, TemplatesAreOne, TemplatesOfAreOne, LargestNeedsAreOne, AgentNeedsAreOne, FirstShortsAreOne, WiresOverAreListed, WiresWithinAreListed, WiresAreListedOnce};
+ghost use Rattle.in_compile.specs.Laws.{EachPairHasOneTemplate, TemplatesAreOne, TemplatesOfAreOne, LargestNeedsAreOne, MostAgentsAreOne, AgentNeedsAreOne, FirstShortsAreOne, WiresOverAreListed, WiresWithinAreListed, WiresAreListedOnce};
 ghost use Rattle.in_compile.specs.PlacingLaws.{MembersAreOne, MemberPutsAreOne, RegainsAreOne, LeasingKeepsAll, GivingBackKeepsAll, AllGoBack, PlacingLosesNone, SettlingLosesNone, PlacingSharesOut, OtherBagsStay, SettledMembersStand};
 
 /// In an accepted program, every two matching symbols have exactly one template, in either order, and it is that of their rule.
@@ -21,6 +21,11 @@ pub fn templates_of_are_one()
 /// The largest need is determined by the templates.
 pub fn largest_needs_are_one()
     ensures { LargestNeedsAreOne }
+{}
+
+/// The most agents of a template are determined by the templates.
+pub fn most_agents_are_one()
+    ensures { MostAgentsAreOne }
 {}
 
 /// The cells that agents need are determined.

@@ -7,7 +7,7 @@ use crate::cells::Need;
 use crate::joints::{Joint, StoredJoint};
 use in_arena::{CellClass, HeadWord};
 use in_base::use_invariant;
-use in_symbols::SymbolNo;
+use in_syntax::SymbolNo;
 use sqlite_items::Items;
 use std::marker::Model;
 
@@ -119,7 +119,7 @@ impl Member {
     }
 
     /// The other end of the wire at this boundary end.
-    pub fn joint(&self, end: u8) -> Joint
+    pub fn joint(&self, end: u16) -> Joint
         requires { end < length self.now.joints }
         ensures { joint_at self.now (ToBoundary end) ≡ Some result }
     {

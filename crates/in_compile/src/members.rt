@@ -1,9 +1,10 @@
 // From a net to its member, and from a rule to its template.
 ghost use Rattle.std.specs.Prelude.{◌≡◌, ◌+◌, ◌≤◌, ◌<◌, ◌^◌, ◌++◌, ◌↔◌, IsTrue, map, length, Some, IfOk, OnOk};
-ghost use Rattle.in_syntax.specs.Grammar.{max_ports, max_symbols};
+ghost use Rattle.in_syntax.specs.Grammar.{max_ports};
+ghost use Rattle.in_syntax.specs.TextLimits.{most_symbols};
 ghost use Rattle.in_symbols.specs.Tables.{IsSymbol};
 ghost use Rattle.in_net.specs.Built.{IsOver, IsCellOver};
-ghost use Rattle.in_net.specs.NetFaults.{max_agents};
+ghost use Rattle.in_syntax.specs.TextLimits.{most_net_agents};
 ghost use Rattle.in_net.specs.Parts.{IsWhole};
 ghost use Rattle.in_net.specs.Rules.{IsRuleOver};
 ghost use Rattle.in_interaction.specs.Queues.{IsFirstQueue};
@@ -23,7 +24,8 @@ use in_arena::{CellClass, HeadWord};
 use in_base::use_promise;
 use in_net::{Cell, Net, Point, Rule};
 use in_overwriting::is_marked;
-use in_symbols::{SymbolNo, Symbols};
+use in_symbols::Symbols;
+use in_syntax::SymbolNo;
 use sqlite_items::Items;
 use std::alloc::{AllocError, Global};
 
@@ -68,7 +70,7 @@ fn add_agent(
     agents: &mut Items<MemberAgent>,
     joints: &mut Items<StoredJoint>,
 ) -> Result<(), AllocError>
-    requires few { length symbols.now.names ≤ max_symbols }
+    requires few { length symbols.now.names ≤ most_symbols }
     requires over { IsCellOver symbols.now (Some cell.now) }
     requires narrow { AreNarrow cell.now.ends }
     requires room { length joints.old < 2 ^ 32 }
@@ -91,10 +93,10 @@ fn add_agents(
     agents: &mut Items<MemberAgent>,
     joints: &mut Items<StoredJoint>,
 ) -> Result<(), AllocError>
-    requires few_symbols { length symbols.now.names ≤ max_symbols }
+    requires few_symbols { length symbols.now.names ≤ most_symbols }
     requires over { IsOver symbols.now net.now }
     requires there { AreAllThere net.now }
-    requires few { length net.now.cells ≤ max_agents }
+    requires few { length net.now.cells ≤ most_net_agents }
     requires start { AreLaidBelow symbols.now net.now 0 agents.old joints.old }
     ensures { OnOk result (AreLaidBelow symbols.now net.now (length net.now.cells) agents.new joints.new) }
 {
@@ -125,10 +127,10 @@ fn own_pairs(alloc: Global, symbols: &Symbols, net: &Net) -> Result<Items<(u32, 
 
 /// The member of a net that is over these tables and as it was built.
 pub(crate) fn member_of(alloc: Global, symbols: &Symbols, net: &Net) -> Result<Member, AllocError>
-    requires few_symbols { length symbols.now.names ≤ max_symbols }
+    requires few_symbols { length symbols.now.names ≤ most_symbols }
     requires over { IsOver symbols.now net.now }
     requires there { AreAllThere net.now }
-    requires few { length net.now.cells ≤ max_agents }
+    requires few { length net.now.cells ≤ most_net_agents }
     ensures { IfOk result (λ m. IsMemberOf symbols.now net.now m) }
 {
     let cells = net.cells();
@@ -197,7 +199,7 @@ pub(crate) fn template(
     symbols: &Symbols,
     rule: &Rule,
 ) -> Result<Template, AllocError>
-    requires few_symbols { length symbols.now.names ≤ max_symbols }
+    requires few_symbols { length symbols.now.names ≤ most_symbols }
     requires over { IsRuleOver symbols.now rule.now }
     requires whole { IsRuleWhole symbols.now rule.now }
     ensures { IfOk result (λ t. IsTemplateOf symbols.now rule.now t) }

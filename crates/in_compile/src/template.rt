@@ -1,6 +1,6 @@
 // A template and its accessors.
 ghost use Rattle.std.specs.Prelude.{◌≡◌, ◌≤◌, ◌<◌, length, Some, slice_get};
-ghost use Rattle.in_net.specs.NetFaults.{max_member_agents};
+ghost use Rattle.in_syntax.specs.TextLimits.{most_member_agents};
 ghost use Rattle.in_compile.specs.declared.joints.Joint.TheVariants.{ToAgent, ToBoundary};
 ghost use Rattle.in_compile.specs.Members.{symbol_at, class_at, places_at, joint_at, IsPlaceOf};
 ghost use Rattle.in_compile.specs.OwnOrders.{FitsOrder};
@@ -12,7 +12,7 @@ use crate::member::Member;
 use crate::wires::{OverWire, WithinWire};
 use in_arena::CellClass;
 use in_base::use_invariant;
-use in_symbols::SymbolNo;
+use in_syntax::SymbolNo;
 use sqlite_items::Items;
 use std::marker::Model;
 
@@ -79,7 +79,7 @@ impl Template {
     /// Its boundary ends and its agents are few enough that each has its own slot, for proofs. The call does nothing.
     pub fn is_small(&self)
         ensures ends { length self.now.member.joints ≤ first_agent_slot }
-        ensures agents { length self.now.member.agents ≤ max_member_agents }
+        ensures agents { length self.now.member.agents ≤ most_member_agents }
     {
         use_invariant!(self.first_ends);
     }
@@ -98,7 +98,7 @@ impl Template {
         self.member.need()
     }
 
-    /// The number of its agents, at most `in_net::MAX_MEMBER_AGENTS`. They are numbered from 0, as in the right member.
+    /// The number of its agents, at most `in_syntax::MOST_MEMBER_AGENTS`. They are numbered from 0, as in the right member.
     pub fn agents(&self) -> u32
         ensures { result ≡ length self.now.member.agents }
     {
@@ -173,7 +173,7 @@ impl Template {
         requires { end < length self.now.member.joints }
         ensures { joint_at self.now.member (ToBoundary end) ≡ Some result }
     {
-        self.member.joint(end)
+        self.member.joint(u16::from(end))
     }
 
     /// The wires that have a boundary end, each once, by its lowest boundary end and its other end, in the order of these boundary ends.

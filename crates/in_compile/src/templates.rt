@@ -1,12 +1,12 @@
 // The templates of a program.
 ghost use Rattle.std.specs.Prelude.{◌≡◌, IsSome, Some};
-ghost use Rattle.in_compile.specs.Templates.{template_at, IsLargestNeed};
+ghost use Rattle.in_compile.specs.Templates.{template_at, AreMostAgents, IsLargestNeed};
 
 use crate::cells::Need;
 use crate::member::Member;
 use crate::template::Template;
 use in_cover::RuleTable;
-use in_symbols::SymbolNo;
+use in_syntax::SymbolNo;
 use sqlite_items::Items;
 use std::marker::Model;
 use std::sync::Arc;
@@ -21,10 +21,11 @@ pub struct Templates {
     pub(crate) size: u32,
     pub(crate) start: Member,
     pub(crate) largest: Need,
+    pub(crate) most_agents: u32,
 }
 
-// Contracts see the templates, by the numbers of their rules, how these numbers are found, and the net. The largest need is kept, so that it is
-// computed once. Templates are found in a table of their own, so that one read leads to a template, and not to the number of its rule first.
+// Contracts see the templates, by the numbers of their rules, how these numbers are found, and the net. The largest need and the most agents are kept, so that
+// they are computed once. Templates are found in a table of their own, so that one read leads to a template, and not to the number of its rule first.
 impl Model for Templates {
     ghost use Rattle.std.specs.Prelude.{map};
     ghost use Rattle.std.specs.Arc.{arc_value};
@@ -65,5 +66,12 @@ impl Templates {
         ensures { IsLargestNeed self.now.templates result }
     {
         self.largest
+    }
+
+    /// The most agents that a template has; 0 if there are no templates.
+    pub fn most_agents(&self) -> u32
+        ensures { AreMostAgents self.now.templates result }
+    {
+        self.most_agents
     }
 }

@@ -16,13 +16,13 @@ use std::alloc::{AllocError, Global};
 use std::marker::Model;
 
 /// The slot of agent 0. Those before it are for boundary ends: a pair has at most 32 auxiliary ports.
-pub const FIRST_AGENT_SLOT: u8 = 32;
+pub const FIRST_AGENT_SLOT: u16 = 32;
 
 /// Where a wire of a right member leads: a slot, which is a boundary end's number or `FIRST_AGENT_SLOT` and the agent's number, and the step to the
 /// place in it, which is 0 at a boundary end. So a machine that keeps its cells by slots finds the wire's end without a test.
 #[derive(Drop)]
 pub struct SmallJoint {
-    slot: u8,
+    slot: u16,
     step: PlaceStep,
 }
 
@@ -45,7 +45,7 @@ impl SmallJoint {
     {
         match joint {
             Joint::ToAgent(agent, place) => SmallJoint {
-                slot: FIRST_AGENT_SLOT + agent as u8,
+                slot: FIRST_AGENT_SLOT + agent as u16,
                 step: PlaceStep::to(place),
             },
             Joint::ToBoundary(end) => SmallJoint {
@@ -55,9 +55,9 @@ impl SmallJoint {
         }
     }
 
-    /// Its slot, below 96.
+    /// Its slot, below 1,056.
     #[inline(always)]
-    pub fn slot(&self) -> u8
+    pub fn slot(&self) -> u16
         ensures slot { result ≡ slot_of self.now }
         ensures few { result < slots }
     {
@@ -103,9 +103,9 @@ impl OverWire {
         self.end
     }
 
-    /// The slot of the wire's other end, below 96.
+    /// The slot of the wire's other end, below 1,056.
     #[inline(always)]
-    pub fn slot(&self) -> u8
+    pub fn slot(&self) -> u16
         ensures slot { result ≡ slot_of self.now.1 }
         ensures few { result < slots }
     {
@@ -156,7 +156,7 @@ impl WithinWire {
 }
 
 /// Whether the wire from this boundary end to that joint has no lower boundary end.
-fn starts_lowest(end: u8, to: Joint) -> bool
+fn starts_lowest(end: u16, to: Joint) -> bool
     ensures { result ≡ is_from_lowest (end, to) }
 {
     match to {
@@ -183,11 +183,11 @@ pub(crate) fn over_wires(alloc: Global, member: &Member) -> Result<Items<OverWir
     use_promise!(member.is_sound());
     let mut wires = Items::new(alloc);
     for number in 0..member.boundary_ends() {
-        let end = number as u8;
+        let end = number as u16;
         let to = member.joint(end);
         if starts_lowest(end, to) {
             wires.push(OverWire {
-                end,
+                end: end as u8,
                 to: SmallJoint::of(to),
             })?;
         }

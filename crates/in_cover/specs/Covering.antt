@@ -1,7 +1,7 @@
 -- The results of the parts of the search for a complete table.
 use Rattle.std.specs.Prelude.{◌≡◌, ◌↔◌, ℕ, ◌<◌, Bool, true, false, List, length, Option, Some, None, IsSome, Ok, Err}
 use Rattle.in_syntax.specs.declared.faults.Fault.TheVariants.{Refused, Memory}
-use Rattle.in_symbols.specs.declared.symbols.SymbolNo.{SymbolNo}
+use Rattle.in_syntax.specs.declared.symbol_no.SymbolNo.{SymbolNo}
 use Rattle.in_symbols.specs.Tables.{Tables, matching}
 use Rattle.in_net.specs.Rules.{RuleParts}
 use Rattle.in_cover.specs.declared.table.RuleNo.{RuleNo}

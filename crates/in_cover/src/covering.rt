@@ -7,8 +7,8 @@ ghost use Rattle.in_cover.specs.Storing.{no_rule};
 
 use crate::table::{RuleNo, RuleTable};
 use in_net::Rule;
-use in_symbols::{SymbolNo, Symbols};
-use in_syntax::{Code, Fault, Refusal};
+use in_symbols::Symbols;
+use in_syntax::{Code, Fault, Refusal, SymbolNo};
 use std::alloc::Global;
 
 /// Writes the rule's number for its two symbols, and returns true, if they had none. Otherwise nothing changes, and it returns false.

@@ -4,7 +4,7 @@ ghost use Rattle.in_cover.specs.Table.{rule_at};
 ghost use Rattle.in_cover.specs.Covering.{HasNoRule, Sets};
 ghost use Rattle.in_cover.specs.Storing.{no_rule};
 
-use in_symbols::SymbolNo;
+use in_syntax::SymbolNo;
 use sqlite_items::Items;
 use std::alloc::{AllocError, Global};
 use std::marker::Model;

@@ -2,6 +2,7 @@
 use Rattle.std.specs.Prelude.{◌≡◌, ℕ, List, [], ◌∷◌, ◌++◌, codes, decimal, Option, Some, None, Vec}
 use Rattle.std.specs.Global.{Global}
 use Rattle.in_syntax.specs.declared.faults.Refusal.{Refusal}
+use Rattle.in_syntax.specs.declared.text_limits.TextLimits.{TextLimits}
 use Rattle.in_syntax.specs.Refusals.{code_number}
 use Rattle.in_check.specs.Checking.{IsCertified, IsRefused}
 use Rattle.in_check.specs.Programs.{Certified}
@@ -22,6 +23,6 @@ abbrev pub IsDataOf : Refusal → List ℕ → Type 0
 IsDataOf r line = (rest : List ℕ) × (line ≡ data_head r ++ rest)
 
 -- a refused text has such a line, and an accepted text has none
-abbrev pub IsToldAsData : List ℕ → Option (Vec ℕ Global) → Type 0
-IsToldAsData text (Some line) = (r : Refusal) × IsRefused text r × IsDataOf r line.items
-IsToldAsData text None = (c : Certified) × IsCertified text c
+abbrev pub IsToldAsData : TextLimits → List ℕ → Option (Vec ℕ Global) → Type 0
+IsToldAsData limits text (Some line) = (r : Refusal) × IsRefused limits text r × IsDataOf r line.items
+IsToldAsData limits text None = (c : Certified) × IsCertified limits text c

@@ -8,7 +8,7 @@ use in_diagnosis_words::{
     Braces, Change, Changed, Kind, Report, Value, Words, declaration_with, has_usual_braces,
     place_at, rule_at,
 };
-use in_syntax::{Code, Fault, Place, Source, SourceSymbol};
+use in_syntax::{Code, Fault, Place, Source, SourceSymbol, TextLimits};
 use std::alloc::{AllocError, Global};
 
 /// The most declarations that are tried. Each takes a check, which may go further than the one that refused the text.
@@ -75,10 +75,10 @@ fn is_stuck(code: Code) -> bool
 }
 
 /// The outcome of `in_check::check` on a text.
-fn answer_to(alloc: Global, text: &[u8]) -> Result<Verdict, AllocError>
-    ensures { IfOk result (IsAnsweredWith text.now) }
+fn answer_to(alloc: Global, limits: TextLimits, text: &[u8]) -> Result<Verdict, AllocError>
+    ensures { IfOk result (IsAnsweredWith limits text.now) }
 {
-    match check(alloc, text) {
+    match check(alloc, limits, text) {
         Ok(_program) => Ok(Verdict::Accepted),
         Err(Fault::Refused(refusal)) if is_stuck(refusal.code) => {
             Ok(Verdict::Stuck(refusal.place.from as usize))
@@ -133,7 +133,7 @@ impl Refused<'_> {
     fn effect(&self, alloc: Global, change: Change) -> Result<Effect, AllocError> {
         let edits = change.edits(alloc, self.text, self.source)?;
         let changed = Changed::new(alloc, self.text, edits.as_slice())?;
-        match answer_to(alloc, changed.text()) {
+        match answer_to(alloc, self.source.limits, changed.text()) {
             Ok(Verdict::Accepted) => Ok(Effect::Accepts),
             Ok(Verdict::Stuck(at)) => Ok(self.effect_at(changed.before(at))),
             Ok(Verdict::Refused) => Ok(Effect::Nothing),

@@ -10,15 +10,19 @@ use crate::stuck::add_stuck;
 use crate::wires::add_misfit;
 use in_check::{Evidence, Findings, Misfit, StuckPart, refusal_of};
 use in_diagnosis_words::{Report, add_more_than, add_text_fault, add_tree_fault, rule_at};
-use in_net::{MAX_AGENTS, MAX_MEMBER_AGENTS};
-use in_syntax::{Code, Expected, Fault, Place, Refusal, Source, parse, parse_expecting};
+use in_syntax::{
+    Code, Expected, Fault, Place, Refusal, Source, TextLimits, parse, parse_expecting,
+};
 use std::alloc::{AllocError, Global};
 
 /// Adds that there are more agents than a right member or the net may have.
 fn add_agents(report: &mut Report, source: &Source, place: Place) {
     let (most, what) = match rule_at(source, place.from as usize) {
-        Some(_) => (MAX_MEMBER_AGENTS, "agents in the right member of a rule"),
-        None => (MAX_AGENTS, "agents in the net"),
+        Some(_) => (
+            report.limits.member_agents(),
+            "agents in the right member of a rule",
+        ),
+        None => (report.limits.agents(), "agents in the net"),
     };
     add_more_than(report, place, most, what);
     report.help(sentences::BUILD_LATER);
@@ -90,11 +94,15 @@ fn add_refusal(report: &mut Report, source: &Source) -> Result<Option<Refusal>, 
 }
 
 /// Adds the reason why the report's text is refused, and returns the refusal; `None` if the text is accepted.
-fn add_first_fault(report: &mut Report, text: &[u8]) -> Result<Option<Refusal>, AllocError>
-    ensures { IfOk result (Refuses text.now) }
+fn add_first_fault(
+    report: &mut Report,
+    limits: TextLimits,
+    text: &[u8],
+) -> Result<Option<Refusal>, AllocError>
+    ensures { IfOk result (Refuses limits text.now) }
 {
     let mut expected = Expected::Item;
-    match parse_expecting(report.alloc, text, &mut expected) {
+    match parse_expecting(report.alloc, limits, text, &mut expected) {
         Ok(source) => add_refusal(report, &source),
         Err(Fault::Refused(refusal)) => {
             add_text_fault(report, refusal, expected);
@@ -104,16 +112,20 @@ fn add_first_fault(report: &mut Report, text: &[u8]) -> Result<Option<Refusal>, 
     }
 }
 
-/// The diagnosis of a program's text, in words for people: the fault in one sentence, the line of the text with a mark under its place, notes
+/// The diagnosis of a program's text with these limits, in words for people: the fault in one sentence, the line of the text with a mark under its place, notes
 /// and help. `None` if `in_check::check` accepts the text. Its only error is running out of memory.
 ///
 /// The fault is the one for which `in_check::check` refuses the text. The words are this project's own choice: a clause says
 /// that there are some exactly when the text is refused, and no clause says which.
-pub fn diagnosis(alloc: Global, text: &[u8]) -> Result<Option<String>, AllocError>
-    ensures { IfOk result (λ found. IsToldOfText text.now (is_some found)) }
+pub fn diagnosis(
+    alloc: Global,
+    limits: TextLimits,
+    text: &[u8],
+) -> Result<Option<String>, AllocError>
+    ensures { IfOk result (λ found. IsToldOfText limits text.now (is_some found)) }
 {
-    let mut report = Report::new(alloc, text);
-    match add_first_fault(&mut report, text)? {
+    let mut report = Report::new(alloc, limits, text);
+    match add_first_fault(&mut report, limits, text)? {
         Some(_refusal) => Ok(Some(report.into_text()?)),
         None => Ok(None),
     }
@@ -121,7 +133,7 @@ pub fn diagnosis(alloc: Global, text: &[u8]) -> Result<Option<String>, AllocErro
 
 /// Adds the reason why passes that have no tree refuse the report's text, which is parsed again.
 fn add_late_fault(report: &mut Report, text: &[u8], refusal: Refusal, evidence: Option<&Evidence>) {
-    match parse(report.alloc, text) {
+    match parse(report.alloc, report.limits, text) {
         Ok(source) => add_reason(report, &source, refusal, evidence),
         Err(Fault::Memory(error)) => report.fail(error),
         // A text that these passes refuse has a tree.
@@ -140,9 +152,10 @@ fn add_found(report: &mut Report, text: &[u8], refusal: Refusal, findings: &Find
     }
 }
 
-/// As `diagnosis`, from what `in_check::check_finding` found of the text, which isn't checked again. `None` if that is no refusal.
+/// As `diagnosis`, from what `in_check::check_finding` found of the text with the same limits, which isn't checked again. `None` if that is no refusal.
 pub fn diagnosis_of(
     alloc: Global,
+    limits: TextLimits,
     text: &[u8],
     findings: &Findings,
 ) -> Result<Option<String>, AllocError>
@@ -150,7 +163,7 @@ pub fn diagnosis_of(
 {
     match findings.refusal() {
         Some(refusal) => {
-            let mut report = Report::new(alloc, text);
+            let mut report = Report::new(alloc, limits, text);
             add_found(&mut report, text, refusal, findings);
             Ok(Some(report.into_text()?))
         }
@@ -168,17 +181,21 @@ fn line_of(alloc: Global, refusal: Refusal, report: Report) -> Result<Vec<u8>, A
     Ok(line)
 }
 
-/// The diagnosis of a program's text as data: one JSON object and a line feed, in UTF-8. It begins with the number of this form, the code, the
+/// The diagnosis of a program's text with these limits as data: one JSON object and a line feed, in UTF-8. It begins with the number of this form, the code, the
 /// line, the column and the bytes of the refusal; then come the sentences of the diagnosis, which are those of `diagnosis`, each with its place
 /// and with the change of the text that it suggests. `None` if `in_check::check` accepts the text. Its only error is running out of memory.
 ///
 /// The refusal is that of `in_check::check`. The form and the words are this project's own choice: a clause says how the line begins, and no
 /// clause says how it goes on.
-pub fn diagnosis_data(alloc: Global, text: &[u8]) -> Result<Option<Vec<u8>>, AllocError>
-    ensures { IfOk result (IsToldAsData text.now) }
+pub fn diagnosis_data(
+    alloc: Global,
+    limits: TextLimits,
+    text: &[u8],
+) -> Result<Option<Vec<u8>>, AllocError>
+    ensures { IfOk result (IsToldAsData limits text.now) }
 {
-    let mut report = Report::new(alloc, text);
-    match add_first_fault(&mut report, text)? {
+    let mut report = Report::new(alloc, limits, text);
+    match add_first_fault(&mut report, limits, text)? {
         Some(refusal) => Ok(Some(line_of(alloc, refusal, report)?)),
         None => Ok(None),
     }

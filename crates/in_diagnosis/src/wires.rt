@@ -2,8 +2,7 @@
 use crate::sentences;
 use in_check::{Misfit, WireEnd};
 use in_diagnosis_words::{Report, ToldEnd, agent_end, free_end, head_end, say_ends};
-use in_symbols::SymbolNo;
-use in_syntax::{Place, Source, SourceSymbol};
+use in_syntax::{Place, Source, SourceSymbol, SymbolNo};
 
 /// The declaration of a symbol.
 fn declared(source: &Source, symbol: SymbolNo) -> Option<&SourceSymbol> {

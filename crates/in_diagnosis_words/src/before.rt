@@ -1,13 +1,13 @@
 //! The tokens before a place at which the grammar refuses a text, and the one right after it.
 use crate::reports::Report;
 use in_syntax::{Fault, Place, Token, TokenKind, tokens};
-use std::alloc::{AllocError, Global};
+use std::alloc::AllocError;
 
-/// The tokens of a part of a text whose tokens have no fault, so the only error is running out of memory.
-pub(crate) fn tokens_of(alloc: Global, part: &[u8]) -> Result<Vec<Token>, AllocError> {
-    match tokens(alloc, part) {
+/// The tokens of a part of the report's text, whose tokens have no fault, so the only error is running out of memory.
+fn tokens_of(report: &Report, part: &[u8]) -> Result<Vec<Token>, AllocError> {
+    match tokens(report.alloc, report.limits, part) {
         Ok(tokens) => Ok(tokens),
-        Err(Fault::Refused(_)) => Ok(Vec::new(alloc)),
+        Err(Fault::Refused(_)) => Ok(Vec::new(report.alloc)),
         Err(Fault::Memory(error)) => Err(error),
     }
 }
@@ -15,13 +15,13 @@ pub(crate) fn tokens_of(alloc: Global, part: &[u8]) -> Result<Vec<Token>, AllocE
 /// The tokens before a place of a text whose tokens have no fault.
 pub(crate) fn tokens_before(report: &Report, place: Place) -> Result<Vec<Token>, AllocError> {
     let front = report.text().get(..place.from as usize).unwrap_or(&[]);
-    tokens_of(report.alloc, front)
+    tokens_of(report, front)
 }
 
 /// The kind of the token right after a place of a text whose tokens have no fault.
 pub(crate) fn kind_after(report: &Report, place: Place) -> Result<Option<TokenKind>, AllocError> {
     let rest = report.text().get(place.to as usize..).unwrap_or(&[]);
-    let tokens = tokens_of(report.alloc, rest)?;
+    let tokens = tokens_of(report, rest)?;
     match tokens.first() {
         Some(token) => Ok(Some(token.kind)),
         None => Ok(None),

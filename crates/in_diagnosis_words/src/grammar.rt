@@ -8,8 +8,7 @@ use crate::reports::Report;
 use crate::sentences;
 use crate::slots::Value;
 use in_syntax::{
-    Expected, MAX_DEPTH, MAX_FREE_NAMES, MAX_PORTS, MAX_RULES, MAX_SYMBOLS, MAX_TYPES, PartOf,
-    Place, Token, TokenKind,
+    Expected, MAX_DEPTH, MAX_PORTS, MAX_TYPES, PartOf, Place, TextLimits, Token, TokenKind,
 };
 use std::alloc::{AllocError, Global};
 
@@ -379,13 +378,13 @@ pub(crate) fn add_too_long(report: &mut Report, place: Place, sentence: &str, mo
 }
 
 /// The limit that is passed when the grammar expects this, and the things that it counts.
-fn limit(expected: Expected) -> (usize, &'static str) {
+fn limit(limits: TextLimits, expected: Expected) -> (usize, &'static str) {
     match expected {
         Expected::TypeName => (MAX_TYPES, "types"),
-        Expected::SymbolName => (MAX_SYMBOLS, "symbols"),
-        Expected::Item => (MAX_RULES, "rules"),
+        Expected::SymbolName => (limits.symbols(), "symbols"),
+        Expected::Item => (limits.rules(), "rules"),
         Expected::PortType => (MAX_PORTS, "auxiliary ports of one symbol"),
-        Expected::FreeName => (MAX_FREE_NAMES, "free ends"),
+        Expected::FreeName => (limits.free_names(), "free ends"),
         _ => (MAX_DEPTH, "terms within each other"),
     }
 }
@@ -408,7 +407,7 @@ pub fn add_more_than(report: &mut Report, place: Place, most: usize, what: &str)
 
 /// Adds the limit of the grammar that is passed when this is expected.
 pub(crate) fn add_limit(report: &mut Report, place: Place, expected: Expected) {
-    let (most, what) = limit(expected);
+    let (most, what) = limit(report.limits, expected);
     add_more_than(report, place, most, what);
     if let Some(sentence) = limit_help(expected) {
         report.help(sentence);

@@ -8,12 +8,13 @@ use crate::names::{
 use crate::pairs::{add_missing_rule, add_second_rule, add_unmatched};
 use crate::reports::Report;
 use crate::sentences;
-use in_syntax::{Code, Expected, MAX_NAME_CHARACTERS, MAX_TEXT_BYTES, Place, Refusal, Source};
+use in_syntax::{Code, Expected, MAX_NAME_CHARACTERS, Place, Refusal, Source};
 
 /// Adds a limit of tokens or of the grammar that is passed.
 fn add_limit_of_text(report: &mut Report, place: Place, expected: Expected) {
-    if report.text().len() > MAX_TEXT_BYTES {
-        add_too_long(report, place, sentences::LONG_TEXT, MAX_TEXT_BYTES);
+    let most = report.limits.text_bytes();
+    if report.text().len() > most {
+        add_too_long(report, place, sentences::LONG_TEXT, most);
     } else if place.from == place.to {
         add_too_long(report, place, sentences::LONG_WORD, MAX_NAME_CHARACTERS);
     } else {

@@ -4,7 +4,7 @@ use crate::edits::Edit;
 use crate::excerpts::{add_excerpt, text_at};
 use crate::slots::Slot;
 use crate::words::Words;
-use in_syntax::Place;
+use in_syntax::{Place, TextLimits};
 use std::alloc::{AllocError, Global};
 
 /// The kind of a part of a diagnosis: an error, a note or help.
@@ -38,6 +38,8 @@ pub(crate) struct Remedy {
 pub struct Report<'a> {
     /// The allocator of its memory.
     pub alloc: Global,
+    /// The limits of the text.
+    pub limits: TextLimits,
     text: &'a [u8],
     parts: Vec<Remark>,
     remedies: Vec<Remedy>,
@@ -46,9 +48,10 @@ pub struct Report<'a> {
 
 impl<'a> Report<'a> {
     /// A diagnosis of a text, with no part yet.
-    pub fn new(alloc: Global, text: &'a [u8]) -> Report<'a> {
+    pub fn new(alloc: Global, limits: TextLimits, text: &'a [u8]) -> Report<'a> {
         Report {
             alloc,
+            limits,
             text,
             parts: Vec::new(alloc),
             remedies: Vec::new(alloc),
@@ -200,6 +203,7 @@ impl<'a> Report<'a> {
     pub fn into_text(self) -> Result<String, AllocError> {
         let Report {
             alloc,
+            limits: _,
             text,
             parts,
             remedies: _,
@@ -215,6 +219,7 @@ impl<'a> Report<'a> {
     pub fn into_data(self) -> Result<String, AllocError> {
         let Report {
             alloc,
+            limits: _,
             text,
             parts,
             remedies,

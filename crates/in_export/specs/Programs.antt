@@ -1,7 +1,7 @@
 -- The text of an accepted program as data: one JSON object on one line. Its form is this project's own choice. All numbers are those of the
 -- program's tables, rules, nets and certificates.
 use Rattle.std.specs.Prelude.{ℕ, List, [], ◌∷◌, ◌++◌, length, codes, decimal, Option, Some, None, option_map, slice_get}
-use Rattle.in_symbols.specs.declared.symbols.SymbolNo.{SymbolNo}
+use Rattle.in_syntax.specs.declared.symbol_no.SymbolNo.{SymbolNo}
 use Rattle.in_net.specs.Parts.{Parts}
 use Rattle.in_net.specs.Rules.{RuleParts}
 use Rattle.in_check.specs.declared.checked.Item.{Item}

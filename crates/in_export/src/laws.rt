@@ -3,7 +3,7 @@
 ghost use Rattle.in_export.specs.Exporting.{TextsAreExportedOnce};
 ghost use Rattle.in_export.specs.Queues.{ActiveWiresAreTheQueue};
 
-/// The line is a function of the text: two results for one text are one line, or one refusal. The law doesn't cover running out of memory.
+/// The line is a function of the text and its limits: two results for one text are one line, or one refusal. The law doesn't cover running out of memory.
 pub fn texts_are_exported_once()
     ensures { TextsAreExportedOnce }
 {}

@@ -9,7 +9,7 @@ use crate::symbols::{add_symbols, add_types};
 use in_check::{Checked, Item};
 use in_cover::RuleNo;
 use in_net::{Net, Rule};
-use in_symbols::SymbolNo;
+use in_syntax::SymbolNo;
 use std::alloc::{AllocError, Global};
 
 /// The number of this form of the line.

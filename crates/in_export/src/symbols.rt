@@ -3,7 +3,8 @@ ghost use Rattle.in_symbols.specs.Tables.{IsSymbol, arity_of};
 ghost use Rattle.in_export.specs.Parts.{types_text, port_type_text, port_text, ports_text, symbol_text, symbols_text};
 
 use crate::json::{add_bool, add_comma, add_key, add_name, add_number};
-use in_symbols::{PortType, SymbolNo, Symbols};
+use in_symbols::{PortType, Symbols};
+use in_syntax::SymbolNo;
 use std::alloc::{AllocError, Global};
 
 /// Adds the names of the types, as an array.

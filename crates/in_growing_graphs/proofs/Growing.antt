@@ -22,11 +22,11 @@ no_edge via depth = record {
     none k u v (inl h) = cc
     none k u v (inr h) = cc
 
-goes_map : (up up' : ℕ → ℕ) (P R : ℕ → Type 0) → ((x p : ℕ) → P x → up x ≡ suc p → R x × (up' x ≡ suc p)) → (x y : ℕ) → GoesUp up P x y → GoesUp up' R x y
+pub goes_map : (up up' : ℕ → ℕ) (P R : ℕ → Type 0) → ((x p : ℕ) → P x → up x ≡ suc p → R x × (up' x ≡ suc p)) → (x y : ℕ) → GoesUp up P x y → GoesUp up' R x y
 goes_map up up' P R f x _ (there _) = there x
 goes_map up up' P R f x y (over _ p _ h e r) = let k = f x p h e in over x p y k.0 k.1 (goes_map up up' P R f p y r)
 
-goes_on : (up : ℕ → ℕ) (P : ℕ → Type 0) (x y z : ℕ) → GoesUp up P x y → GoesUp up P y z → GoesUp up P x z
+pub goes_on : (up : ℕ → ℕ) (P : ℕ → Type 0) (x y z : ℕ) → GoesUp up P x y → GoesUp up P y z → GoesUp up P x z
 goes_on up P x _ z (there _) r = r
 goes_on up P x y z (over _ p _ h e q) r = over x p z h e (goes_on up P p y z q r)
 
@@ -115,9 +115,9 @@ module _ (edges : List (ℕ × ℕ)) (up via depth : ℕ → ℕ) (old : ℕ →
 
   -- ---- the way between two vertices is covered
 
-  module _ (new : ℕ → Bool) (ways : CoversWay up old new a b) where
+  module _ (new : ℕ → Bool) (covers : CoversWay up old new a b) where
     above_new : (x : ℕ) → new x ≡ true → (p : ℕ) × (up x ≡ suc p)
-    above_new x c = elim (cases_Bool (old x)) [ inl h ↦ blobs.above x h | inr h ↦ let r = ways.only x c h in (r.0, r.1) ]
+    above_new x c = elim (cases_Bool (old x)) [ inl h ↦ blobs.above x h | inr h ↦ let r = covers.ways.only x c h in (r.0, r.1) ]
 
     -- each vertex has a head
     head_of : (fuel x : ℕ) → depth x < fuel → (y : ℕ) × HasHead up new x y
@@ -138,7 +138,7 @@ module _ (edges : List (ℕ × ℕ)) (up via depth : ℕ → ℕ) (old : ℕ →
         (r.0, (goes_on up (λ z. new z ≡ true) u y r.0 g r.1.0, r.1.1), (goes_on up (λ z. new z ≡ true) v y r.0 h r.1.0, r.1.1))
 
     goes_kept : (x y : ℕ) → GoesUp up (λ z. old z ≡ true) x y → GoesUp up (λ z. new z ≡ true) x y
-    goes_kept x y g = goes_map up up (λ z. old z ≡ true) (λ z. new z ≡ true) (λ z p c e. (ways.kept z c, e)) x y g
+    goes_kept x y g = goes_map up up (λ z. old z ≡ true) (λ z. new z ≡ true) (λ z p c e. (covers.ways.kept z c, e)) x y g
 
     same_ends : (k u v x p : ℕ) → HasTwoEnds edges k u v → HasTwoEnds edges k x p → AreInOneBlob up new x p → AreInOneBlob up new u v
     same_ends k u v x p g h one = elim (joins_same edges k u v x p g h) [
@@ -183,10 +183,10 @@ module _ (edges : List (ℕ × ℕ)) (up via depth : ℕ → ℕ) (old : ℕ →
       across = along a b b (new_edge edges a b (via x) (λ s. let l = small edges (via x) x p (blobs.rooted.tree x p is_up) in omega (arith, s, l))) (done b)
 
       -- from x down to one end of the new edge, over it, up and down again
-      round : (c d : ℕ) → Walk c d → IsOnOneWay up c d ways.meet x p → Walk x p
-      round c d over_it way = join x c p (back more (via x) c x (walk_up c x way.0)) (join c d p over_it (join d ways.meet p (walk_up d ways.meet way.2) (back more (via x) p ways.meet (walk_up p ways.meet way.1))))
+      round : (c d : ℕ) → Walk c d → IsOnOneWay up c d covers.meet covers.meet x p → Walk x p
+      round c d over_it way = join x c p (back more (via x) c x (walk_up c x way.0)) (join c d p over_it (join d covers.meet p (walk_up d covers.meet way.2) (back more (via x) p covers.meet (walk_up p covers.meet way.1))))
 
-      on_way : IsOnOneWay up a b ways.meet x p ⊎ IsOnOneWay up b a ways.meet x p → IsOnCycle more (via x)
+      on_way : IsOnOneWay up a b covers.meet covers.meet x p ⊎ IsOnOneWay up b a covers.meet covers.meet x p → IsOnCycle more (via x)
       on_way (inl way) = on_cycle more (via x) x p (ends_kept edges a b (via x) x p (blobs.rooted.tree x p is_up)) (round a b across way)
       on_way (inr way) = on_cycle more (via x) x p (ends_kept edges a b (via x) x p (blobs.rooted.tree x p is_up)) (round b a (back more (via x) a b across) way)
 
@@ -194,9 +194,9 @@ module _ (edges : List (ℕ × ℕ)) (up via depth : ℕ → ℕ) (old : ℕ →
     merged = record {
       rooted = rooted_still;
       above = above_new;
-      edge = λ k u v h. elim (ends_cases edges a b k u v h) [ inl g ↦ edge_new k u v g | inr is_new ↦ inl (new_ends new u v is_new.1 (meet a b ways.meet ways.one ways.other)) ];
+      edge = λ k u v h. elim (ends_cases edges a b k u v h) [ inl g ↦ edge_new k u v g | inr is_new ↦ inl (new_ends new u v is_new.1 (meet a b covers.meet covers.ways.one covers.ways.other)) ];
       cycle = λ x c. elim (cases_Bool (old x)) [
         | inl h ↦ cycle_kept edges a b (via x) (blobs.cycle x h)
-        | inr h ↦ let r = ways.only x c h in on_way x r.0 r.1 r.2
+        | inr h ↦ let r = covers.ways.only x c h in on_way x r.0 r.1 r.2
       ];
     }

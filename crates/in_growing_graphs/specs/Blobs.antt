@@ -1,5 +1,5 @@
 -- Vertices joined by two ways, and how a forest keeps them. This project's own.
-use Rattle.std.specs.Prelude.{◌≡◌, ◌≢◌, ◌⊎◌, ℕ, suc, ◌<◌, ◌≤◌, Bool, true, false, cond, nat_eq, List}
+use Rattle.std.specs.Prelude.{◌≡◌, ◌≢◌, ◌⊎◌, ℕ, suc, ◌<◌, Bool, true, false, cond, nat_eq, List}
 use Rattle.in_simple_bridges.specs.Walks.{EdgeWalk, HasTwoEnds, IsOnCycle, Other}
 
 -- whichever edge is left out, a walk leads from one vertex to the other
@@ -44,14 +44,20 @@ pub record AreBlobs (edges : List (ℕ × ℕ)) (up via depth : ℕ → ℕ) (co
 abbrev pub with_value : (ℕ → ℕ) → ℕ → ℕ → ℕ → ℕ
 with_value f a v x = cond (nat_eq x a) v (f x)
 
--- the edge above x, to p, is on the way from a up to z, and not on the one from b
-abbrev pub IsOnOneWay : (ℕ → ℕ) → (a b z x p : ℕ) → Type 0
-IsOnOneWay up a b z x p = GoesUp up (λ y. y ≢ x) a x × GoesUp up (λ y. y ≢ x) p z × GoesUp up (λ y. y ≢ x) b z
+-- ---- two ways up, from a as far as x, and from b as far as y
+
+-- the edge above z, to p, is on the way from a, and not on the one from b
+abbrev pub IsOnOneWay : (ℕ → ℕ) → (a b x y z p : ℕ) → Type 0
+IsOnOneWay up a b x y z p = GoesUp up (λ w. w ≢ z) a z × GoesUp up (λ w. w ≢ z) p x × GoesUp up (λ w. w ≢ z) b y
+
+-- both ways are covered, and no other edges than before
+pub record CoversWays (up : ℕ → ℕ) (old new : ℕ → Bool) (a b x y : ℕ) : Type 0 where
+  pub kept : (z : ℕ) → old z ≡ true → new z ≡ true
+  pub one : GoesUp up (λ z. new z ≡ true) a x
+  pub other : GoesUp up (λ z. new z ≡ true) b y
+  pub only : (z : ℕ) → new z ≡ true → old z ≡ false → (p : ℕ) × (up z ≡ suc p) × (IsOnOneWay up a b x y z p ⊎ IsOnOneWay up b a y x z p)
 
 -- the edges on the way between a and b are covered too
 pub record CoversWay (up : ℕ → ℕ) (old new : ℕ → Bool) (a b : ℕ) : Type 0 where
-  pub kept : (x : ℕ) → old x ≡ true → new x ≡ true
   pub meet : ℕ
-  pub one : GoesUp up (λ x. new x ≡ true) a meet
-  pub other : GoesUp up (λ x. new x ≡ true) b meet
-  pub only : (x : ℕ) → new x ≡ true → old x ≡ false → (p : ℕ) × (up x ≡ suc p) × (IsOnOneWay up a b meet x p ⊎ IsOnOneWay up b a meet x p)
+  pub ways : CoversWays up old new a b meet meet

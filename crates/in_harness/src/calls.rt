@@ -9,8 +9,7 @@ use in_harness_texts::{Came, Sheet, add_call, add_calls, came_of, number, small}
 use in_limits::Limits;
 use in_print::{PrintFault, write_net};
 use in_rounds::{Board, Gather, Machine, NoGate, Round, StartFault};
-use in_symbols::SymbolNo;
-use in_syntax::MemoryOut;
+use in_syntax::{MemoryOut, SymbolNo};
 use std::alloc::{AllocError, Global};
 use std::sync::Wait;
 use std::thread::Threads;

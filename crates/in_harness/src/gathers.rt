@@ -13,7 +13,7 @@ use in_check::Checked;
 use in_compile::{Need, Placed, Stock, Templates};
 use in_harness_texts::{Sheet, are_free, small, word};
 use in_rounds::{Done, Gather, Why};
-use in_symbols::SymbolNo;
+use in_syntax::SymbolNo;
 use std::alloc::Global;
 
 /// Two symbols by their numbers, the words at this index and the next.

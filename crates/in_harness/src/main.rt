@@ -41,7 +41,7 @@ use crate::showing::add_written;
 use in_check::Checked;
 use in_harness_texts::{Sheet, add_answer, answer, small, word};
 use in_rounds::{LEAST_CELLS, MOST_CELLS, Machine, StartFault};
-use in_syntax::MAX_TEXT_BYTES;
+use in_syntax::TextLimits;
 use std::alloc::Global;
 use std::io::Read;
 use std::sync::Wait;
@@ -52,11 +52,12 @@ use std::{env, io};
 fn read_text<R: Read>(alloc: Global, reader: &mut R) -> io::Result<Vec<u8>> {
     let mut text = Vec::new(alloc);
     let mut buffer = [0u8; 4096];
+    let most = TextLimits::Usual.text_bytes();
     // Each turn except the last brings at least one byte, so these are enough.
-    for _turn in 0..MAX_TEXT_BYTES + 1 {
+    for _turn in 0..most + 1 {
         let read = reader.read(&mut buffer)?;
         text.extend_from_slice(&buffer[..read])?;
-        if read == 0 || text.len() > MAX_TEXT_BYTES {
+        if read == 0 || text.len() > most {
             break;
         }
     }

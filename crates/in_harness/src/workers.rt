@@ -13,7 +13,7 @@ use in_check::Checked;
 use in_compile::{Need, Templates};
 use in_harness_texts::{Sheet, small};
 use in_rounds::{Gather, NoGate, Plan, gather_jobs};
-use in_symbols::SymbolNo;
+use in_syntax::SymbolNo;
 use std::sync::Wait;
 use std::thread::Threads;
 

@@ -7,8 +7,8 @@ ghost use Rattle.in_harness_texts.specs.Texts.{IsRead, IsReadProgram, IsBuilt, I
 use crate::opening::add_open_nets;
 use crate::sheet::Sheet;
 use in_net::{AgentNo, Net, Point, Rule, build_net, build_rule};
-use in_symbols::{PortType, SymbolNo, Symbols};
-use in_syntax::{Fault, Source, parse};
+use in_symbols::{PortType, Symbols};
+use in_syntax::{Fault, Source, SymbolNo, TextLimits, parse};
 use std::alloc::{AllocError, Global};
 
 /// The part of a read program that is written.
@@ -228,7 +228,7 @@ fn add_nets(sheet: &mut Sheet, source: &Source, symbols: &Symbols)
 fn tree_of(alloc: Global, text: &[u8]) -> Result<Source, Fault>
     ensures { IfOk result IsRead }
 {
-    parse(alloc, text)
+    parse(alloc, TextLimits::Usual, text)
 }
 
 /// The tables of a tree; only that much has to be known.

@@ -9,7 +9,7 @@ use in_command_line::{Action, Request, Usage, action_of};
 use in_cover::RuleNo;
 use in_open_nets::OpenPoint;
 use in_simple::{Derivation, Node, OpenNet, Step, verify};
-use in_symbols::SymbolNo;
+use in_syntax::SymbolNo;
 use sqlite_items::Items;
 use std::alloc::{AllocError, Global};
 
@@ -192,7 +192,7 @@ fn add_named(sheet: &mut Sheet, action: &Action) {
     add_counts(sheet, limits.cells());
 }
 
-/// Adds the request of words to `inet`: the action, the file, and whether figures are wanted.
+/// Adds the request of words to `inet`: the action, the file, whether figures are wanted, and whether the text has the large limits.
 fn add_asked(sheet: &mut Sheet, request: &Request) {
     add_named(sheet, &request.action);
     if let Some(file) = request.file {
@@ -201,6 +201,9 @@ fn add_asked(sheet: &mut Sheet, request: &Request) {
     }
     if request.stats {
         sheet.say(" with figures");
+    }
+    if request.large {
+        sheet.say(" large");
     }
     sheet.say("\n");
 }

@@ -17,7 +17,7 @@ use in_check::Checked;
 use in_compile::{
     Member, Need, Placed, PlacedTemplate, Stock, Template, Templates, compile, place, place_into,
 };
-use in_symbols::SymbolNo;
+use in_syntax::SymbolNo;
 use std::mem::size_of;
 
 /// The free cells while a stock of the cells of `need` is held, and after it is spent.

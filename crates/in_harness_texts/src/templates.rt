@@ -6,7 +6,7 @@ use crate::sheet::Sheet;
 use in_arena::CellClass;
 use in_check::Checked;
 use in_compile::{Joint, Need, Template, Templates, compile};
-use in_symbols::SymbolNo;
+use in_syntax::SymbolNo;
 
 pub fn add_need(sheet: &mut Sheet, need: Need) {
     let numbers = CellClass::ALL.map(|class| need.of(class) as u64);

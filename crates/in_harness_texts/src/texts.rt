@@ -2,7 +2,7 @@
 use crate::sheet::Sheet;
 use in_syntax::{
     Equation, NameUse, Place, Source, SourceClass, SourceFree, SourcePort, SourceRule,
-    SourceSymbol, Token, names_of_body, names_of_rule, parse, tokens,
+    SourceSymbol, TextLimits, Token, names_of_body, names_of_rule, parse, tokens,
 };
 use sqlite_items::Items;
 use std::alloc::AllocError;
@@ -15,7 +15,7 @@ fn add_token(sheet: &mut Sheet, token: &Token) {
 
 /// A line for each token: its kind and its place.
 pub fn add_tokens(sheet: &mut Sheet, text: &[u8]) {
-    match tokens(sheet.alloc, text) {
+    match tokens(sheet.alloc, TextLimits::Usual, text) {
         Ok(tokens) => {
             for token in &tokens {
                 add_token(sheet, token);
@@ -27,7 +27,7 @@ pub fn add_tokens(sheet: &mut Sheet, text: &[u8]) {
 
 /// Adds the number of tokens.
 pub fn add_count(sheet: &mut Sheet, text: &[u8]) {
-    match tokens(sheet.alloc, text) {
+    match tokens(sheet.alloc, TextLimits::Usual, text) {
         Ok(tokens) => sheet.fill("# tokens\n", &[tokens.len() as u64]),
         Err(fault) => sheet.add_fault(&fault),
     }
@@ -162,7 +162,7 @@ fn add_sizes(sheet: &mut Sheet, source: &Source) {
 
 /// Adds that part of a text's tree, or the reason why the text is refused.
 pub fn add_tree(sheet: &mut Sheet, text: &[u8], shown: Shown) {
-    match parse(sheet.alloc, text) {
+    match parse(sheet.alloc, TextLimits::Usual, text) {
         Ok(source) => {
             match shown {
                 Shown::Tree => add_source(sheet, text, &source),

@@ -11,7 +11,7 @@ use Rattle.in_interaction.specs.Interacting.{unused, most_agents, CanInteract}
 use Rattle.in_net.specs.Interactions.{AreJoined, IsOfPair, redex_at}
 use Rattle.in_net.specs.Nets as nets
 use Rattle.in_net.specs.Nets.{net_of, signature_of, point_of}
-use Rattle.in_net.specs.NetFaults.{max_member_agents}
+use Rattle.in_syntax.specs.TextLimits.{most_member_agents}
 use Rattle.in_net.specs.Parts.{Parts, IsPointOf, IsWhole, cell_in, partner_in}
 use Rattle.in_net.specs.Rules.{RuleParts}
 
@@ -30,7 +30,7 @@ pub record IsSite (s : SiteParts) : Type 0 where
   pub whole : IsWhole s.net
   pub member : IsWhole s.rule.member
   pub room : count_by is_some s.net.cells ≤ most_agents
-  pub few : length s.rule.member.cells ≤ max_member_agents
+  pub few : length s.rule.member.cells ≤ most_member_agents
   pub first : (c : Cell) → cell_in s.net s.one.0 ≡ Some c → length c.ends ≡ s.first + 1
   pub many : length s.names ≡ length s.rule.member.cells
   pub names : (k : ℕ) → k < length s.names → slice_get s.names k ≡ Some (record { 0 = unused s.net.cells k })

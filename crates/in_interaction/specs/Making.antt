@@ -2,7 +2,7 @@
 use Rattle.std.specs.Prelude.{◌≡◌, ◌<◌, ◌≤◌, ◌*◌, ◌+◌, ◌++◌, ℕ, zero, suc, List, length, map, Option, Some, None, slice_get}
 use Rattle.in_base.specs.Lists.{IsAmong}
 use Rattle.in_symbols.specs.Tables.{Tables}
-use Rattle.in_symbols.specs.declared.symbols.SymbolNo.{SymbolNo}
+use Rattle.in_syntax.specs.declared.symbol_no.SymbolNo.{SymbolNo}
 use Rattle.in_syntax.specs.Grammar.{max_ports}
 use Rattle.in_interaction.specs.declared.making.Reached.{Reached}
 use Rattle.in_interaction.specs.declared.making.Reached.TheVariants.{End, Staying}

@@ -1,5 +1,6 @@
 ghost use Rattle.std.specs.Prelude.{◌≡◌, ◌+◌, ◌*◌, ◌^◌, ◌<◌, ◌≤◌, ◌↔◌, List, length, count_by, is_some, IsTrue, IfOk, OnOk};
-ghost use Rattle.in_syntax.specs.Grammar.{max_free, max_ports};
+ghost use Rattle.in_syntax.specs.Grammar.{max_ports};
+ghost use Rattle.in_syntax.specs.TextLimits.{most_free};
 ghost use Rattle.in_interaction.specs.Listing.{unlisted, AddsWire, AddsWires, AreListed, AreEndsOf, HaveFewEnds};
 ghost use Rattle.in_net.specs.Parts.{Parts};
 ghost use Rattle.in_net.specs.TextNet.{ComesBefore};
@@ -48,7 +49,7 @@ fn add_wire(wires: &mut Items<Wire>, one: Point, other: Point) -> Result<(), All
 
 /// The wires that begin at free ends with these partners.
 fn wires_of_free(alloc: Global, ends: &[Point]) -> Result<Items<Wire>, AllocError>
-    requires { length ends.now ≤ max_free }
+    requires { length ends.now ≤ most_free }
     ensures { IfOk result (λ ws. (n : Parts) → AreEndsOf ends.now n.free → AreListed n (λ p. ComesBefore p (Free (length ends.now))) ws) }
 {
     let mut wires = Items::new(alloc);
@@ -75,7 +76,7 @@ pub(crate) fn wires(
     cells: &[Option<Cell>],
     ends: &[Point],
 ) -> Result<Items<Wire>, AllocError>
-    requires ends { length ends.now ≤ max_free }
+    requires ends { length ends.now ≤ most_free }
     requires cells { length cells.now < 2 ^ 32 }
     requires ports { HaveFewEnds cells.now }
     ensures { IfOk result (λ ws. (free : List FreeEnd) → AreEndsOf ends.now free → AreListed (unlisted cells.now free) (λ p. Unit {0}) ws) }

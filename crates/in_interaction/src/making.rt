@@ -8,8 +8,8 @@ use crate::following::Site;
 use crate::interacting::{arity, unused};
 use in_base::use_invariant;
 use in_net::{AgentNo, Net, Point, Rule, in_order};
-use in_symbols::{SymbolNo, Symbols};
-use in_syntax::MAX_PORTS;
+use in_symbols::Symbols;
+use in_syntax::{MAX_PORTS, SymbolNo};
 use smallvec::SmallVec;
 use std::alloc::{AllocError, Global};
 

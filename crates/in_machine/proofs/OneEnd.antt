@@ -48,7 +48,7 @@ same_text m h none =
 pub normal_ends_are_one : NormalEndsAreOne
 normal_ends_are_one m k h reached none =
     let ended = ended_by (net_of (parts_of m)) m.queue (machine_queue m h) none in
-    programs_have_one_end h.accepted.0 m.program h.accepted.1 k (text_of m) (record {
+    programs_have_one_end h.accepted.0 h.accepted.1 m.program h.accepted.2 k (text_of m) (record {
       net = net_of (parts_of m);
       reached = reached;
       ended = ended;

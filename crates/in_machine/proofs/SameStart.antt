@@ -21,17 +21,18 @@ use Rattle.in_reducer.specs.Starts.{IsStart}
 use Rattle.in_reducer.specs.Same.{AreSame}
 use Rattle.in_compile.proofs.Public.{same_need}
 use Rattle.in_reducer.proofs.Public.{as_many_of, between, from_to, lives, map_same, map_twice, queue_moved, renamed_between}
+use Rattle.in_syntax.specs.declared.text_limits.TextLimits.{TextLimits}
 
 -- of the cells of each class, as many are free as the agents of the program's net leave
 pub count_at : (p : Program) (cells : CellCounts) (m : MachineParts) → IsStart p cells m → (c : CellClass) → count_of m.vacant c + agents_of p.tables c p.net.cells ≡ amount cells c
 count_at p cells m h c = ap (λ (k : ℕ). count_of m.vacant c + k) (as_many_of p.tables c h.name p.net (parts_of m) h.net) ∙ ap (λ (q : Program). count_of m.vacant c + agents_of q.tables c m.agents) (sym h.program) ∙ h.counted c
 
-module _ (text : List ℕ) (p : Program) (accepted : IsAccepted text p) (cells : CellCounts) where
+module _ (limits : TextLimits) (text : List ℕ) (p : Program) (accepted : IsAccepted limits text p) (cells : CellCounts) where
   net_at : IsNet (signature_of p.tables) (net_of p.net)
-  net_at = (is_sound text p accepted).start.net
+  net_at = (is_sound limits text p accepted).start.net
 
   opposed_at : AreOpposed p.tables p.net
-  opposed_at = opposed_in p.tables p.net (is_sound text p accepted).start.typed
+  opposed_at = opposed_in p.tables p.net (is_sound limits text p accepted).start.typed
 
   module _ (m : MachineParts) (h : IsStart p cells m) where
     pub start_reached : IsReachedBy (plain_of m) 0
@@ -46,7 +47,7 @@ module _ (text : List ℕ) (p : Program) (accepted : IsAccepted text p) (cells :
 
     pub start_machine : AreAllowed cells → IsMachine m
     start_machine few = record {
-      accepted = (text, subst (λ (z : Program). IsAccepted text z) (sym h.program) accepted);
+      accepted = (limits, text, subst (λ (z : Program). IsAccepted limits text z) (sym h.program) accepted);
       plain = start_plain;
       queue = subst (λ (z : Program). IsQueueOf z.tables (parts_of m) m.queue) (sym h.program)
           (subst (IsQueueOf p.tables (parts_of m)) (sym h.queue) (queue_moved p.tables h.name p.net (parts_of m) net_at h.net opposed_at h.first h.pairs.pairs));

@@ -21,7 +21,7 @@ use Rattle.in_machine.specs.Machines.{IsMachine}
 -- ---- a machine is a reducer, and its program reaches its net
 
 pub as_reducer : (m : MachineParts) → IsMachine m → IsReducer m
-as_reducer m h = record { accepted = h.accepted; net = plain_is_reducible h.accepted.0 (plain_of m) h.accepted.1 h.plain; queue = h.queue; cells = h.cells }
+as_reducer m h = record { accepted = h.accepted; net = plain_is_reducible h.accepted.0 h.accepted.1 (plain_of m) h.accepted.2 h.plain; queue = h.queue; cells = h.cells }
 
 pub as_machine : (m : MachineParts) → IsReducer m → IsPlain (plain_of m) → IsMachine m
 as_machine m h plain = record { accepted = h.accepted; plain = plain; queue = h.queue; cells = h.cells }

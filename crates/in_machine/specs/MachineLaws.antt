@@ -20,6 +20,7 @@ use Rattle.in_reducer.specs.Starts.{IsStart}
 use Rattle.in_reducer.specs.Runs.{Runs}
 use Rattle.in_reducer.specs.Same.{AreSame}
 use Rattle.in_machine.specs.Texts.{text_of}
+use Rattle.in_syntax.specs.declared.text_limits.TextLimits.{TextLimits}
 
 -- the net that a machine shows is as promised
 abbrev pub MachinesAsPromised : Type 0
@@ -51,11 +52,11 @@ SameAreReached = (m n : MachineParts) (k : ℕ) → AreSame m n → IsReachedBy 
 
 -- an accepted program and a number of cells have one first machine, up to the numbers of its agents
 abbrev pub StartsAreSame : Type 0
-StartsAreSame = (text : List ℕ) (p : Program) (cells : CellCounts) (m n : MachineParts) → IsAccepted text p → IsStart p cells m → IsStart p cells n → AreSame m n
+StartsAreSame = (limits : TextLimits) (text : List ℕ) (p : Program) (cells : CellCounts) (m n : MachineParts) → IsAccepted limits text p → IsStart p cells m → IsStart p cells n → AreSame m n
 
 -- a start of an accepted program is a machine
 abbrev pub StartsAreMachines : Type 0
-StartsAreMachines = (text : List ℕ) (p : Program) (cells : CellCounts) (m : MachineParts) → IsAccepted text p → AreAllowed cells → IsStart p cells m → IsMachine m
+StartsAreMachines = (limits : TextLimits) (text : List ℕ) (p : Program) (cells : CellCounts) (m : MachineParts) → IsAccepted limits text p → AreAllowed cells → IsStart p cells m → IsMachine m
 
 -- a machine without active pairs is the only end of its program: each run that ends, in any order, has as many interactions and the same text
 abbrev pub NormalEndsAreOne : Type 0

@@ -12,7 +12,7 @@ ghost use Rattle.in_machine.specs.Machines.{IsMachine};
 use crate::machine::Machine;
 use in_arena::{CellClass, CellNo, End};
 use in_compile::Need;
-use in_symbols::SymbolNo;
+use in_syntax::SymbolNo;
 
 impl<'a> Machine<'a> {
     /// The number of active pairs left.

@@ -8,7 +8,7 @@ use Rattle.in_syntax.specs.Sizes.{IsSized}
 use Rattle.in_syntax.specs.declared.faults.Fault.{Fault}
 use Rattle.in_syntax.specs.declared.places.Place.{Place}
 use Rattle.in_syntax.specs.declared.tree.Source.{Source}
-use Rattle.in_syntax.specs.Grammar.{max_free, max_ports}
+use Rattle.in_syntax.specs.Grammar.{max_ports}
 use Rattle.in_net.specs.declared.reading.Reading.{Reading}
 use Rattle.in_net.specs.declared.reading.Agent.{Agent}
 use Rattle.in_net.specs.declared.reading.TextSpot.{TextSpot}
@@ -22,10 +22,10 @@ use Rattle.in_symbols.specs.Tables.{Tables, IsTabled, arity_of}
 use Rattle.in_net.specs.declared.nets.FreeEnd.{FreeEnd}
 use Rattle.in_net.specs.Building.{nth_spot, nth_agent, IsPointSpot, AreSmallSpots, ends_from, cells_of, wires_from}
 use Rattle.in_net.specs.TextNet.{body_of, IsNetOf}
-use Rattle.in_net.specs.NetFaults.{max_agents, IsFirstNetFault, HasNoNetFault, HasNoClosedWire}
+use Rattle.in_net.specs.NetFaults.{IsFirstNetFault, HasNoNetFault, HasNoClosedWire}
 use Rattle.in_syntax.specs.declared.faults.Code.TheVariants.{E09}
 use Rattle.in_syntax.specs.declared.faults.Fault.TheVariants.{Refused, Memory}
-use Rattle.in_syntax.specs.Tokens.{text_limit}
+use Rattle.in_syntax.specs.TextLimits.{max_agents, most_bytes, most_free}
 
 -- the tree of a text, and its tables, without a fault of names: its net can be read
 pub record IsReadableNet (source : Source) (t : Tables) : Type 0 where
@@ -75,9 +75,9 @@ pub record IsReadFrom (t : Tables) (free : ℕ) (r : Reading) : Type 0 where
   pub agents : AgentsOf t r.spots r.agents
   pub free_points : ArePointsAt r.spots 0 free
   pub small : AreSmallSpots r.spots
-  pub few_agents : length r.agents ≤ text_limit
-  pub few_spots : length r.spots ≤ max_free + (max_ports + 1) * text_limit
-  pub few_free : free ≤ max_free
+  pub few_agents : length r.agents ≤ most_bytes
+  pub few_spots : length r.spots ≤ most_free + (max_ports + 1) * most_bytes
+  pub few_free : free ≤ most_free
   pub few_ports : HaveFewPorts t
 
 -- the same wires, in the order of their places
@@ -113,6 +113,6 @@ closed_at p = Refused (refusal_of E09 p)
 -- Ok: there is no fault of agents and names and no closed wire, the net is over the program's tables, and it is the net of the text. A refusal
 -- is for the first such fault, or, if there is none, for the first closed wire
 abbrev pub Builds : Source → Tables → Result Parts Fault → Type 0
-Builds source t (Ok n) = IsOver t n × IsNetOf t source.net n × HasNoNetFault max_agents t (body_of source.net) × HasNoClosedWire t (body_of source.net)
-Builds source t (Err (Refused r)) = IsFirstNetFault max_agents t (body_of source.net) r.code r.place × (r.other ≡ None)
+Builds source t (Ok n) = IsOver t n × IsNetOf t source.net n × HasNoNetFault (max_agents source.limits) t (body_of source.net) × HasNoClosedWire t (body_of source.net)
+Builds source t (Err (Refused r)) = IsFirstNetFault (max_agents source.limits) t (body_of source.net) r.code r.place × (r.other ≡ None)
 Builds source t (Err (Memory e)) = Unit {0}

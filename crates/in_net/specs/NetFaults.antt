@@ -13,13 +13,6 @@ use Rattle.in_symbols.specs.Names.{number_in}
 use Rattle.in_base.specs.Lists.{IsAmong}
 use Rattle.in_net.specs.TextNet.{Body, LeftHead, IsTermOf, IsAgentOfTerm, IsVariable, name_of, place_of, Written, agents_of_body, IsClosedWireOf}
 
--- the most agents that the initial net may have, and the most that a right member may have
-abbrev pub max_agents : ℕ
-max_agents = 4000
-
-abbrev pub max_member_agents : ℕ
-max_member_agents = 64
-
 -- the place is that of the name of the first agent past the limit
 abbrev pub IsTooManyAt : ℕ → Tables → Body → Place → Type 0
 IsTooManyAt most t b p = (w : Written) × (slice_get (agents_of_body t b) most ≡ Some w) × (w.place ≡ p)

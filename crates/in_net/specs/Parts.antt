@@ -1,14 +1,15 @@
 -- The view of a net: all that its accessors read.
 use Rattle.std.specs.Prelude.{◌≡◌, ◌≢◌, ◌⊎◌, ℕ, ◌+◌, ◌^◌, ◌<◌, ◌≤◌, Bool, true, List, length, Option, Some, IsSomeAnd, option_map, option_and_then, slice_get}
 use Rattle.in_syntax.specs.declared.places.Place.{Place}
-use Rattle.in_syntax.specs.Grammar.{max_free, max_ports}
+use Rattle.in_syntax.specs.Grammar.{max_ports}
 use Rattle.in_symbols.specs.declared.symbols.PortType.{PortType}
-use Rattle.in_symbols.specs.declared.symbols.SymbolNo.{SymbolNo}
+use Rattle.in_syntax.specs.declared.symbol_no.SymbolNo.{SymbolNo}
 use Rattle.in_net.specs.declared.nets.Point.{Point}
 use Rattle.in_net.specs.declared.nets.Point.TheVariants.{Port, Free}
 use Rattle.in_net.specs.declared.nets.Cell.{Cell}
 use Rattle.in_net.specs.declared.nets.FreeEnd.{FreeEnd}
 use Rattle.in_net.specs.declared.nets.Wire.{Wire}
+use Rattle.in_syntax.specs.TextLimits.{most_free}
 
 -- agents by number, with the partner of each of their places; free ends; wires by number; agents' places
 pub record Parts : Type 0 where
@@ -62,7 +63,7 @@ IsWireBetween n w p q = (wire_in n w ≡ Some (p, q)) ⊎ (wire_in n w ≡ Some 
 pub record IsWhole (n : Parts) : Type 0 where
   pub agents : length n.cells < 2 ^ 32
   pub ports : (x : ℕ) (c : Cell) → cell_in n x ≡ Some c → length c.ends ≤ max_ports + 1
-  pub ends : length n.free ≤ max_free
+  pub ends : length n.free ≤ most_free
   pub wires : length n.wires < 2 ^ 32
   pub back : (p q : Point) → partner_in n p ≡ Some q → partner_in n q ≡ Some p
   pub apart : (p : Point) → partner_in n p ≢ Some p

@@ -7,7 +7,7 @@ use Rattle.in_syntax.specs.declared.tree.Term.TheOpen.{Term-F}
 use Rattle.in_syntax.specs.declared.tree.Term.TheFolds.{fold-Term}
 use Rattle.in_syntax.specs.declared.tree.Equation.{Equation}
 use Rattle.in_syntax.specs.declared.tree.SourceFree.{SourceFree}
-use Rattle.in_symbols.specs.declared.symbols.SymbolNo.{SymbolNo}
+use Rattle.in_syntax.specs.declared.symbol_no.SymbolNo.{SymbolNo}
 use Rattle.in_net.specs.declared.reading.TextSpot.{TextSpot}
 use Rattle.in_net.specs.declared.reading.TextSpot.TheVariants.{Port, Free, End, Occurrence}
 use Rattle.in_net.specs.declared.reading.Reading.{Reading}

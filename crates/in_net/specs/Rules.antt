@@ -8,7 +8,7 @@ use Rattle.in_syntax.specs.declared.places.Place.{Place}
 use Rattle.in_syntax.specs.declared.tree.Head.{Head}
 use Rattle.in_syntax.specs.declared.tree.Source.{Source}
 use Rattle.in_syntax.specs.declared.tree.SourceRule.{SourceRule}
-use Rattle.in_symbols.specs.declared.symbols.SymbolNo.{SymbolNo}
+use Rattle.in_syntax.specs.declared.symbol_no.SymbolNo.{SymbolNo}
 use Rattle.in_symbols.specs.Names.{number_in}
 use Rattle.std.specs.List.{AllByRecursion}
 use Rattle.in_symbols.specs.declared.symbols.PortType.{PortType}
@@ -16,10 +16,11 @@ use Rattle.in_syntax.specs.Order.{IsRuleInOrder}
 use Rattle.in_syntax.specs.Sizes.{names_in_rule}
 use Rattle.in_symbols.specs.Tables.{Tables, IsSymbol, IsRuleKnown, arity_of, port_at, is_constructor, matching}
 use Rattle.in_net.specs.Built.{IsOver, HaveFewPorts}
-use Rattle.in_net.specs.NetFaults.{max_member_agents, HasNoNetFault, HasNoClosedWire, IsFirstNetFault}
+use Rattle.in_net.specs.NetFaults.{HasNoNetFault, HasNoClosedWire, IsFirstNetFault}
 use Rattle.in_net.specs.Parts.{Parts, IsWhole}
 use Rattle.in_net.specs.TextNet.{Body, heads_at, HasAgentsOf, HasWiresOf}
-use Rattle.in_syntax.specs.Tokens.{text_limit}
+use Rattle.in_syntax.specs.TextLimits.{max_member_agents, most_bytes}
+use Rattle.in_syntax.specs.declared.text_limits.TextLimits.{TextLimits}
 
 -- ---- the view of a rule
 
@@ -108,19 +109,19 @@ pub record IsRuleOver (t : Tables) (p : RuleParts) : Type 0 where
 
 -- Ok: there is no fault of agents and names and no closed wire, the rule is over the program's tables, and it is the rule of the text. A
 -- refusal is for the first such fault, or, if there is none, for the first closed wire
-abbrev pub BuildsRuleOf : Tables → SourceRule → Result RuleParts Fault → Type 0
-BuildsRuleOf t r (Ok p) = IsRuleOver t p × IsRuleOf t r p × HasNoNetFault max_member_agents t (body_of_rule t r) × HasNoClosedWire t (body_of_rule t r)
-BuildsRuleOf t r (Err (Refused f)) = IsFirstNetFault max_member_agents t (body_of_rule t r) f.code f.place × (f.other ≡ None)
-BuildsRuleOf t r (Err (Memory e)) = Unit {0}
+abbrev pub BuildsRuleOf : TextLimits → Tables → SourceRule → Result RuleParts Fault → Type 0
+BuildsRuleOf limits t r (Ok p) = IsRuleOver t p × IsRuleOf t r p × HasNoNetFault (max_member_agents limits) t (body_of_rule t r) × HasNoClosedWire t (body_of_rule t r)
+BuildsRuleOf limits t r (Err (Refused f)) = IsFirstNetFault (max_member_agents limits) t (body_of_rule t r) f.code f.place × (f.other ≡ None)
+BuildsRuleOf limits t r (Err (Memory e)) = Unit {0}
 
 -- the same of the rule of that number
 abbrev pub BuildsRule : Source → Tables → ℕ → Result RuleParts Fault → Type 0
-BuildsRule source t index answer = (r : SourceRule) × (slice_get source.rules index ≡ Some r) × BuildsRuleOf t r answer
+BuildsRule source t index answer = (r : SourceRule) × (slice_get source.rules index ≡ Some r) × BuildsRuleOf source.limits t r answer
 
 -- a rule of a parsed and tabled program: its names are known and in order, they are no more than its text has bytes,
 -- and each symbol has few places
 pub record IsReadable (t : Tables) (r : SourceRule) : Type 0 where
   pub known : IsRuleKnown t.names r
   pub order : IsRuleInOrder r
-  pub few : names_in_rule r ≤ text_limit
+  pub few : names_in_rule r ≤ most_bytes
   pub small : HaveFewPorts t

@@ -2,7 +2,7 @@ ghost use Rattle.std.specs.Prelude.{◌≡◌, ◌+◌, ◌<◌, ◌++◌, true,
 ghost use Rattle.in_symbols.specs.Tables.{FreeKnown};
 ghost use Rattle.in_net.specs.Building.{point_of, IsSmall, AreSmallSpots, IsJoined, nth_spot, IsPointSpot, partner_of, ends_from, cells_of, free_ends_from, wire_of, wires_from};
 ghost use Rattle.in_net.specs.Joining.{joined_spots};
-ghost use Rattle.in_net.specs.NetFaults.{max_agents};
+ghost use Rattle.in_syntax.specs.TextLimits.{max_agents};
 ghost use Rattle.in_net.specs.Reading.{reading_of};
 ghost use Rattle.in_net.specs.Searching.{first_fault};
 ghost use Rattle.in_net.specs.TextNet.{body_of};
@@ -210,7 +210,7 @@ fn linked_net(
 ) -> Result<Net, Fault>
     requires readable { IsReadableNet source.now symbols.now }
     requires read { reading.now ≡ reading_of symbols.now (body_of source.now.net) }
-    requires clear { None ≡ first_fault max_agents symbols.now (body_of source.now.net) reading.now }
+    requires clear { None ≡ first_fault (max_agents source.now.limits) symbols.now (body_of source.now.net) reading.now }
     requires links { links.now ≡ (joined_spots reading.now).links }
     requires whole { (joined_spots reading.now).closed ≡ None }
     ensures { Builds source.now symbols.now result }
@@ -229,7 +229,7 @@ fn joined_net(
 ) -> Result<Net, Fault>
     requires readable { IsReadableNet source.now symbols.now }
     requires read { reading.now ≡ reading_of symbols.now (body_of source.now.net) }
-    requires clear { None ≡ first_fault max_agents symbols.now (body_of source.now.net) reading.now }
+    requires clear { None ≡ first_fault (max_agents source.now.limits) symbols.now (body_of source.now.net) reading.now }
     ensures { Builds source.now symbols.now result }
 {
     let joined = join_all(alloc, reading)?;
@@ -250,7 +250,7 @@ fn net_of(
     requires read { reading.now ≡ reading_of symbols.now (body_of source.now.net) }
     ensures { Builds source.now symbols.now result }
 {
-    match first_fault(alloc, symbols, &source.net, reading)? {
+    match first_fault(alloc, source.limits, symbols, &source.net, reading)? {
         Some(refusal) => Err(Fault::Refused(refusal)),
         None => joined_net(alloc, source, symbols, reading),
     }
@@ -259,7 +259,7 @@ fn net_of(
 /// The initial net of a program.
 ///
 /// Refused for the first fault in the order of the text, at one place the lower code: E03 at the name of the agent that is one
-/// more than `MAX_AGENTS`; E07 at an agent's name, where its number of arguments isn't its symbol's arity; E08 if a variable
+/// more than its limits allow; E07 at an agent's name, where its number of arguments isn't its symbol's arity; E08 if a variable
 /// doesn't occur twice or a free name once: at a variable's only occurrence or its third one, at the declaration of a free name
 /// that doesn't occur, or at its second occurrence in the body. Only without these faults, E09 for a closed wire, the first by
 /// the place of the wire. Or when out of memory. Lafont 1990 writes a net as equations between terms, in which each variable

@@ -2,7 +2,7 @@ ghost use Rattle.std.specs.Prelude.{◌≡◌, length, IfOk};
 ghost use Rattle.in_syntax.specs.declared.tree.Term.{out-Term};
 ghost use Rattle.in_symbols.specs.Names.{number_in};
 ghost use Rattle.in_net.specs.Counting.{NamesInside};
-ghost use Rattle.in_net.specs.NetFaults.{max_agents, max_member_agents};
+ghost use Rattle.in_syntax.specs.TextLimits.{max_agents, max_member_agents};
 ghost use Rattle.in_net.specs.Rules.{body_of_rule};
 ghost use Rattle.in_net.specs.Searching.{too_many, misfit_here, misfit, misfit_in_head, misfit_in_equations, fault_of, first_fault};
 ghost use Rattle.in_net.specs.TextNet.{body_of};
@@ -10,14 +10,10 @@ ghost use Rattle.in_net.specs.TextNet.{body_of};
 use crate::counting::miscounted;
 use crate::reading::{Agent, Reading};
 use in_symbols::Symbols;
-use in_syntax::{Code, Equation, Head, Place, Refusal, SourceFree, SourceNet, SourceRule, Term};
+use in_syntax::{
+    Code, Equation, Head, Place, Refusal, SourceFree, SourceNet, SourceRule, Term, TextLimits,
+};
 use std::alloc::{AllocError, Global};
-
-/// The most agents that the initial net may have. This is this project's own choice.
-pub const MAX_AGENTS: usize = 4_000;
-
-/// The most agents that a right member may have. This is this project's own choice.
-pub const MAX_MEMBER_AGENTS: usize = 64;
 
 /// The place of the first agent after the first `most`.
 fn too_many(most: usize, agents: &[Agent]) -> Option<Place>
@@ -110,16 +106,17 @@ fn fault_of(
 /// The first fault of the net's agents and names.
 pub(crate) fn first_fault(
     alloc: Global,
+    limits: TextLimits,
     symbols: &Symbols,
     net: &SourceNet,
     reading: &Reading,
 ) -> Result<Option<Refusal>, AllocError>
     requires { NamesInside (length reading.now.names) reading.now.spots }
-    ensures { IfOk result (λ fault. fault ≡ first_fault max_agents symbols.now (body_of net.now) reading.now) }
+    ensures { IfOk result (λ fault. fault ≡ first_fault (max_agents limits) symbols.now (body_of net.now) reading.now) }
 {
     fault_of(
         alloc,
-        MAX_AGENTS,
+        limits.agents(),
         misfit_in_equations(symbols, net.equations.as_slice()),
         net.free.as_slice(),
         reading,
@@ -129,12 +126,13 @@ pub(crate) fn first_fault(
 /// The first fault of the rule's agents and names.
 pub(crate) fn first_rule_fault(
     alloc: Global,
+    limits: TextLimits,
     symbols: &Symbols,
     rule: &SourceRule,
     reading: &Reading,
 ) -> Result<Option<Refusal>, AllocError>
     requires { NamesInside (length reading.now.names) reading.now.spots }
-    ensures { IfOk result (λ fault. fault ≡ first_fault max_member_agents symbols.now (body_of_rule symbols.now rule.now) reading.now) }
+    ensures { IfOk result (λ fault. fault ≡ first_fault (max_member_agents limits) symbols.now (body_of_rule symbols.now rule.now) reading.now) }
 {
     let heads = Place::earlier(
         misfit_in_head(symbols, &rule.first),
@@ -142,5 +140,5 @@ pub(crate) fn first_rule_fault(
     );
     let equations = misfit_in_equations(symbols, rule.equations.as_slice());
     let misfit = Place::earlier(heads, equations);
-    fault_of(alloc, MAX_MEMBER_AGENTS, misfit, &[], reading)
+    fault_of(alloc, limits.member_agents(), misfit, &[], reading)
 }

@@ -33,7 +33,6 @@ mod renewing;
 mod rules;
 
 pub use building::build_net;
-pub use faults::{MAX_AGENTS, MAX_MEMBER_AGENTS};
 pub use members::build_rule;
 pub use nets::{AgentNo, Cell, Net, Point, Wire};
 pub use pairs::in_order;

@@ -6,7 +6,7 @@ ghost use Rattle.in_net.specs.Building.{AreSmallSpots, IsJoined, boundary_of};
 ghost use Rattle.in_net.specs.Built.{ArePointsAt};
 ghost use Rattle.in_net.specs.Rules.{symbol_of, is_turned, body_of_rule, IsReadable, BuildsRuleOf, BuildsRule};
 ghost use Rattle.in_net.specs.Joining.{joined_spots};
-ghost use Rattle.in_net.specs.NetFaults.{max_member_agents};
+ghost use Rattle.in_syntax.specs.TextLimits.{max_member_agents};
 ghost use Rattle.in_net.specs.Reading.{reading_of};
 ghost use Rattle.in_net.specs.Searching.{first_fault};
 
@@ -16,8 +16,8 @@ use crate::joining::{Link, join_all};
 use crate::nets::FreeEnd;
 use crate::reading::{Reading, TextSpot, read_rule};
 use crate::rules::Rule;
-use in_symbols::{SymbolNo, Symbols};
-use in_syntax::{Fault, Head, Source, SourceRule, Text};
+use in_symbols::Symbols;
+use in_syntax::{Fault, Head, Source, SourceRule, SymbolNo, Text, TextLimits};
 use std::alloc::{AllocError, Global};
 
 /// The symbol of a head's name.
@@ -124,6 +124,7 @@ fn boundary(
 /// The rule of a reading without faults, with its links.
 fn linked_rule(
     alloc: Global,
+    limits: TextLimits,
     symbols: &Symbols,
     rule: &SourceRule,
     reading: &Reading,
@@ -131,10 +132,10 @@ fn linked_rule(
 ) -> Result<Rule, Fault>
     requires readable { IsReadable symbols.now rule.now }
     requires read { reading.now ≡ reading_of symbols.now (body_of_rule symbols.now rule.now) }
-    requires clear { None ≡ first_fault max_member_agents symbols.now (body_of_rule symbols.now rule.now) reading.now }
+    requires clear { None ≡ first_fault (max_member_agents limits) symbols.now (body_of_rule symbols.now rule.now) reading.now }
     requires links { links.now ≡ (joined_spots reading.now).links }
     requires whole { (joined_spots reading.now).closed ≡ None }
-    ensures { BuildsRuleOf symbols.now rule.now result }
+    ensures { BuildsRuleOf limits symbols.now rule.now result }
 {
     let written = (
         symbol_of(symbols, &rule.first),
@@ -156,43 +157,57 @@ fn linked_rule(
 /// The rule of a reading whose agents and names have no fault.
 fn joined_rule(
     alloc: Global,
+    limits: TextLimits,
     symbols: &Symbols,
     rule: &SourceRule,
     reading: &Reading,
 ) -> Result<Rule, Fault>
     requires readable { IsReadable symbols.now rule.now }
     requires read { reading.now ≡ reading_of symbols.now (body_of_rule symbols.now rule.now) }
-    requires clear { None ≡ first_fault max_member_agents symbols.now (body_of_rule symbols.now rule.now) reading.now }
-    ensures { BuildsRuleOf symbols.now rule.now result }
+    requires clear { None ≡ first_fault (max_member_agents limits) symbols.now (body_of_rule symbols.now rule.now) reading.now }
+    ensures { BuildsRuleOf limits symbols.now rule.now result }
 {
     let joined = join_all(alloc, reading)?;
     match joined.closed {
         Some(place) => Err(closed_at(place)),
-        None => linked_rule(alloc, symbols, rule, reading, joined.links.as_slice()),
+        None => linked_rule(
+            alloc,
+            limits,
+            symbols,
+            rule,
+            reading,
+            joined.links.as_slice(),
+        ),
     }
 }
 
 /// The rule of a reading.
 fn rule_from(
     alloc: Global,
+    limits: TextLimits,
     symbols: &Symbols,
     rule: &SourceRule,
     reading: &Reading,
 ) -> Result<Rule, Fault>
     requires readable { IsReadable symbols.now rule.now }
     requires read { reading.now ≡ reading_of symbols.now (body_of_rule symbols.now rule.now) }
-    ensures { BuildsRuleOf symbols.now rule.now result }
+    ensures { BuildsRuleOf limits symbols.now rule.now result }
 {
-    match first_rule_fault(alloc, symbols, rule, reading)? {
+    match first_rule_fault(alloc, limits, symbols, rule, reading)? {
         Some(refusal) => Err(Fault::Refused(refusal)),
-        None => joined_rule(alloc, symbols, rule, reading),
+        None => joined_rule(alloc, limits, symbols, rule, reading),
     }
 }
 
 /// The rule of this text.
-fn rule_of(alloc: Global, symbols: &Symbols, rule: &SourceRule) -> Result<Rule, Fault>
+fn rule_of(
+    alloc: Global,
+    limits: TextLimits,
+    symbols: &Symbols,
+    rule: &SourceRule,
+) -> Result<Rule, Fault>
     requires { IsReadable symbols.now rule.now }
-    ensures { BuildsRuleOf symbols.now rule.now result }
+    ensures { BuildsRuleOf limits symbols.now rule.now result }
 {
     let written = (
         symbol_of(symbols, &rule.first),
@@ -200,13 +215,13 @@ fn rule_of(alloc: Global, symbols: &Symbols, rule: &SourceRule) -> Result<Rule, 
     );
     let turned = is_turned(symbols, written.0, written.1);
     let reading = read(alloc, symbols, rule, written, turned)?;
-    rule_from(alloc, symbols, rule, &reading)
+    rule_from(alloc, limits, symbols, rule, &reading)
 }
 
 /// A rule of a program, by its number in the order of the text from 0.
 ///
 /// Refused for the first fault in the order of the text, at one place the lower code: E03 at the name of the agent that is one
-/// more than `MAX_MEMBER_AGENTS`, where the heads aren't counted; E07 at an agent's or a head's name, where its number of
+/// more than the limits allow, where the heads aren't counted; E07 at an agent's or a head's name, where its number of
 /// arguments or terms isn't its symbol's arity; E08 if a variable doesn't occur twice: at its only occurrence or its third one.
 /// Only without these faults, E09 for a closed wire, the first by the place of the wire. Or when out of memory. Lafont 1990 writes
 /// a rule as two agents with terms at their auxiliary ports, in which each variable occurs twice; the equations of a rule, the
@@ -223,5 +238,10 @@ pub fn build_rule(
     requires tabled { IsTabled source.now symbols.now }
     ensures { BuildsRule source.now symbols.now index result }
 {
-    rule_of(alloc, symbols, &source.rules.as_slice()[index as usize])
+    rule_of(
+        alloc,
+        source.limits,
+        symbols,
+        &source.rules.as_slice()[index as usize],
+    )
 }

@@ -1,8 +1,8 @@
 ghost use Rattle.std.specs.Prelude.{◌≡◌, ◌<◌, length, count_by, is_some, IsTrue, slice_get};
 ghost use Rattle.in_net.specs.Parts.{IsWhole, as_built, IsPointOf, partner_in, symbol_in, wire_in, wire_place_in, agent_place_in, free_type_in, free_name_in};
 
-use in_symbols::{PortType, SymbolNo};
-use in_syntax::{Place, Text};
+use in_symbols::PortType;
+use in_syntax::{Place, SymbolNo, Text};
 use sqlite_items::Items;
 use std::marker::Model;
 

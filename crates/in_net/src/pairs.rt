@@ -6,7 +6,8 @@ ghost use Rattle.in_net.specs.declared.nets.AgentNo.{AgentNo};
 
 use crate::nets::{AgentNo, Net, Point};
 use in_base::use_invariant;
-use in_symbols::{SymbolNo, Symbols};
+use in_symbols::Symbols;
+use in_syntax::SymbolNo;
 use std::alloc::{AllocError, Global};
 
 /// Two agents that are an active pair, each with its symbol, in their order: the constructor first, and of two constructors or two

@@ -3,10 +3,10 @@ ghost use Rattle.in_symbols.specs.Names.{number_in};
 ghost use Rattle.in_net.specs.Reading.{nothing_read, with_name, with_agent, with_occurrence, with_ends, reader_of, reads_arguments, reads_equations, reads_heads, reads_free, reads_on, reading_names, reading_of};
 ghost use Rattle.in_net.specs.TextNet.{body_of, heads_at};
 
-use in_symbols::{Names, SymbolNo, Symbols};
+use in_symbols::{Names, Symbols};
 use in_syntax::{
-    Equation, Head, Name, Place, SourceFree, SourceNet, SourceRule, Term, Visitor, walk_equations,
-    walk_terms, with_room,
+    Equation, Head, Name, Place, SourceFree, SourceNet, SourceRule, SymbolNo, Term, Visitor,
+    walk_equations, walk_terms, with_room,
 };
 use sqlite_items::Items;
 use std::alloc::{AllocError, Global};

@@ -1,12 +1,11 @@
 ghost use Rattle.std.specs.Prelude.{◌≡◌, ◌<◌, ◌≤◌, length};
-ghost use Rattle.in_net.specs.NetFaults.{max_member_agents};
+ghost use Rattle.in_syntax.specs.TextLimits.{most_member_agents};
 ghost use Rattle.in_net.specs.Parts.{IsWhole};
 ghost use Rattle.in_net.specs.Rules.{place_of_head};
 
 use crate::nets::{Cell, Net};
 use in_base::use_invariant;
-use in_symbols::SymbolNo;
-use in_syntax::Place;
+use in_syntax::{Place, SymbolNo};
 use std::marker::Model;
 
 /// A rule. Lafont 1990: its left member is an active pair, so two symbols; its right member is a net, whose free ends are the
@@ -23,14 +22,14 @@ pub struct Rule {
 // Contracts see all that an accessor reads. A right member has few agents.
 impl Model for Rule {
     ghost use Rattle.std.specs.Prelude.{◌≤◌, length};
-    ghost use Rattle.in_net.specs.NetFaults.{max_member_agents};
+    ghost use Rattle.in_syntax.specs.TextLimits.{most_member_agents};
     ghost use Rattle.in_net.specs.Rules.{RuleParts};
 
     ghost Value = { RuleParts };
 
     ghost view = { λ r. record { written = r.written; heads = r.heads; head_places = r.head_places; member = r.member } };
 
-    ghost invariant = { λ r. length r.member.cells ≤ max_member_agents };
+    ghost invariant = { λ r. length r.member.cells ≤ most_member_agents };
 }
 
 impl Rule {
@@ -67,10 +66,10 @@ impl Rule {
         &self.member
     }
 
-    /// The agents of the right member by number, as `cells` gives them; there are at most `MAX_MEMBER_AGENTS`.
+    /// The agents of the right member by number, as `cells` gives them; there are at most `MOST_MEMBER_AGENTS`.
     pub fn member_cells(&self) -> &[Option<Cell>]
         ensures cells { result.now ≡ self.now.member.cells }
-        ensures few { length self.now.member.cells ≤ max_member_agents }
+        ensures few { length self.now.member.cells ≤ most_member_agents }
         ensures whole { IsWhole self.now.member }
     {
         use_invariant!(self.member);

@@ -15,10 +15,10 @@ use Rattle.in_simple_bridges.proofs.Public.{joins_same}
 use Rattle.in_open_nets.proofs.Public.{at_other, at_set}
 use Rattle.in_growing_graphs.specs.Blobs.{AreBlobs, GoesUp, over, there, with_value}
 use Rattle.in_growing_graphs.specs.Laws.{added}
-use Rattle.in_growing_graphs.proofs.Public.{decide, ends_cases, ends_kept, linked, merged, no_edge, two_ways, walk_map}
+use Rattle.in_growing_graphs.proofs.Public.{decide, ends_cases, ends_kept, goes_map, linked, merged, no_edge, two_ways, walk_map}
 use Rattle.in_node_orders.specs.Heads.{AreSkips}
 use Rattle.in_node_orders.specs.Growing.{Merges, ShowsBlobs}
-use Rattle.in_node_orders.proofs.Ways.{goes_map, is_bare, way_falls}
+use Rattle.in_node_orders.proofs.Ways.{is_bare, way_falls}
 
 -- ---- lists that have the same edges, each from either end
 

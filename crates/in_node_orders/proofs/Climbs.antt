@@ -4,7 +4,7 @@ use Rattle.std.specs.Prelude.{slice_get, Some}
 use Rattle.std.proofs.Math.Nat.{suc-pred-eq_of_pos}
 use Rattle.std.proofs.lemmas.Bool.{cases_Bool, cases_eq, cases_lt}
 use Rattle.std.proofs.lemmas.Option.{get_or_from_slice_get, slice_get-get_or, slice_get_past}
-use Rattle.in_base.proofs.Places.{kept_at, last_at}
+use Rattle.in_base.proofs.Places.{kept_at}
 use Rattle.in_simple_bridges.specs.Spans.{AreWithin, at}
 use Rattle.in_open_nets.proofs.Public.{at_other, at_set, none_there}
 use Rattle.in_growing_graphs.specs.Blobs.{AreBlobs}
@@ -103,9 +103,6 @@ ends_at edges xs b count within same l = let p = get_or xs b (0, 0) in within b 
 
 pub in_read : (xs ys : List ℕ) (a : ℕ) → xs ≡ ys → a < length ys → a < length xs
 in_read xs ys a same l = subst (λ z. a < length z) (sym same) l
-
-pub pushed : (xs : List ℕ) (x k : ℕ) → k ≡ length xs → at (xs ++ x ∷ []) k ≡ x
-pushed xs x k e = get_or_from_slice_get (xs ++ x ∷ []) k x 0 (subst (λ z. slice_get (xs ++ x ∷ []) z ≡ Some x) (sym e) (last_at xs x))
 
 pub kept_pushed : (xs : List ℕ) (x k : ℕ) → k < length xs → at (xs ++ x ∷ []) k ≡ at xs k
 kept_pushed xs x k l = get_or_from_slice_get (xs ++ x ∷ []) k (at xs k) 0 (kept_at xs (x ∷ []) k (at xs k) (slice_get-get_or xs k 0 l))

@@ -1,11 +1,12 @@
 -- Which nodes split a set is decided in each of its components.
-use Rattle.std.proofs.Common.{◌≡◌, ◌≢◌, ◌↔◌, ℕ, Bool, false, inl, inr, subst}
+use Rattle.std.proofs.Common.{◌≡◌, ◌≢◌, ℕ, Bool, false, inl, inr, subst}
 use Rattle.std.proofs.lemmas.Bool.{cases_Bool}
 use Rattle.in_open_nets.specs.declared.open_nets.OpenPoint.TheVariants.{Port}
 use Rattle.in_open_nets.specs.Constructions.{IsIn}
 use Rattle.in_open_nets.specs.OpenNets.{OpenNet, IsWire, open_graph}
 use Rattle.in_open_nets.specs.Splitting.{Linked, alone, onward, Without, SplitsAt, IsComponent}
 use Rattle.in_open_nets.specs.Stuck.{IsFirstToSplit, IsPart}
+use Rattle.in_node_orders.specs.Orders.{IsLeft}
 use Rattle.in_open_nets.proofs.Public.{Decided, both_decided, link_back, link_first, link_join, link_map, not_both, same_nat}
 
 abbrev pub In : (ℕ → Bool) → ℕ → Type 0
@@ -69,7 +70,7 @@ module _ (o : OpenNet) where
     }
 
     -- .. where t has the nodes of s without it
-    module _ (t : ℕ → Bool) (n : ℕ) (left : (m : ℕ) → IsIn m t ↔ Without n s m) (c : AreComponents (In p) (In s)) where
+    module _ (t : ℕ → Bool) (n : ℕ) (left : IsLeft n s t) (c : AreComponents (In p) (In s)) where
       pub left_both : AreComponents (Without n p) (In t)
       left_both = let d = without_both n c in record { inside = λ m h. (left m).1 (d.inside m h); closed = λ l m i j w h wire k. d.closed l m i j w h wire ((left m).0 k) }
 

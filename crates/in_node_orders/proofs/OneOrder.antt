@@ -8,7 +8,7 @@ use Rattle.in_open_nets.specs.Splitting.{alone, Without, IsComponent, Splits, no
 use Rattle.in_open_nets.specs.Stuck.{FirstStuck, IsFirstToSplit, IsPart, whole, within}
 use Rattle.in_open_nets.proofs.Public.{component, is_component, link_map, linked, not_both, one_first, same_nat, same_test, test_yes}
 use Rattle.in_node_orders.specs.Laws.{AreNodes}
-use Rattle.in_node_orders.specs.Orders.{IsFirstOrNone, IsMet, IsOrder, NoNodeSplits, ends, first_in, itself, piece, takes}
+use Rattle.in_node_orders.specs.Orders.{IsFirstOrNone, IsLeft, IsMet, IsOrder, NoNodeSplits, ends, first_in, itself, piece, takes}
 use Rattle.in_node_orders.proofs.Components.{AreComponents, In, all_of, first_of_components, left_both, left_other, link_within, of_components, part_of, splits_larger}
 
 by_test : (o : OpenNet) (p : ℕ → Bool) (n : ℕ) (found : Option ℕ) (b : Bool) → (b ≡ true → IsFirstToSplit o n p) → (b ≡ false → IsFirstOrNone o p found) → IsFirstOrNone o p (cond b (Some n) found)
@@ -18,9 +18,10 @@ by_test o p n found false f g = g refl
 skip : (c : ℕ → Bool) (n : ℕ) (ns : List ℕ) → (IsIn n c → ⊥) → first_in c (n ∷ ns) ≡ first_in c ns
 skip c n ns out = let e : c n ≡ false = false_from_ne_true (c n) out in rw e refl
 
--- s without n has these nodes
-abbrev AreLeft : ℕ → (ℕ → Bool) → (ℕ → Bool) → Type 0
-AreLeft n s t = (m : ℕ) → IsIn m t ↔ Without n s m
+pub one_left : (n m : ℕ) (s t u : ℕ → Bool) → n ≡ m → IsLeft n s t → IsLeft m s u → t ≡ u
+one_left n m s t u e f g = fun_ext (λ l. same_test (t l) (u l)
+    (λ h. let k = (f l).0 h in (g l).1 (k.0, λ z. k.1 (z ∙ sym e)))
+    (λ h. let k = (g l).0 h in (f l).1 (k.0, λ z. k.1 (z ∙ e))))
 
 module _ (o : OpenNet) (net : IsOpenNet o) where
   abbrev Some_of : (ℕ → Bool) → (ℕ → Bool) → Type 0
@@ -99,18 +100,13 @@ module _ (o : OpenNet) (net : IsOpenNet o) where
 
   -- ---- one order
 
-  one_left : (n m : ℕ) (s t u : ℕ → Bool) → n ≡ m → AreLeft n s t → AreLeft m s u → u ≡ t
-  one_left n m s t u e f g = fun_ext (λ l. same_test (u l) (t l)
-      (λ h. let k = (g l).0 h in (f l).1 (k.0, λ z. k.1 (z ∙ e)))
-      (λ h. let k = (f l).0 h in (g l).1 (k.0, λ z. k.1 (z ∙ sym e))))
-
   pub one_order : (s r t : ℕ → Bool) (ns ms : List ℕ) → IsOrder o s ns r → IsOrder o s ms t → (ns ≡ ms) × (r ≡ t)
   one_order s _ _ _ _ (ends _ h) (ends _ k) = (refl, refl)
   one_order s _ t _ _ (ends _ h) (takes _ u _ n ns f left k) = absurd (h n f.here f.splits)
   one_order s r _ _ _ (takes _ u _ n ns f left h) (ends _ k) = absurd (k n f.here f.splits)
   one_order s r t _ _ (takes _ u _ n ns f left h) (takes _ v _ m ms g left' k) =
       let e = one_first o net s n m f g in
-      let q = one_order u r t ns ms h (subst (λ z. IsOrder o z ms t) (one_left n m s u v e left left') k) in
+      let q = one_order u r t ns ms h (subst (λ z. IsOrder o z ms t) (sym (one_left n m s u v e left left')) k) in
       (ap (λ z. z ∷ ns) e ∙ ap (λ z. m ∷ z) q.0, q.1)
 
   -- ---- all taken

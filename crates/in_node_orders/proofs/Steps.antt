@@ -11,10 +11,10 @@ use Rattle.in_simple_bridges.specs.Walks.{IsOnCycle}
 use Rattle.in_open_nets.specs.ClassGraphs.{HasClass}
 use Rattle.in_open_nets.specs.Constructions.{IsIn}
 use Rattle.in_open_nets.specs.OpenNets.{OpenNet, IsOpenNet, NodeTest, open_graph}
-use Rattle.in_open_nets.specs.Splitting.{SplitsAt, Without}
+use Rattle.in_open_nets.specs.Splitting.{SplitsAt}
 use Rattle.in_open_nets.specs.Stuck.{IsFirstToSplit}
 use Rattle.in_open_nets.proofs.Public.{net_off_cycles, same_test}
-use Rattle.in_node_orders.specs.Orders.{IsNodeOrder, IsOrder, NoNodeSplits, all_nodes, ends, takes}
+use Rattle.in_node_orders.specs.Orders.{IsLeft, IsNodeOrder, IsOrder, NoNodeSplits, all_nodes, ends, takes}
 use Rattle.in_node_orders.proofs.Components.{splits_smaller}
 use Rattle.in_node_orders.specs.declared.orders.Left.{Left}
 use Rattle.in_node_orders.specs.Arrivals.{hub_place}
@@ -84,7 +84,7 @@ module _ (o : OpenNet) (nodes turns : List ℕ) (ts : AreTurns (length o.nodes) 
   t = left_at o turns (i + 1)
 
   pub node_here : IsIn n s
-  node_here = let r = ts.of_node i n is_turn in let e = r.1 in is_left o turns i n r.0 (omega (arith, e))
+  node_here = let r = ts.of_node i n (slice_get_within nodes i n is_turn) is_turn in let e = r.1 in is_left o turns i n r.0 (omega (arith, e))
 
   pub within : (m : ℕ) → IsIn m t → IsIn m s
   within m h = let r = left_is o turns (i + 1) m h in let l = r.1 in is_left o turns i m r.0 (omega (arith, l))
@@ -99,19 +99,19 @@ module _ (o : OpenNet) (nodes turns : List ℕ) (ts : AreTurns (length o.nodes) 
             let small = slice_get_within nodes i n is_turn in
             elim (ts.of_turn m r.0) [
               | inl none ↦ absurd (omega (arith, none, same, small))
-              | inr g ↦ absurd (d (some_same (slice_get nodes i) m n (subst (λ z. slice_get nodes z ≡ Some m) same g) is_turn))
+              | inr g ↦ absurd (d (some_same (slice_get nodes i) m n (subst (λ z. slice_get nodes z ≡ Some m) same g.1) is_turn))
             ]
         | inr e ↦ is_left o turns (i + 1) m r.0 (omega (arith, l, e))
       ]
 
-  rest : (m : ℕ) → IsIn m t ↔ Without n s m
+  rest : IsLeft n s t
   rest m = (
     (λ h. (
       within m h,
       λ e.
           let r = left_is o turns (i + 1) m h in
           let l = r.1 in
-          let f = (ts.of_node i n is_turn).1 in
+          let f = (ts.of_node i n (slice_get_within nodes i n is_turn) is_turn).1 in
           let g : at turns m ≡ at turns n = ap (at turns) e in
           omega (arith, l, f, g),
     )),

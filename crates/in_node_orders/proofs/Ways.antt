@@ -1,32 +1,18 @@
 -- Ways up a forest, and how they are covered.
-use Rattle.std.proofs.Common.{◌≡◌, ◌≢◌, ◌⊎◌, ◌<◌, ◌≤◌, ℕ, suc, Bool, true, false, ◌||◌, nat_eq, List, length, refl, sym, subst, inl, inr, ◌∙◌, arith, set, length-set}
-use Rattle.std.proofs.lemmas.Bool.{cases_Bool, cases_eq, true≢false}
+use Rattle.std.proofs.Common.{◌≡◌, ◌≢◌, ◌⊎◌, ◌<◌, ◌≤◌, ℕ, suc, Bool, true, false, nat_eq, List, length, refl, sym, subst, inl, inr, ◌∙◌, arith, set, length-set}
+use Rattle.std.proofs.lemmas.Bool.{cases_Bool, cases_eq, or_right}
 use Rattle.std.proofs.lemmas.Bool.Decides.{eqb_tells}
 use Rattle.in_simple_bridges.specs.Spans.{at}
-use Rattle.in_open_nets.proofs.Public.{at_other, at_set}
-use Rattle.in_growing_graphs.specs.Blobs.{CoversWay, GoesUp, over, there}
+use Rattle.in_open_nets.proofs.Public.{at_other, at_set, not_both}
+use Rattle.in_growing_graphs.specs.Blobs.{CoversWay, GoesUp, IsOnOneWay, over, there}
+use Rattle.in_growing_graphs.proofs.Public.{goes_map, goes_on}
 use Rattle.in_node_orders.specs.Heads.{AreSkips}
-use Rattle.in_node_orders.specs.Growing.{CoversTo, IsOnFirstWay, with_covered}
-
-pub goes_map : (up up' : ℕ → ℕ) (P R : ℕ → Type 0) → ((x p : ℕ) → P x → up x ≡ suc p → R x × (up' x ≡ suc p)) → (x y : ℕ) → GoesUp up P x y → GoesUp up' R x y
-goes_map up up' P R f x _ (there _) = there x
-goes_map up up' P R f x y (over _ p _ h e r) = let k = f x p h e in over x p y k.0 k.1 (goes_map up up' P R f p y r)
-
-pub goes_on : (up : ℕ → ℕ) (P : ℕ → Type 0) (x y z : ℕ) → GoesUp up P x y → GoesUp up P y z → GoesUp up P x z
-goes_on up P x _ z (there _) r = r
-goes_on up P x y z (over _ p _ h e q) r = over x p z h e (goes_on up P p y z q r)
+use Rattle.in_node_orders.specs.Growing.{CoversTo, with_covered}
 
 abbrev pub Is : (ℕ → Bool) → ℕ → Type 0
 Is covered z = covered z ≡ true
 
-not_both : (b : Bool) → b ≡ true → b ≡ false → ⊥
-not_both b h k = true≢false (sym h ∙ k)
-
 -- ---- one more covered vertex
-
-or_right : (a b : Bool) → b ≡ true → (a || b) ≡ true
-or_right true b e = refl
-or_right false b e = e
 
 pub covered_more : (c : ℕ → Bool) (x z : ℕ) → c z ≡ true → with_covered c x z ≡ true
 covered_more c x z e = or_right (nat_eq z x) (c z) e
@@ -107,7 +93,10 @@ module _ (up : ℕ → ℕ) (falls : (z q : ℕ) → up z ≡ suc q → q < z) w
 
   module _ (old : ℕ → Bool) (a b : ℕ) where
     pub begins : (x y : ℕ) → GoesUp up (Is old) a x → GoesUp up (Is old) b y → CoversTo up old old a b x y
-    begins x y f g = record { kept = λ z h. h; one = f; other = g; only = λ z h k. absurd (not_both (old z) h k) }
+    begins x y f g = record {
+      ways = record { kept = λ z h. h; one = f; other = g; only = λ z h k. absurd (not_both (old z) h k) };
+      before = λ z h k. absurd (not_both (old z) h k);
+    }
 
     pub goes_further : (new : ℕ → Bool) (x y p far : ℕ) → CoversTo up old new a b x y → new x ≡ false → y < x → up x ≡ suc p → GoesUp up (Is (with_covered new x)) p far → CoversTo up old (with_covered new x) a b far y
     goes_further new x y p far c bare less e way =
@@ -116,34 +105,40 @@ module _ (up : ℕ → ℕ) (falls : (z q : ℕ) → up z ≡ suc q → q < z) w
         let most = way_falls (Is new') p far way in
         let step : GoesUp up (Is new') x far = over x p far (covered_here new x) e way in
         record {
-          kept = λ z h. covered_more new x z (c.kept z h);
-          one = goes_on up (Is new') a x far (goes_map up up (Is new) (Is new') (λ z q h k. (covered_more new x z h, k)) a x c.one) step;
-          other = goes_map up up (Is new) (Is new') (λ z q h k. (covered_more new x z h, k)) b y c.other;
-          only = λ z h k. elim (covered_cases new x z h) [
-            | inl same ↦ inl (subst (λ w. IsOnFirstWay up a b far y w) (sym same) (p, e, past new x a x bare c.one, below (Is new') x p far lower way, past new x b y bare c.other, omega (arith, lower, most), less))
-            | inr before ↦ elim (c.only z before k) [
-              | inl w ↦
-                  let q = w.0 in
-                  let l = w.5 in
-                  inl (q, w.1, w.2, goes_on up (λ v. v ≢ z) q x far w.3 (below (Is new') z x far l step), w.4, omega (arith, l, lower, most), w.6)
-              | inr w ↦
-                  let l = w.6 in
-                  inr (w.0, w.1, w.2, w.3, goes_on up (λ v. v ≢ z) a x far w.4 (below (Is new') z x far l step), w.5, omega (arith, l, lower, most))
-            ]
+          ways = record {
+            kept = λ z h. covered_more new x z (c.ways.kept z h);
+            one = goes_on up (Is new') a x far (goes_map up up (Is new) (Is new') (λ z q h k. (covered_more new x z h, k)) a x c.ways.one) step;
+            other = goes_map up up (Is new) (Is new') (λ z q h k. (covered_more new x z h, k)) b y c.ways.other;
+            only = λ z h k. elim (covered_cases new x z h) [
+              | inl same ↦ subst (λ w. (q : ℕ) × (up w ≡ suc q) × (IsOnOneWay up a b far y w q ⊎ IsOnOneWay up b a y far w q)) (sym same) (p, e, inl (past new x a x bare c.ways.one, below (Is new') x p far lower way, past new x b y bare c.ways.other))
+              | inr was ↦
+                  let l = (c.before z was k).0 in
+                  let w = c.ways.only z was k in (
+                    w.0,
+                    w.1,
+                    elim w.2 [
+                      | inl one ↦ inl (one.0, goes_on up (λ v. v ≢ z) w.0 x far one.1 (below (Is new') z x far l step), one.2)
+                      | inr other ↦ inr (other.0, other.1, goes_on up (λ v. v ≢ z) a x far other.2 (below (Is new') z x far l step))
+                    ],
+                  )
+            ];
+          };
+          before = λ z h k. elim (covered_cases new x z h) [
+            | inl same ↦ (omega (arith, same, lower, most), omega (arith, same, less))
+            | inr was ↦ let l = c.before z was k in let l0 = l.0 in (omega (arith, l0, lower, most), l.1)
           ];
         }
 
   pub turned : (old new : ℕ → Bool) (a b x y : ℕ) → CoversTo up old new a b x y → CoversTo up old new b a y x
-  turned old new a b x y c = record { kept = c.kept; one = c.other; other = c.one; only = λ z h k. elim (c.only z h k) [ inl w ↦ inr w | inr w ↦ inl w ] }
+  turned old new a b x y c = record {
+    ways = record {
+      kept = c.ways.kept;
+      one = c.ways.other;
+      other = c.ways.one;
+      only = λ z h k. let w = c.ways.only z h k in (w.0, w.1, elim w.2 [ inl one ↦ inr one | inr other ↦ inl other ]);
+    };
+    before = λ z h k. let l = c.before z h k in (l.1, l.0);
+  }
 
   pub covers_way : (old new : ℕ → Bool) (a b x : ℕ) → CoversTo up old new a b x x → CoversWay up old new a b
-  covers_way old new a b x c = record {
-    kept = c.kept;
-    meet = x;
-    one = c.one;
-    other = c.other;
-    only = λ z h k. elim (c.only z h k) [
-      | inl w ↦ (w.0, w.1, inl (w.2, w.3, w.4))
-      | inr w ↦ (w.0, w.1, inr (w.2, w.3, w.4))
-    ];
-  }
+  covers_way old new a b x c = record { meet = x; ways = c.ways }

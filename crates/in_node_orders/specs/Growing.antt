@@ -1,7 +1,7 @@
 -- A graph that grows edge by edge, and how the way between two vertices is covered. This project's own.
-use Rattle.std.specs.Prelude.{◌≡◌, ◌≢◌, ◌⊎◌, ℕ, suc, ◌<◌, ◌≤◌, Bool, true, false, ◌||◌, nat_eq, List, length, take}
+use Rattle.std.specs.Prelude.{◌≡◌, ℕ, suc, ◌<◌, ◌≤◌, Bool, true, false, ◌||◌, nat_eq, List, length, take}
 use Rattle.in_simple_bridges.specs.Spans.{AreWithin, at}
-use Rattle.in_growing_graphs.specs.Blobs.{AreBlobs, CoversWay, GoesUp, HasHead}
+use Rattle.in_growing_graphs.specs.Blobs.{AreBlobs, CoversWay, CoversWays, HasHead}
 use Rattle.in_node_orders.specs.Heads.{AreFalling, AreSkips}
 use Rattle.in_node_orders.specs.declared.growing.Growing.{Growing}
 
@@ -21,16 +21,10 @@ ClimbsTo ups old new x y = (covered : ℕ → Bool) → AreSkips (at ups) covere
 
 -- ---- two ways up, from a as far as x, and from b as far as y
 
--- the edge above z is on the way from a, and not on the one from b
-abbrev pub IsOnFirstWay : (ℕ → ℕ) → (a b x y z : ℕ) → Type 0
-IsOnFirstWay up a b x y z = (p : ℕ) × (up z ≡ suc p) × GoesUp up (λ w. w ≢ z) a z × GoesUp up (λ w. w ≢ z) p x × GoesUp up (λ w. w ≢ z) b y × (x < z) × (y < z)
-
--- both ways are covered, and no other edges than before
+-- both ways are covered; x and y have lower numbers than each vertex that gets covered
 pub record CoversTo (up : ℕ → ℕ) (old new : ℕ → Bool) (a b x y : ℕ) : Type 0 where
-  pub kept : (z : ℕ) → old z ≡ true → new z ≡ true
-  pub one : GoesUp up (λ z. new z ≡ true) a x
-  pub other : GoesUp up (λ z. new z ≡ true) b y
-  pub only : (z : ℕ) → new z ≡ true → old z ≡ false → IsOnFirstWay up a b x y z ⊎ IsOnFirstWay up b a y x z
+  pub ways : CoversWays up old new a b x y
+  pub before : (z : ℕ) → new z ≡ true → old z ≡ false → (x < z) × (y < z)
 
 -- .. up to two heads
 abbrev pub MergesTo : List ℕ → List ℕ → List ℕ → (a b x y : ℕ) → Type 0

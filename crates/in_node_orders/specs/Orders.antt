@@ -9,10 +9,14 @@ use Rattle.in_open_nets.specs.Stuck.{IsFirstToSplit, IsPart}
 abbrev pub NoNodeSplits : OpenNet → NodeTest → Type 0
 NoNodeSplits o s = (n : ℕ) → IsIn n s → SplitsAt (open_graph o) n s → ⊥
 
+-- t is s without n
+abbrev pub IsLeft : ℕ → NodeTest → NodeTest → Type 0
+IsLeft n s t = (m : ℕ) → IsIn m t ↔ Without n s m
+
 -- these nodes are taken out of s in turn, each of them the first one that splits what is left; then no node splits the rest
 pub data IsOrder (o : OpenNet) : NodeTest → List ℕ → NodeTest → Type 0 where
   ends : (s : NodeTest) → NoNodeSplits o s → IsOrder o s [] s
-  takes : (s t rest : NodeTest) (n : ℕ) (ns : List ℕ) → IsFirstToSplit o n s → ((m : ℕ) → IsIn m t ↔ Without n s m) → IsOrder o t ns rest → IsOrder o s (n ∷ ns) rest
+  takes : (s t rest : NodeTest) (n : ℕ) (ns : List ℕ) → IsFirstToSplit o n s → IsLeft n s t → IsOrder o t ns rest → IsOrder o s (n ∷ ns) rest
 
 -- the nodes of the net
 abbrev pub all_nodes : OpenNet → NodeTest

@@ -18,3 +18,4 @@ mod orders;
 mod turns;
 
 pub use orders::is_order;
+pub use turns::turns_of;

@@ -3,3 +3,4 @@ pub mod ClassEdges
 pub mod ClassWalks
 pub mod HubEdges
 pub mod HubMembers
+pub mod OneGraph

@@ -5,14 +5,15 @@ pub use Rattle.in_open_nets.proofs.Built.Forest.{Agrees, Forest, beside, close, 
 pub use Rattle.in_open_nets.proofs.Built.Forest.{nothing, or_sum, times_app, times_in_app}
 pub use Rattle.in_open_nets.proofs.Built.Grow.{Constructions, agent_or_class, class_is_place, pair_same, splits_built}
 pub use Rattle.in_open_nets.proofs.Graphs.ClassWalks.{has_class, net_off_cycles, wire_back}
-pub use Rattle.in_open_nets.proofs.Reached.Links.{Decided, at_most, both_decided, least, link_back, link_first, link_join, link_map}
-pub use Rattle.in_open_nets.proofs.Reached.Links.{same_nat}
+pub use Rattle.in_open_nets.proofs.Reached.Links.{Decided, NextIn, at_most, both_decided, least, link_back, link_first, link_join}
+pub use Rattle.in_open_nets.proofs.Reached.Links.{link_map, same_nat}
 pub use Rattle.in_open_nets.proofs.Passages.{passage_to}
 pub use Rattle.in_open_nets.proofs.Splits.OkValues.{if_ok, if_ok_both}
 pub use Rattle.in_open_nets.proofs.Splits.OneAnswer.{one_listing}
 pub use Rattle.in_open_nets.proofs.Reached.OnePiece.{component_piece, joined_back, joined_on, missing_none}
+pub use Rattle.in_open_nets.proofs.PartsOf.Members.{rises_more}
 pub use Rattle.in_open_nets.proofs.PartsOf.Places.{IsUnitedTo, at_other, at_set, drop_here, none_there}
-pub use Rattle.in_open_nets.proofs.Reached.Reaching.{in_length}
+pub use Rattle.in_open_nets.proofs.Reached.Reaching.{among_cases, among_last, among_left, in_length}
 pub use Rattle.in_open_nets.proofs.Splits.Search.{at_ports, comes_at, component, count, count_less, in_ports, is_component, linked}
 pub use Rattle.in_open_nets.proofs.Splits.Search.{meet_same, one_first, one_turn, partner, test, test_is, test_yes, turn_cases, turn_one}
 pub use Rattle.in_open_nets.proofs.Splits.Search.{turn_one_port, turn_one_port_most, turn_same, without}

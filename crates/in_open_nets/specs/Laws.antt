@@ -1,11 +1,14 @@
 -- The laws of open nets, over the definitions alone.
 use Rattle.std.specs.Prelude.{◌≡◌, ◌⊎◌, ◌↔◌, ℕ, Bool, List, length, Option}
 use Rattle.in_base.specs.Graphs.{CrossingCircle}
+use Rattle.in_simple_bridges.specs.Walks.{HasTwoEnds}
+use Rattle.in_open_nets.specs.declared.class_graphs.ClassGraph.{ClassGraph}
 use Rattle.in_open_nets.specs.Constructions.{IsIn}
-use Rattle.in_open_nets.specs.Members.{IsUnion, nodes_in}
-use Rattle.in_open_nets.specs.Parts.{IsReached, IsRest}
+use Rattle.in_open_nets.specs.Members.{nodes_in}
+use Rattle.in_open_nets.specs.Parts.{IsRest}
 use Rattle.in_open_nets.specs.Splitting.{SplitsAt}
-use Rattle.in_open_nets.specs.ClassGraphs.{Vertex, HasClass, HubEdgesAreBridges, HubEdgesAreOffCycles, IsClassGraph}
+use Rattle.in_open_nets.specs.ClassEdges.{IsGraphOf, vertex_in}
+use Rattle.in_open_nets.specs.ClassGraphs.{Vertex, HasClass, HubEdgesAreBridges, HubEdgesAreOffCycles, IsClassGraph, IsVertex}
 use Rattle.in_open_nets.specs.OpenNets.{OpenNet, IsOpenNet, IsDerivable, NetSplits, open_graph}
 use Rattle.in_open_nets.specs.Stuck.{IsFirstStuck, IsListed}
 use Rattle.in_open_nets.specs.Parts.{IsFirstIn}
@@ -22,6 +25,15 @@ SplitsByBridges = (o : OpenNet) → IsOpenNet o → (n : ℕ) (s : ℕ → Bool)
 abbrev pub SplitsOffCycles : Type 0
 SplitsOffCycles = (o : OpenNet) → IsOpenNet o → (s : ℕ → Bool) (number : Vertex ℕ → ℕ) (hub_edge : ℕ → ℕ → ℕ) (es : List (ℕ × ℕ)) → IsClassGraph (open_graph o) (HasClass o) s number hub_edge es →
     (n : ℕ) → IsIn n s → SplitsAt (open_graph o) n s ↔ HubEdgesAreOffCycles (open_graph o) (HasClass o) hub_edge es n
+
+-- some edge joins these vertices
+abbrev pub JoinsVertices : ClassGraph → Vertex ℕ → Vertex ℕ → Type 0
+JoinsVertices g u v = (e : ℕ) × HasTwoEnds g.edges e (vertex_in g.hubs u) (vertex_in g.hubs v)
+
+-- two class graphs of a part join the same vertices, whatever numbers these have
+abbrev pub ClassGraphsAreOne : Type 0
+ClassGraphsAreOne = (o : OpenNet) → IsOpenNet o → (part : List Bool) (g h : ClassGraph) → IsGraphOf o part g → IsGraphOf o part h →
+    (u v : Vertex ℕ) → IsVertex (open_graph o) (HasClass o) (nodes_in part) u → IsVertex (open_graph o) (HasClass o) (nodes_in part) v → JoinsVertices g u v ↔ JoinsVertices h u v
 
 -- a derivable open net has no crossing circle
 abbrev pub DerivableHasNoCircle : Type 0
@@ -46,14 +58,6 @@ SetIsItsMembers = (a b : List Bool) → length a ≡ length b → ((n : ℕ) →
 -- the first node that splits a set of an open net's nodes is determined, and so is whether there is one
 abbrev pub FirstSplittingIsOne : Type 0
 FirstSplittingIsOne = (o : OpenNet) (part : List Bool) (a b : Option ℕ) → length part ≡ length o.nodes → IsFirstIn o part a → IsFirstIn o part b → a ≡ b
-
--- a node has one component in a set
-abbrev pub ComponentIsOne : Type 0
-ComponentIsOne = (o : OpenNet) (within : List Bool) (from : ℕ) (a b : List Bool) → length a ≡ length o.nodes → length b ≡ length o.nodes → IsReached o within from a → IsReached o within from b → a ≡ b
-
--- two sets have one union of the size of the second one
-abbrev pub UnionIsOne : Type 0
-UnionIsOne = (more old a b : List Bool) → length a ≡ length old → length b ≡ length old → IsUnion more old a → IsUnion more old b → a ≡ b
 
 -- a set without a node is one set
 abbrev pub RestIsOne : Type 0

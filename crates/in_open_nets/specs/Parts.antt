@@ -1,14 +1,14 @@
 -- Parts of open nets: wires by port, the nodes that a search reaches, the nodes that split a part. Sets of nodes are lists of tests, node by node.
-use Rattle.std.specs.Prelude.{◌≡◌, ◌⊎◌, ◌↔◌, ℕ, ◌+◌, ◌*◌, ◌<◌, ◌≤◌, Bool, true, false, List, [], ◌∷◌, ◌++◌, length, drop, slice_set, slice_index_or, Option, Some, None, MatchOption}
+use Rattle.std.specs.Prelude.{◌≡◌, ◌↔◌, ℕ, ◌+◌, ◌*◌, ◌<◌, Bool, List, length, slice_set, slice_index_or, Option, Some, None, MatchOption}
 use Rattle.in_open_nets.specs.declared.open_nets.OpenPoint.{OpenPoint}
 use Rattle.in_open_nets.specs.declared.open_nets.OpenPoint.TheVariants.{Port, Free}
 use Rattle.in_open_nets.specs.declared.wired.Target.{Target}
 use Rattle.in_open_nets.specs.declared.wired.Target.TheVariants.{Nowhere, ToPort, ToFree}
 use Rattle.in_open_nets.specs.Constructions.{IsIn}
-use Rattle.in_open_nets.specs.Members.{missing, nodes_in}
+use Rattle.in_open_nets.specs.Members.{nodes_in}
 use Rattle.in_open_nets.specs.Splitting.{Linked, Without, SplitsAt, IsFirstSplitting}
 use Rattle.in_open_nets.specs.OpenNets.{OpenNet, IsWire, class_in, open_graph}
-use Rattle.in_open_nets.specs.Stuck.{Among, Touches, ports_of}
+use Rattle.in_open_nets.specs.Stuck.{ports_of}
 use Rattle.in_syntax.specs.Grammar.{max_ports}
 
 -- ---- wires by port

@@ -1,4 +1,4 @@
-ghost use Rattle.std.specs.Prelude.{◌≡◌, ◌+◌, ◌<◌, ◌≤◌, ◌^◌, ◌↔◌, length, slice_index_or, false, OnOk, IsTrue, MatchOption, ℕ};
+ghost use Rattle.std.specs.Prelude.{◌≡◌, ◌+◌, ◌<◌, ◌≤◌, ◌^◌, ◌↔◌, [], length, slice_index_or, false, OnOk, IsTrue, MatchOption, ℕ};
 ghost use Rattle.in_open_nets.specs.ClassEdges.{AddsHubEdges, AreEdges, AreHubEdges, ComesFirst, HaveNumbers, IsEdgeOf, IsGraphOf, ListsNone, hub_edge_in, vertex_in};
 ghost use Rattle.in_open_nets.specs.ClassGraphs.{Class};
 ghost use Rattle.in_open_nets.specs.Constructions.{IsIn};
@@ -53,7 +53,11 @@ fn comes_first(node: usize, port: usize, other: usize, far: usize) -> bool
 
 impl ClassGraph {
     /// Of no nodes.
-    pub fn new(alloc: Global) -> ClassGraph {
+    pub fn new(alloc: Global) -> ClassGraph
+        ensures hubs { result.hubs ≡ [] }
+        ensures count { result.count ≡ 0 }
+        ensures edges { result.edges ≡ [] }
+    {
         ClassGraph {
             hubs: Items::new(alloc),
             count: 0,

@@ -1,6 +1,6 @@
 //! Laws on the definitions of open nets, for proofs above them. No function here does anything.
 
-ghost use Rattle.in_open_nets.specs.Laws.{ComponentIsOne, DerivableHasNoCircle, FirstSplittingIsOne, MembersAreListedOnce, RestIsOne, SetIsItsMembers, SplitsByBridges, SplitsOffCycles, SplitsOrFirstStuck, SplitsWhereDerivable, UnionIsOne};
+ghost use Rattle.in_open_nets.specs.Laws.{ClassGraphsAreOne, DerivableHasNoCircle, FirstSplittingIsOne, MembersAreListedOnce, RestIsOne, SetIsItsMembers, SplitsByBridges, SplitsOffCycles, SplitsOrFirstStuck, SplitsWhereDerivable};
 
 /// An open net splits exactly when it is derivable. Derivable is Lafont 1990's semi-simple; to decide it by splitting is this
 /// project's own choice.
@@ -17,6 +17,11 @@ pub fn splits_by_bridges()
 /// For the class graph as a list of edges, a node splits the set exactly when none of its hub edges is on a cycle.
 pub fn splits_off_cycles()
     ensures { SplitsOffCycles }
+{}
+
+/// The class graph of a part is one, up to the numbers of its vertices and edges: two of them join the same hubs and classes.
+pub fn class_graphs_are_one()
+    ensures { ClassGraphsAreOne }
 {}
 
 /// A derivable open net has no cycle of one or more different nodes, each entered and left by ports of different classes.
@@ -38,16 +43,6 @@ pub fn set_is_its_members()
 /// `first_splitting` has one result: a node, or that there is none.
 pub fn first_splitting_is_one()
     ensures { FirstSplittingIsOne }
-{}
-
-/// `DoneNodes::add` has one component as its result.
-pub fn component_is_one()
-    ensures { ComponentIsOne }
-{}
-
-/// The set of the nodes that are derived after `DoneNodes::add` is one.
-pub fn union_is_one()
-    ensures { UnionIsOne }
 {}
 
 /// `NodeSet::without` has one set as its result.

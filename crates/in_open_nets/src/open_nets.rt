@@ -5,8 +5,7 @@ ghost use Rattle.in_open_nets.specs.OpenNets.{IsAgent, IsClass, IsOrderly, class
 ghost use Rattle.in_open_nets.specs.Stuck.{ports_of};
 
 use crate::port_classes::PortClasses;
-use in_symbols::SymbolNo;
-use in_syntax::Place;
+use in_syntax::{Place, SymbolNo};
 use sqlite_items::Items;
 use std::marker::Model;
 

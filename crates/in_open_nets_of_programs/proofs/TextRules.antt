@@ -3,11 +3,13 @@ use Rattle.std.proofs.Common.{◌≡◌, ◌≢◌, ◌≤◌, ◌+◌, Bool, tr
 use Rattle.std.proofs.lemmas.Bool.Decides.{eqb_tells}
 use Rattle.std.proofs.lemmas.List.{length-map}
 use Rattle.in_syntax.specs.declared.tree.SourceRule.{SourceRule}
-use Rattle.in_symbols.specs.declared.symbols.SymbolNo.{SymbolNo}
+use Rattle.in_syntax.specs.declared.symbol_no.SymbolNo.{SymbolNo}
 use Rattle.in_symbols.specs.Tables.{Tables, arity_of}
 use Rattle.in_symbols.proofs.Public.{same_symbol}
 use Rattle.in_net.specs.declared.nets.FreeEnd.{FreeEnd}
-use Rattle.in_net.specs.NetFaults.{max_member_agents}
+use Rattle.in_syntax.specs.TextLimits.{max_member_agents, most_member_agents}
+use Rattle.in_syntax.specs.declared.text_limits.TextLimits.{TextLimits}
+use Rattle.in_syntax.proofs.Public.{member_agents_few}
 use Rattle.in_net.specs.Rules.{RuleParts, IsRuleOf, BuildsRuleOf, types_from, auxiliary_types, body_of_rule, heads_of, written_of}
 use Rattle.in_net.specs.Rules as rules_of
 use Rattle.in_open_nets_of_programs.specs.OpeningRules.{is_turned, IsRuleWhole}
@@ -34,8 +36,8 @@ pick heads written b e = elim (eqb_tells heads.0.0 written.0.0) [
     other true e h = e
     other false e h = absurd (h (ap (λ (z : SymbolNo × SymbolNo). z.0.0) e))
 
-pub rule_whole : (t : Tables) (r : SourceRule) (p : RuleParts) → BuildsRuleOf t r (Ok p) → IsRuleWhole t p
-rule_whole t r p h = record { heads = heads; ends = ends; there = cells_there t _ p.member.cells of.member.agents.agents; few = few }
+pub rule_whole : (limits : TextLimits) (t : Tables) (r : SourceRule) (p : RuleParts) → BuildsRuleOf limits t r (Ok p) → IsRuleWhole t p
+rule_whole limits t r p h = record { heads = heads; ends = ends; there = cells_there t _ p.member.cells of.member.agents.agents; few = few }
   where
     of : IsRuleOf t r p
     of = h.1
@@ -54,5 +56,5 @@ rule_whole t r p h = record { heads = heads; ends = ends; there = cells_there t 
         let g : arity_of t p.heads.1.0 ≡ arity_of t (heads_of t r).1.0 = ap (λ (z : SymbolNo × SymbolNo). arity_of t z.1.0) of.heads in
         omega arith
 
-    few : length p.member.cells ≤ max_member_agents
-    few = few_agents max_member_agents t (body_of_rule t r) p.member.cells h.2 of.member.agents.agents
+    few : length p.member.cells ≤ most_member_agents
+    few = omega (arith, few_agents (max_member_agents limits) t (body_of_rule t r) p.member.cells h.2 of.member.agents.agents, member_agents_few limits)

@@ -7,6 +7,7 @@ use Rattle.in_syntax.specs.declared.tree.SourceRule.{SourceRule}
 use Rattle.in_symbols.specs.Tables.{Tables, IsTabled}
 use Rattle.in_net.specs.Built.{IsOver}
 use Rattle.in_net.specs.Parts.{Parts, IsWhole}
+use Rattle.in_syntax.specs.declared.text_limits.TextLimits.{TextLimits}
 use Rattle.in_net.specs.Rules.{RuleParts, BuildsRuleOf, IsRuleOver}
 use Rattle.in_net.specs.TextNet.{IsNetOf}
 use Rattle.in_net.specs.Graphs.{graph_of}
@@ -22,7 +23,7 @@ TextNetsAreAllThere = (t : Tables) (text : SourceNet) (n : Parts) → IsNetOf t 
 
 -- the rule of a text is whole, as `open_rule` requires
 abbrev pub TextRulesAreWhole : Type 0
-TextRulesAreWhole = (t : Tables) (text : SourceRule) (p : RuleParts) → BuildsRuleOf t text (Ok p) → IsRuleWhole t p
+TextRulesAreWhole = (limits : TextLimits) (t : Tables) (text : SourceRule) (p : RuleParts) → BuildsRuleOf limits t text (Ok p) → IsRuleWhole t p
 
 -- the open net of a whole net over tables is an open net: each point is in exactly one wire
 abbrev pub OpenNetsAreOpen : Type 0

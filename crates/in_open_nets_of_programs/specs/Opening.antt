@@ -1,7 +1,7 @@
 -- The open net of an initial net: its agents in order are the nodes, its wires by number, and its free ends.
 use Rattle.std.specs.Prelude.{◌≡◌, ◌↔◌, ℕ, ◌+◌, ◌<◌, ◌≤◌, List, length, slice_get, Some, option_map, is_some, true, IsTrue}
 use Rattle.std.specs.List.{AllByRecursion}
-use Rattle.in_symbols.specs.declared.symbols.SymbolNo.{SymbolNo}
+use Rattle.in_syntax.specs.declared.symbol_no.SymbolNo.{SymbolNo}
 use Rattle.in_symbols.specs.Tables.{Tables, arity_of, class_at, classes_of}
 use Rattle.in_net.specs.Built.{IsOver}
 use Rattle.in_net.specs.declared.nets.Point as points

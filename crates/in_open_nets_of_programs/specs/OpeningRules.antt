@@ -3,12 +3,12 @@
 -- by itself, are this project's own way to say it.
 use Rattle.std.specs.Prelude.{◌≡◌, ◌^◌, ℕ, zero, suc, ◌+◌, ◌-◌, ◌<◌, ◌≤◌, nat_lt, nat_eq, cond, not, Bool, List, length, count_by, option_map, Some}
 use Rattle.in_syntax.specs.declared.places.Place.{Place}
-use Rattle.in_symbols.specs.declared.symbols.SymbolNo.{SymbolNo}
+use Rattle.in_syntax.specs.declared.symbol_no.SymbolNo.{SymbolNo}
 use Rattle.in_symbols.specs.Tables.{Tables, arity_of, class_at, classes_of}
 use Rattle.in_net.specs.declared.nets.Point as points
 use Rattle.in_net.specs.declared.nets.Point.TheVariants as point
 use Rattle.in_net.specs.Parts.{wire_in}
-use Rattle.in_net.specs.NetFaults.{max_member_agents}
+use Rattle.in_syntax.specs.TextLimits.{most_member_agents}
 use Rattle.in_net.specs.Rules.{IsRuleOver, RuleParts}
 use Rattle.in_open_nets.specs.declared.open_nets.Node.TheVariants.{ClassNode}
 use Rattle.in_open_nets.specs.declared.open_nets.OpenNode.{OpenNode}
@@ -91,7 +91,7 @@ pub record IsRuleWhole (t : Tables) (p : RuleParts) : Type 0 where
   pub heads : p.heads ≡ cond (is_turned p) (p.written.1, p.written.0) p.written
   pub ends : length p.member.free ≡ arity_of t p.heads.0.0 + arity_of t p.heads.1.0
   pub there : AreAllThere p.member
-  pub few : length p.member.cells ≤ max_member_agents
+  pub few : length p.member.cells ≤ most_member_agents
 
 -- ---- the numbers of nodes
 

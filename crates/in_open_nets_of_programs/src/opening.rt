@@ -7,8 +7,8 @@ ghost use Rattle.in_open_nets_of_programs.specs.Opening.{AreAllThere, AreClasses
 
 use in_net::{AgentNo, Net};
 use in_open_nets::{Node, OpenNet, OpenNode, OpenPoint, PortClasses};
-use in_symbols::{SymbolNo, Symbols};
-use in_syntax::with_room;
+use in_symbols::Symbols;
+use in_syntax::{SymbolNo, with_room};
 use sqlite_items::Items;
 use std::alloc::{AllocError, Global};
 use std::marker::Model;

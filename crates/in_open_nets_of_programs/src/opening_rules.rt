@@ -9,8 +9,8 @@ ghost use Rattle.in_open_nets_of_programs.specs.OpeningRules.{places_in, IsClass
 use crate::opening::{BuiltNet, node};
 use in_net::{AgentNo, Rule};
 use in_open_nets::{Node, OpenNet, OpenNode, OpenPoint, PortClasses};
-use in_symbols::{SymbolNo, Symbols};
-use in_syntax::{Place, with_room};
+use in_symbols::Symbols;
+use in_syntax::{Place, SymbolNo, with_room};
 use sqlite_items::Items;
 use std::alloc::{AllocError, Global};
 use std::marker::Model;

@@ -9,6 +9,7 @@ use Rattle.in_check.specs.NetText.{Words, text, AreAgents}
 use Rattle.in_check.specs.Programs.{Program}
 use Rattle.in_check.specs.Runs.{Reached, HasEnded}
 use Rattle.in_check.specs.Systems.{system_of}
+use Rattle.in_syntax.specs.declared.text_limits.TextLimits.{TextLimits}
 
 -- the names of a program's symbols and of its net's free ends
 abbrev pub words_in : Program → Words
@@ -30,4 +31,4 @@ EndsOnce p k written = Ends p k written × ((j : ℕ) (other : List ℕ) → End
 
 -- an accepted program has one end, if it has any
 abbrev pub ProgramsHaveOneEnd : Type 0
-ProgramsHaveOneEnd = (input : List ℕ) (p : Program) → IsAccepted input p → (k : ℕ) (written : List ℕ) → Ends p k written → EndsOnce p k written
+ProgramsHaveOneEnd = (limits : TextLimits) (input : List ℕ) (p : Program) → IsAccepted limits input p → (k : ℕ) (written : List ℕ) → Ends p k written → EndsOnce p k written

@@ -4,7 +4,8 @@ ghost use Rattle.in_symbols.specs.Tables.{IsSymbol, arity_of};
 ghost use Rattle.in_net.specs.Nets.{signature_of};
 ghost use Rattle.in_overwriting.specs.Flag.{AreMarkedPlaces, IsMarkedAt, IsMarkedSymbol};
 
-use in_symbols::{SymbolNo, Symbols};
+use in_symbols::Symbols;
+use in_syntax::SymbolNo;
 
 /// Whether two auxiliary ports are of one class, and their types have one name and opposite signs.
 fn are_marked(symbols: &Symbols, symbol: SymbolNo, first: u8, second: u8) -> bool

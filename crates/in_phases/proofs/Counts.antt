@@ -4,7 +4,7 @@ use Rattle.std.specs.List.{AllByRecursion}
 use Rattle.std.proofs.lemmas.List.{length-map}
 use Rattle.std.proofs.lemmas.Nat.{mul-le, row_fits}
 use Rattle.in_base.specs.Lists.{IsAmong}
-use Rattle.in_symbols.specs.declared.symbols.SymbolNo.{SymbolNo}
+use Rattle.in_syntax.specs.declared.symbol_no.SymbolNo.{SymbolNo}
 use Rattle.in_net.specs.declared.nets.Cell.{Cell}
 use Rattle.in_interaction.specs.Pieces.{AreDifferent}
 use Rattle.in_interaction.proofs.Public.{few}

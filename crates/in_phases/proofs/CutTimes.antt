@@ -4,7 +4,7 @@ use Rattle.std.proofs.lemmas.List.{length-append, length-map}
 use Rattle.std.proofs.lemmas.Option.{same_Some}
 use Rattle.in_arena.specs.declared.content.CellNo.{CellNo}
 use Rattle.in_symbols.specs.Tables.{arity_of}
-use Rattle.in_symbols.specs.declared.symbols.SymbolNo.{SymbolNo}
+use Rattle.in_syntax.specs.declared.symbol_no.SymbolNo.{SymbolNo}
 use Rattle.in_net.specs.Parts.{symbol_in}
 use Rattle.in_check.specs.Programs.{Program}
 use Rattle.in_reducer.specs.Cutting.{CutsAt, net_in}

@@ -5,7 +5,7 @@ use Rattle.in_arena.specs.declared.content.End.{End}
 use Rattle.in_arena.specs.declared.content.End.TheVariants as end
 use Rattle.in_symbols.specs.Names.{name_in}
 use Rattle.in_symbols.specs.Tables.{arity_of}
-use Rattle.in_symbols.specs.declared.symbols.SymbolNo.{SymbolNo}
+use Rattle.in_syntax.specs.declared.symbol_no.SymbolNo.{SymbolNo}
 use Rattle.in_net.specs.declared.nets.Point as points
 use Rattle.in_net.specs.Nets.{Point, Port, IsNet, net_of, signature_of, point_of, coded_point}
 use Rattle.in_net.specs.Parts.{IsPointOf, symbol_in, partner_in}
@@ -51,7 +51,7 @@ module _ (m : MachineParts) where
 
   module _ (machine : IsMachine m) where
     pub as_promised : IsAsPromised (system_of m.program) (net_of (parts_of m))
-    as_promised = promised machine.accepted.0 (plain_of m) machine.accepted.1 machine.plain
+    as_promised = promised machine.accepted.0 machine.accepted.1 (plain_of m) machine.accepted.2 machine.plain
 
     pub net : IsNet (setting_of m).symbols (setting_of m).net
     net = as_promised.typed.0

@@ -4,6 +4,7 @@ use Rattle.std.proofs.lemmas.List.{append_cancel_left}
 use Rattle.std.proofs.lemmas.Option.{same_Some}
 use Rattle.std.specs.Io.KnownBytes.{append_known}
 use Rattle.in_syntax.specs.Streams.{Device, Reader}
+use Rattle.in_syntax.specs.declared.text_limits.TextLimits.{TextLimits}
 use Rattle.in_net.specs.Nets.{net_of, signature_of}
 use Rattle.in_check.specs.Checking.{IsAccepted}
 use Rattle.in_check.specs.Laws.{AreOneProgram}
@@ -48,9 +49,9 @@ ends_kept p q k written h e = record {
 }
 
 -- the program of a reply with status 0; the lines begin with the shown part of the net's text
-record IsNormal (shown : List ℕ → List ℕ) (input lines : List ℕ) : Type 0 where
+record IsNormal (limits : TextLimits) (shown : List ℕ → List ℕ) (input lines : List ℕ) : Type 0 where
   program : Program
-  valid : IsAccepted input program
+  valid : IsAccepted limits input program
   count : ℕ
   written : List ℕ
   once : EndsOnce program count written
@@ -62,31 +63,31 @@ all_shown t = t
 abbrev none_shown : List ℕ → List ℕ
 none_shown t = []
 
-module _ (shown : List ℕ → List ℕ) (l : Limits) (input lines : List ℕ) where
-  after_run : (q : Program) (m : MachineParts) (k : ℕ) (s : Stop) → IsAccepted input q → RunsTo q l (Ok (record { machine = m; interactions = k; stop = s })) → lines ≡ shown (text_of m) ++ run_lines k s → status 0 ≡ stop_status s
-      → IsNormal shown input lines
+module _ (limits : TextLimits) (shown : List ℕ → List ℕ) (l : Limits) (input lines : List ℕ) where
+  after_run : (q : Program) (m : MachineParts) (k : ℕ) (s : Stop) → IsAccepted limits input q → RunsTo q l (Ok (record { machine = m; interactions = k; stop = s })) → lines ≡ shown (text_of m) ++ run_lines k s → status 0 ≡ stop_status s
+      → IsNormal limits shown input lines
   after_run q m k Normal valid h e is =
       let o : Outcome = record { machine = m; interactions = k; stop = Normal } in
-      record { program = q; valid = valid; count = k; written = text_of m; once = normal_outcomes_are_one input q l o valid h refl; lines_are = e }
+      record { program = q; valid = valid; count = k; written = text_of m; once = normal_outcomes_are_one limits input q l o valid h refl; lines_are = e }
   after_run q m k Limit valid h e is = absurd (let z : 0 ≡ 3 = ap (λ s. s.0) is in cc)
   after_run q m k (Full c need free) valid h e is = absurd (let z : 0 ≡ 4 = ap (λ s. s.0) is in cc)
 
-normal : (l : Limits) (input lines : List ℕ) (s : Status) (r : Report) → IsReport (Run l) input r → lines ≡ lines_of input r → s ≡ status_of r → s ≡ status 0 → IsNormal all_shown input lines
-normal l input lines s r so e is zero = go r so e (sym zero ∙ is)
+normal : (limits : TextLimits) (l : Limits) (input lines : List ℕ) (s : Status) (r : Report) → IsReport limits (Run l) input r → lines ≡ lines_of input r → s ≡ status_of r → s ≡ status 0 → IsNormal limits all_shown input lines
+normal limits l input lines s r so e is zero = go r so e (sym zero ∙ is)
   where
-    go : (r : Report) → IsReport (Run l) input r → lines ≡ lines_of input r → status 0 ≡ status_of r → IsNormal all_shown input lines
-    go (accepted q (ran m k s)) h e is = after_run all_shown l input lines q.program m k s (q, refl, h.0) h.1 e is
+    go : (r : Report) → IsReport limits (Run l) input r → lines ≡ lines_of input r → status 0 ≡ status_of r → IsNormal limits all_shown input lines
+    go (accepted q (ran m k s)) h e is = after_run limits all_shown l input lines q.program m k s (q, refl, h.0) h.1 e is
     go (accepted q (full c need free)) h e is = absurd (let z : 0 ≡ 4 = ap (λ s. s.0) is in cc)
     go (accepted q counted) h e is = elim h.1 [ ]
     go (accepted q derived) h e is = elim h.1 [ ]
     go (accepted q (stopped m k s)) h e is = elim h.1 [ ]
     go (refused r) h e is = absurd (let z : 0 ≡ 1 = ap (λ s. s.0) is in cc)
 
-normal_count : (l : Limits) (input lines : List ℕ) (s : Status) (r : Report) → IsReport (Count l) input r → lines ≡ lines_of input r → s ≡ status_of r → s ≡ status 0 → IsNormal none_shown input lines
-normal_count l input lines s r so e is zero = go r so e (sym zero ∙ is)
+normal_count : (limits : TextLimits) (l : Limits) (input lines : List ℕ) (s : Status) (r : Report) → IsReport limits (Count l) input r → lines ≡ lines_of input r → s ≡ status_of r → s ≡ status 0 → IsNormal limits none_shown input lines
+normal_count limits l input lines s r so e is zero = go r so e (sym zero ∙ is)
   where
-    go : (r : Report) → IsReport (Count l) input r → lines ≡ lines_of input r → status 0 ≡ status_of r → IsNormal none_shown input lines
-    go (accepted q (stopped m k s)) h e is = after_run none_shown l input lines q.program m k s (q, refl, h.0) h.1 e is
+    go : (r : Report) → IsReport limits (Count l) input r → lines ≡ lines_of input r → status 0 ≡ status_of r → IsNormal limits none_shown input lines
+    go (accepted q (stopped m k s)) h e is = after_run limits none_shown l input lines q.program m k s (q, refl, h.0) h.1 e is
     go (accepted q (full c need free)) h e is = absurd (let z : 0 ≡ 4 = ap (λ s. s.0) is in cc)
     go (accepted q counted) h e is = elim h.1 [ ]
     go (accepted q derived) h e is = elim h.1 [ ]
@@ -94,30 +95,30 @@ normal_count l input lines s r so e is zero = go r so e (sym zero ∙ is)
     go (refused r) h e is = absurd (let z : 0 ≡ 1 = ap (λ s. s.0) is in cc)
 
 -- each end of the program gives these lines
-one_normal : (shown : List ℕ → List ℕ) (input lines : List ℕ) → IsNormal shown input lines → (p : Program) → IsAccepted input p → (k : ℕ) (written : List ℕ) → Ends p k written → lines ≡ shown written ++ run_lines k Normal
-one_normal shown input lines n p valid k written ends =
-    let one = n.once.1 k written (ends_kept p n.program k written (programs_once input p n.program valid n.valid) ends) in
+one_normal : (limits : TextLimits) (shown : List ℕ → List ℕ) (input lines : List ℕ) → IsNormal limits shown input lines → (p : Program) → IsAccepted limits input p → (k : ℕ) (written : List ℕ) → Ends p k written → lines ≡ shown written ++ run_lines k Normal
+one_normal limits shown input lines n p valid k written ends =
+    let one = n.once.1 k written (ends_kept p n.program k written (programs_once limits input p n.program valid n.valid) ends) in
     n.lines_are ∙ (λ i. shown (one.1 i) ++ run_lines (one.0 i) Normal)
 
-of_each_end : (a : Action) (input lines : List ℕ) (s : Status) (r : Report) → IsReport a input r → lines ≡ lines_of input r → s ≡ status_of r → IsOfEachEnd a input lines s
-of_each_end Check input lines s r so e is = tt
-of_each_end Derive input lines s r so e is = tt
-of_each_end (Run l) input lines s r so e is = λ zero. one_normal all_shown input lines (normal l input lines s r so e is zero)
-of_each_end (Count l) input lines s r so e is = λ zero. one_normal none_shown input lines (normal_count l input lines s r so e is zero)
+of_each_end : (limits : TextLimits) (a : Action) (input lines : List ℕ) (s : Status) (r : Report) → IsReport limits a input r → lines ≡ lines_of input r → s ≡ status_of r → IsOfEachEnd limits a input lines s
+of_each_end limits Check input lines s r so e is = tt
+of_each_end limits Derive input lines s r so e is = tt
+of_each_end limits (Run l) input lines s r so e is = λ zero. one_normal limits all_shown input lines (normal limits l input lines s r so e is zero)
+of_each_end limits (Count l) input lines s r so e is = λ zero. one_normal limits none_shown input lines (normal_count limits l input lines s r so e is zero)
 
 -- the lines and the status of a report are a reply
-pub replied : (a : Action) (input lines : List ℕ) (s : Status) (r : Report) → IsReport a input r → lines ≡ lines_of input r → s ≡ status_of r → IsReply a input lines s
-replied a input lines s r so e is = record { report = r; so = so; lines_are = e; status_is = is; any_order = of_each_end a input lines s r so e is }
+pub replied : (limits : TextLimits) (a : Action) (input lines : List ℕ) (s : Status) (r : Report) → IsReport limits a input r → lines ≡ lines_of input r → s ≡ status_of r → IsReply limits a input lines s
+replied limits a input lines s r so e is = record { report = r; so = so; lines_are = e; status_is = is; any_order = of_each_end limits a input lines s r so e is }
 
 -- two replies of `run` to one text that end normally are the same, with any limits
 pub normal_lines_are_one : NormalLinesAreOne
-normal_lines_are_one l m input lines more one other =
-    let n = normal m input more (status 0) other.report other.so other.lines_are other.status_is refl in
+normal_lines_are_one limits l m input lines more one other =
+    let n = normal limits m input more (status 0) other.report other.so other.lines_are other.status_is refl in
     one.any_order refl n.program n.valid n.count n.written n.once.0 ∙ sym n.lines_are
 
 pub normal_counts_are_one : NormalCountsAreOne
-normal_counts_are_one l m input lines more one other =
-    let n = normal_count m input more (status 0) other.report other.so other.lines_are other.status_is refl in
+normal_counts_are_one limits l m input lines more one other =
+    let n = normal_count limits m input more (status 0) other.report other.so other.lines_are other.status_is refl in
     one.any_order refl n.program n.valid n.count n.written n.once.0 ∙ sym n.lines_are
 
 -- ---- calls
@@ -129,32 +130,32 @@ moved_once d d' bytes more moves (before, is, after) =
     (same_Some (before ++ bytes) (before ++ more) (sym (ap (λ (z : Option (List ℕ)). append_known z bytes) is) ∙ sym moves.moved ∙ after))
 
 -- the output of a call, if memory didn't run out and no device failed, is a reply to its input
-reply_of : (a : Action) (r r' : Reader) (w w' : Device) (input lines : List ℕ) (s : Status) → Acts a r r' w w' s → IsAnswered s → Moved r.device r'.device input → Moved w w' lines → IsReply a input lines s
-reply_of a r r' w w' input lines s (told read written gives says moves) answered given taken =
-    subst (λ t. IsReply a t lines s) (moved_once r.device r'.device read input gives.moves given)
-    (subst (λ t. IsReply a read t s) (moved_once w w' written lines moves taken) (said says))
+reply_of : (limits : TextLimits) (a : Action) (r r' : Reader) (w w' : Device) (input lines : List ℕ) (s : Status) → Acts limits a r r' w w' s → IsAnswered s → Moved r.device r'.device input → Moved w w' lines → IsReply limits a input lines s
+reply_of limits a r r' w w' input lines s (told read written gives says moves) answered given taken =
+    subst (λ t. IsReply limits a t lines s) (moved_once r.device r'.device read input gives.moves given)
+    (subst (λ t. IsReply limits a read t s) (moved_once w w' written lines moves taken) (said says))
   where
-    said : Says a r'.ended read written s → IsReply a read written s
+    said : Says limits a r'.ended read written s → IsReply limits a read written s
     said (inl h) = h.1
     said (inr h) = absurd (answered.0 h.1)
-reply_of a r r' w w' input lines s (unread read fails same is) answered given taken = absurd (answered.1 is)
-reply_of a r r' w w' input lines s (unwritten read written t gives says breaks is) answered given taken = absurd (answered.1 is)
+reply_of limits a r r' w w' input lines s (unread read fails same is) answered given taken = absurd (answered.1 is)
+reply_of limits a r r' w w' input lines s (unwritten read written t gives says breaks is) answered given taken = absurd (answered.1 is)
 
 normal_is_answered : IsAnswered (status 0)
 normal_is_answered = (λ e. (let z : 0 ≡ 5 = ap (λ (s : Status). s.0) e in cc), λ e. (let z : 0 ≡ 6 = ap (λ (s : Status). s.0) e in cc))
 
 pub normal_calls_are_one : NormalCallsAreOne
-normal_calls_are_one l m input lines more r r' u u' w w' v v' one given taken other gives takes =
-    normal_lines_are_one l m input lines more
-    (reply_of (Run l) r r' w w' input lines (status 0) one normal_is_answered given taken)
-    (reply_of (Run m) u u' v v' input more (status 0) other normal_is_answered gives takes)
+normal_calls_are_one limits l m input lines more r r' u u' w w' v v' one given taken other gives takes =
+    normal_lines_are_one limits l m input lines more
+    (reply_of limits (Run l) r r' w w' input lines (status 0) one normal_is_answered given taken)
+    (reply_of limits (Run m) u u' v v' input more (status 0) other normal_is_answered gives takes)
 
 pub normal_count_calls_are_one : NormalCountCallsAreOne
-normal_count_calls_are_one l m input lines more r r' u u' w w' v v' one given taken other gives takes =
-    normal_counts_are_one l m input lines more
-    (reply_of (Count l) r r' w w' input lines (status 0) one normal_is_answered given taken)
-    (reply_of (Count m) u u' v v' input more (status 0) other normal_is_answered gives takes)
+normal_count_calls_are_one limits l m input lines more r r' u u' w w' v v' one given taken other gives takes =
+    normal_counts_are_one limits l m input lines more
+    (reply_of limits (Count l) r r' w w' input lines (status 0) one normal_is_answered given taken)
+    (reply_of limits (Count m) u u' v v' input more (status 0) other normal_is_answered gives takes)
 
 pub calls_answered_once : CallsAreAnsweredOnce
-calls_answered_once a input lines more s t r r' u u' w w' v v' turns one answered given taken other answers gives takes =
-    answered_once a input lines more s t turns (reply_of a r r' w w' input lines s one answered given taken) (reply_of a u u' v v' input more t other answers gives takes)
+calls_answered_once limits a input lines more s t r r' u u' w w' v v' turns one answered given taken other answers gives takes =
+    answered_once limits a input lines more s t turns (reply_of limits a r r' w w' input lines s one answered given taken) (reply_of limits a u u' v v' input more t other answers gives takes)

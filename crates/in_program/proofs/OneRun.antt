@@ -9,6 +9,7 @@ use Rattle.in_net.specs.Built.{IsOver}
 use Rattle.in_net.specs.Nets.{net_of}
 use Rattle.in_net.specs.Parts.{Parts}
 use Rattle.in_net.specs.Rules.{RuleParts}
+use Rattle.in_syntax.specs.declared.text_limits.TextLimits.{TextLimits}
 use Rattle.in_symbols.specs.Tables.{Tables}
 use Rattle.in_check.specs.Checking.{IsAccepted}
 use Rattle.in_check.specs.Laws.{AreOneProgram}
@@ -35,10 +36,10 @@ use Rattle.in_machine.specs.Texts.{text_of}
 -- ---- another table of rules
 
 module _ (ns : Cells) where
-  abbrev numbered : Program → Program
+  abbrev pub numbered : Program → Program
   numbered p = record { tables = p.tables; rules = p.rules; net = p.net; numbers = ns }
 
-  abbrev renumbered : MachineParts → MachineParts
+  abbrev pub renumbered : MachineParts → MachineParts
   renumbered m = record { program = numbered m.program; agents = m.agents; free = m.free; queue = m.queue; vacant = m.vacant }
 
   rule_kept : (m : MachineParts) (a b : AgentNo) (k : ℕ) (r : RuleParts) → IsRuleAt (plain_of m) a b k r → IsRuleAt (plain_of (renumbered m)) a b k r
@@ -47,10 +48,10 @@ module _ (ns : Cells) where
   pair_kept : (m : MachineParts) (a b : AgentNo) → IsPairAt (plain_of m) a b → IsPairAt (plain_of (renumbered m)) a b
   pair_kept m a b h = record { first = h.first; second = h.second; one = h.one; two = h.two; active = h.active; constructor = h.constructor }
 
-  need_kept : (m : MachineParts) (i : ℕ) (x : Need) → NeedsAt m i x → NeedsAt (renumbered m) i x
+  pub need_kept : (m : MachineParts) (i : ℕ) (x : Need) → NeedsAt m i x → NeedsAt (renumbered m) i x
   need_kept m i x h = record { pair = h.pair; stands = h.stands; number = h.number; rule = h.rule; is_rule = rule_kept m _ _ h.number h.rule h.is_rule; is_need = h.is_need }
 
-  step_kept : (m o : MachineParts) (i : ℕ) → StepsAt m i o → StepsAt (renumbered m) i (renumbered o)
+  pub step_kept : (m o : MachineParts) (i : ℕ) → StepsAt m i o → StepsAt (renumbered m) i (renumbered o)
   step_kept m o i s = record {
     pair = s.pair;
     stands = s.stands;
@@ -70,7 +71,7 @@ module _ (ns : Cells) where
     cells = s.cells;
   }
 
-  runs_kept : (m n : MachineParts) (k : ℕ) → Runs m k n → Runs (renumbered m) k (renumbered n)
+  pub runs_kept : (m n : MachineParts) (k : ℕ) → Runs m k n → Runs (renumbered m) k (renumbered n)
   runs_kept m _ zero (at_start _) = at_start (renumbered m)
   runs_kept m o (suc k) (then_step _ n _ _ before s) = then_step (renumbered m) (renumbered n) (renumbered o) k (runs_kept m n k before) (step_kept n o 0 s)
 
@@ -85,7 +86,7 @@ module _ (ns : Cells) where
 -- ---- two programs of one text
 
 module _ (p q : Program) (same : AreOneProgram p q) where
-  start_kept : (cells : CellCounts) (m : MachineParts) → IsStart p cells m → IsStart q cells (renumbered q.numbers m)
+  pub start_kept : (cells : CellCounts) (m : MachineParts) → IsStart p cells m → IsStart q cells (renumbered q.numbers m)
   start_kept cells m h = record {
     program = ap (numbered q.numbers) h.program
         ∙ (λ i. record { tables = same.tables i; rules = same.rules i; net = same.net i; numbers = q.numbers });
@@ -108,12 +109,12 @@ fits p cells m c h = let count = count_at p cells m h c in omega (arith, count)
 pub starts_or_not : (p q : Program) → AreOneProgram p q → (cells : CellCounts) (m : MachineParts) (c : CellClass) (need free : ℕ) → IsStart p cells m → DoesNotFit q cells c need free → ⊥
 starts_or_not p q same cells m c need free h (short, is, all) = let f = fits p cells m c h in let a = same_agents p q same c in let s = short.0 in omega (arith, s, f, a)
 
-pub one_run : (text : List ℕ) (p q : Program) (l : Limits) (m n o r : MachineParts) (j k : ℕ) (s t : Stop) → AreOneProgram p q → IsAccepted text q → IsStart p l.cells m → IsOutcome m l.limit n j s → IsStart q l.cells o → IsOutcome o l.limit r k t
+pub one_run : (limits : TextLimits) (text : List ℕ) (p q : Program) (l : Limits) (m n o r : MachineParts) (j k : ℕ) (s t : Stop) → AreOneProgram p q → IsAccepted limits text q → IsStart p l.cells m → IsOutcome m l.limit n j s → IsStart q l.cells o → IsOutcome o l.limit r k t
     → (text_of n ≡ text_of r) × (j ≡ k) × (s ≡ t)
-one_run text p q l m n o r j k s t same accepted start run other end =
+one_run limits text p q l m n o r j k s t same accepted start run other end =
     let first = start_kept p q same l.cells m start in
-    let machine = start_machine text q accepted l.cells (renumbered q.numbers m) first l.most in
+    let machine = start_machine limits text q accepted l.cells (renumbered q.numbers m) first l.most in
     let whole = outcome_kept q.numbers m l.limit n j s run in
     let one =
-    same_outcome (renumbered q.numbers m) o machine (start_machine text q accepted l.cells o other l.most) (same_start text q accepted l.cells (renumbered q.numbers m) o first other) l.limit (renumbered q.numbers n) r j k s t whole end in
+    same_outcome (renumbered q.numbers m) o machine (start_machine limits text q accepted l.cells o other l.most) (same_start limits text q accepted l.cells (renumbered q.numbers m) o first other) l.limit (renumbered q.numbers n) r j k s t whole end in
     (same_texts (renumbered q.numbers n) r (machine_runs (renumbered q.numbers m) (renumbered q.numbers n) j machine whole.run) one.0.0 one.0.1, one.1, one.2)

@@ -2,6 +2,7 @@
 use Rattle.std.proofs.Common.{◌≡◌, ◌<◌, ◌+◌, List, ◌++◌, [], ◌∷◌, length, take, ℕ, zero, suc, sym, subst, ap, ◌∙◌, refl, inl, inr, arith, length-append, Result, Ok, Err, IfOk, OnErr, Vec, Global}
 use Rattle.std.specs.Io.KnownBytes.{append_known}
 use Rattle.in_syntax.specs.Streams.{Device, Reader}
+use Rattle.in_syntax.specs.declared.text_limits.TextLimits.{TextLimits}
 use Rattle.in_print.proofs.Public.{append_known-twice}
 use Rattle.in_command_line.specs.declared.action.Action.{Action}
 use Rattle.in_program.specs.declared.acting.Status.{Status}
@@ -11,23 +12,23 @@ use Rattle.in_program.specs.Lines.{memory_line}
 use Rattle.in_program.specs.Acting.{Acts, told, unwritten, memory_status, fault_status, IsReply, Says, Tells, TellsOne}
 
 -- the lines are written, or a write fails within them
-pub tells : (a : Action) (r r' : Reader) (w w' : Device) (text line : List ℕ) (s answer : Status) →
-    Gives r r' text → Says a r'.ended text line s → Tells w w' line s answer → Acts a r r' w w' answer
-tells a r r' w w' text line s answer read says (inl (wrote, is)) =
-    let P : Status → Type 0 = λ z. Says a r'.ended text line z in told text line read (subst P (sym is) says) wrote
-tells a r r' w w' text line s answer read says (inr (breaks, is)) = unwritten text line s read says breaks is
+pub tells : (limits : TextLimits) (a : Action) (r r' : Reader) (w w' : Device) (text line : List ℕ) (s answer : Status) →
+    Gives limits r r' text → Says limits a r'.ended text line s → Tells w w' line s answer → Acts limits a r r' w w' answer
+tells limits a r r' w w' text line s answer read says (inl (wrote, is)) =
+    let P : Status → Type 0 = λ z. Says limits a r'.ended text line z in told text line read (subst P (sym is) says) wrote
+tells limits a r r' w w' text line s answer read says (inr (breaks, is)) = unwritten text line s read says breaks is
 
 -- the output on the text, if it is seen through another
-pub tells_reply : (a : Action) (r r' : Reader) (w w' : Device) (text seen : List ℕ) (answer : Status) → seen ≡ text → (Gives r r' text × IsEnoughText r'.ended text) → TellsOne (IsReply a seen) w w' answer → Acts a r r' w w' answer
-tells_reply a r r' w w' text seen answer of_text (read, enough) (lines, s, inl reply, tell) =
-    let P : List ℕ → Type 0 = λ z. IsReply a z lines s in
-    tells a r r' w w' text lines s answer read (inl (enough, subst P of_text reply)) tell
-tells_reply a r r' w w' text seen answer of_text (read, enough) (lines, s, inr wants, tell) = tells a r r' w w' text lines s answer read (inr wants) tell
+pub tells_reply : (limits : TextLimits) (a : Action) (r r' : Reader) (w w' : Device) (text seen : List ℕ) (answer : Status) → seen ≡ text → (Gives limits r r' text × IsEnoughText limits r'.ended text) → TellsOne (IsReply limits a seen) w w' answer → Acts limits a r r' w w' answer
+tells_reply limits a r r' w w' text seen answer of_text (read, enough) (lines, s, inl reply, tell) =
+    let P : List ℕ → Type 0 = λ z. IsReply limits a z lines s in
+    tells limits a r r' w w' text lines s answer read (inl (enough, subst P of_text reply)) tell
+tells_reply limits a r r' w w' text seen answer of_text (read, enough) (lines, s, inr wants, tell) = tells limits a r r' w w' text lines s answer read (inr wants) tell
 
 -- memory may run out for any text
-pub wants_memory : (a : Action) (r r' : Reader) (w w' : Device) (text : List ℕ) (answer : Status) →
-    Gives r r' text → Tells w w' memory_line memory_status answer → Acts a r r' w w' answer
-wants_memory a r r' w w' text answer read tell = tells a r r' w w' text memory_line memory_status answer read (inr (refl, refl)) tell
+pub wants_memory : (limits : TextLimits) (a : Action) (r r' : Reader) (w w' : Device) (text : List ℕ) (answer : Status) →
+    Gives limits r r' text → Tells w w' memory_line memory_status answer → Acts limits a r r' w w' answer
+wants_memory limits a r r' w w' text answer read tell = tells limits a r r' w w' text memory_line memory_status answer read (inr (refl, refl)) tell
 
 -- running out of memory is reported in the place of anything
 pub wanted : (So : List ℕ → Status → Type 0) (w w' : Device) (answer : Status) → Tells w w' memory_line memory_status answer → TellsOne So w w' answer

@@ -2,6 +2,8 @@
 use Rattle.std.specs.Prelude.{◌≡◌, ◌⊎◌, ◌++◌, ℕ, Bool, true, false, List, [], Ok, string_bytes}
 use Rattle.in_syntax.specs.Streams.{Device, Reader}
 use Rattle.in_syntax.specs.declared.faults.Refusal.{Refusal}
+use Rattle.in_syntax.specs.declared.text_limits.TextLimits.{TextLimits}
+use Rattle.in_syntax.specs.declared.text_limits.TextLimits.TheVariants.{Usual, Large}
 use Rattle.in_command_line.specs.declared.action.Action.{Action}
 use Rattle.in_command_line.specs.declared.action.Action.TheVariants.{Check, Derive, Run, Count}
 use Rattle.in_limits.specs.declared.limits.Limits.{Limits}
@@ -78,10 +80,10 @@ pub data Report : Type 0 where
   accepted : Certified → Finding → Report
   refused : Refusal → Report
 
--- the output is right for the action and the text
-abbrev pub IsReport : Action → List ℕ → Report → Type 0
-IsReport a text (accepted p f) = IsCertified text p × IsFinding a p.program f
-IsReport a text (refused r) = IsRefused text r
+-- the output is right for the action and the text, by the limits of the text
+abbrev pub IsReport : TextLimits → Action → List ℕ → Report → Type 0
+IsReport limits a text (accepted p f) = IsCertified limits text p × IsFinding a p.program f
+IsReport limits a text (refused r) = IsRefused limits text r
 
 abbrev pub lines_of : List ℕ → Report → List ℕ
 lines_of text (accepted p f) = finding_lines p f
@@ -92,26 +94,31 @@ status_of (accepted p f) = finding_status f
 status_of (refused r) = status 1
 
 -- if a run ends normally, its lines are those of each run of the program that ends, with interactions in any order: its text and its count
-abbrev pub IsOfEachEnd : Action → List ℕ → List ℕ → Status → Type 0
-IsOfEachEnd (Run l) text lines s = s ≡ status 0 → (p : Program) → IsAccepted text p → (k : ℕ) (written : List ℕ) → Ends p k written → lines ≡ written ++ run_lines k Normal
-IsOfEachEnd (Count l) text lines s = s ≡ status 0 → (p : Program) → IsAccepted text p → (k : ℕ) (written : List ℕ) → Ends p k written → lines ≡ run_lines k Normal
-IsOfEachEnd a text lines s = Unit {0}
+abbrev pub IsOfEachEnd : TextLimits → Action → List ℕ → List ℕ → Status → Type 0
+IsOfEachEnd limits (Run l) text lines s = s ≡ status 0 → (p : Program) → IsAccepted limits text p → (k : ℕ) (written : List ℕ) → Ends p k written → lines ≡ written ++ run_lines k Normal
+IsOfEachEnd limits (Count l) text lines s = s ≡ status 0 → (p : Program) → IsAccepted limits text p → (k : ℕ) (written : List ℕ) → Ends p k written → lines ≡ run_lines k Normal
+IsOfEachEnd limits a text lines s = Unit {0}
 
 -- the lines and the status are those of the output on the text
-pub record IsReply (a : Action) (text lines : List ℕ) (s : Status) : Type 0 where
+pub record IsReply (limits : TextLimits) (a : Action) (text lines : List ℕ) (s : Status) : Type 0 where
   pub report : Report
-  pub so : IsReport a text report
+  pub so : IsReport limits a text report
   pub lines_are : lines ≡ lines_of text report
   pub status_is : s ≡ status_of report
-  pub any_order : IsOfEachEnd a text lines s
+  pub any_order : IsOfEachEnd limits a text lines s
 
 -- the line of running out of memory, and its status
 abbrev pub WantsMemory : List ℕ → Status → Type 0
 WantsMemory lines s = (lines ≡ memory_line) × (s ≡ memory_status)
 
 -- a possible output after these bytes are read: the reply to them, if they are enough, or that memory ran out
-abbrev pub Says : Action → Bool → List ℕ → List ℕ → Status → Type 0
-Says a ended text lines s = (IsEnoughText ended text × IsReply a text lines s) ⊎ WantsMemory lines s
+abbrev pub Says : TextLimits → Action → Bool → List ℕ → List ℕ → Status → Type 0
+Says limits a ended text lines s = (IsEnoughText limits ended text × IsReply limits a text lines s) ⊎ WantsMemory lines s
+
+-- the limits of a request's text: the large ones, or the usual ones
+abbrev pub text_limits : Bool → TextLimits
+text_limits true = Large
+text_limits false = Usual
 
 -- the action of `report`: `derive` or `check`
 abbrev pub report_action : Bool → Action
@@ -123,15 +130,15 @@ abbrev pub run_action : Bool → Limits → Action
 run_action true l = Run l
 run_action false l = Count l
 
--- the effect of a call for this action: from a reader r and a writer w to their states after it
-pub data Acts (a : Action) (r r' : Reader) (w w' : Device) (s : Status) : Type 0 where
+-- the effect of a call for this action on a text with these limits: from a reader r and a writer w to their states after it
+pub data Acts (limits : TextLimits) (a : Action) (r r' : Reader) (w w' : Device) (s : Status) : Type 0 where
   -- bytes were read, and the lines on them written
-  told : (text lines : List ℕ) → Gives r r' text → Says a r'.ended text lines s → Moves w w' lines → Acts a r r' w w' s
+  told : (text lines : List ℕ) → Gives limits r r' text → Says limits a r'.ended text lines s → Moves w w' lines → Acts limits a r r' w w' s
   -- a read failed, and nothing was written
-  unread : (text : List ℕ) → Fails r r' text → w' ≡ w → s ≡ fault_status → Acts a r r' w w' s
+  unread : (text : List ℕ) → Fails limits r r' text → w' ≡ w → s ≡ fault_status → Acts limits a r r' w w' s
   -- bytes were read, and a write failed within the lines on them
-  unwritten : (text lines : List ℕ) (t : Status) → Gives r r' text → Says a r'.ended text lines t → BreaksWithin w w' lines → s ≡ fault_status →
-      Acts a r r' w w' s
+  unwritten : (text lines : List ℕ) (t : Status) → Gives limits r r' text → Says limits a r'.ended text lines t → BreaksWithin w w' lines → s ≡ fault_status →
+      Acts limits a r r' w w' s
 
 -- a line is written, and the status is this one; or a write failed within the line
 abbrev pub Tells : Device → Device → List ℕ → Status → Status → Type 0

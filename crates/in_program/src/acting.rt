@@ -1,6 +1,6 @@
 ghost use Rattle.std.specs.Prelude.{ℕ, ◌≡◌, ◌-◌, ◌^◌, ◌<◌, ◌++◌, IfOk, OnErr};
 ghost use Rattle.in_machine.specs.Texts.{text_of};
-ghost use Rattle.in_program.specs.Acting.{Acts, IsReply, Tells, TellsOne, TellsUsage, memory_status, AreFound, AreThese, net_shown, report_action, run_action, status, stop_status};
+ghost use Rattle.in_program.specs.Acting.{Acts, IsReply, Tells, TellsOne, TellsUsage, memory_status, AreFound, AreThese, net_shown, report_action, run_action, status, stop_status, text_limits};
 ghost use Rattle.in_program.specs.Lines.{memory_line, refused_line, run_lines, start_line};
 ghost use Rattle.in_arena.specs.declared.content.CellClass.{CellClass};
 ghost use Rattle.in_run.specs.declared.running.RunFault.TheVariants.{Start};
@@ -13,10 +13,10 @@ use crate::reading::{Input, read_text};
 use crate::runs::{run_lines, start_line};
 use crate::steps::derivation_lines;
 use in_check::{Checked, Findings, check_finding};
-use in_command_line::{Action, Usage};
+use in_command_line::{Action, Request, Usage};
 use in_print::{PrintFault, write_all, write_net};
 use in_run::{Limits, Machine, NoWatch, Outcome, RunFault, StartFault, Stop, Watch, run_watched};
-use in_syntax::{Fault, TextIn, TextOut};
+use in_syntax::{Fault, TextIn, TextLimits, TextOut};
 use std::alloc::{AllocError, Global};
 use std::sync::Wait;
 use std::thread::Threads;
@@ -213,25 +213,39 @@ pub(crate) fn tell_fault<W: TextOut>(
 }
 
 /// Writes the output of `check` on a text in memory, or that of `derive`, and returns the status, as `report` does on a text that it reads.
-pub fn report_text<W: TextOut>(alloc: Global, writer: &mut W, derive: bool, text: &[u8]) -> Status
+pub fn report_text<W: TextOut>(
+    alloc: Global,
+    text_limits: TextLimits,
+    writer: &mut W,
+    derive: bool,
+    text: &[u8],
+) -> Status
     requires { (W.device writer.old).failures < 2 ^ 64 - 1 }
-    ensures { TellsOne (IsReply (report_action derive) text.now) (W.device writer.old) (W.device writer.new) result }
+    ensures { TellsOne (IsReply text_limits (report_action derive) text.now) (W.device writer.old) (W.device writer.new) result }
 {
-    tell_report(alloc, writer, derive, text, &mut Findings::none())
+    tell_report(
+        alloc,
+        text_limits,
+        writer,
+        derive,
+        text,
+        &mut Findings::none(),
+    )
 }
 
 /// The same, and what the check finds.
 fn tell_report<W: TextOut>(
     alloc: Global,
+    text_limits: TextLimits,
     writer: &mut W,
     derive: bool,
     text: &[u8],
     findings: &mut Findings,
 ) -> Status
     requires { (W.device writer.old).failures < 2 ^ 64 - 1 }
-    ensures { TellsOne (IsReply (report_action derive) text.now) (W.device writer.old) (W.device writer.new) result }
+    ensures { TellsOne (IsReply text_limits (report_action derive) text.now) (W.device writer.old) (W.device writer.new) result }
 {
-    match check_finding(alloc, text, findings) {
+    match check_finding(alloc, text_limits, text, findings) {
         Ok(checked) => {
             let status = tell_found(alloc, writer, derive, &checked);
             drop(checked);
@@ -245,6 +259,7 @@ fn tell_report<W: TextOut>(
 fn tell_reply<T: Threads, W: TextOut, H: Watch>(
     rt: &T,
     alloc: Global,
+    text_limits: TextLimits,
     writer: &mut W,
     net: bool,
     limits: Limits,
@@ -253,9 +268,9 @@ fn tell_reply<T: Threads, W: TextOut, H: Watch>(
     findings: &mut Findings,
 ) -> Status
     requires { (W.device writer.old).failures < 2 ^ 64 - 1 }
-    ensures { TellsOne (IsReply (run_action net limits) text.now) (W.device writer.old) (W.device writer.new) result }
+    ensures { TellsOne (IsReply text_limits (run_action net limits) text.now) (W.device writer.old) (W.device writer.new) result }
 {
-    match check_finding(alloc, text, findings) {
+    match check_finding(alloc, text_limits, text, findings) {
         Ok(checked) => {
             let status = tell_run(rt, alloc, writer, &checked, net, limits, watch);
             drop(checked);
@@ -267,24 +282,33 @@ fn tell_reply<T: Threads, W: TextOut, H: Watch>(
 
 /// Reads a program's text, writes the lines of `check` on it, or those of `derive`, and returns the status. For `check` of an accepted
 /// program they are one line with its counts, for `derive` the steps that build its rules and its net; for a refused one they are the line of the
-/// refusal. If memory runs out, they are the line `memory` alone. It makes at most 1,048,577 reads, and at most one more than it gets bytes. It waits
-/// for no other thread.
+/// refusal. If memory runs out, they are the line `memory` alone. It makes at most one read more than a text with these limits may have bytes, and at
+/// most one more than it gets bytes. It waits for no other thread.
 pub fn report<R: TextIn, W: TextOut>(
     alloc: Global,
+    text_limits: TextLimits,
     derive: bool,
     reader: &mut R,
     writer: &mut W,
 ) -> Status
     requires reader { (R.reader reader.old).device.failures < 2 ^ 64 - 1 }
     requires writer { (W.device writer.old).failures < 2 ^ 64 - 1 }
-    ensures { Acts (report_action derive) (R.reader reader.old) (R.reader reader.new) (W.device writer.old) (W.device writer.new) result }
+    ensures { Acts text_limits (report_action derive) (R.reader reader.old) (R.reader reader.new) (W.device writer.old) (W.device writer.new) result }
 {
-    report_read(alloc, derive, reader, writer, &mut Findings::none())
+    report_read(
+        alloc,
+        text_limits,
+        derive,
+        reader,
+        writer,
+        &mut Findings::none(),
+    )
 }
 
 /// The same, and what the check finds.
 fn report_read<R: TextIn, W: TextOut>(
     alloc: Global,
+    text_limits: TextLimits,
     derive: bool,
     reader: &mut R,
     writer: &mut W,
@@ -292,10 +316,17 @@ fn report_read<R: TextIn, W: TextOut>(
 ) -> Status
     requires reader { (R.reader reader.old).device.failures < 2 ^ 64 - 1 }
     requires writer { (W.device writer.old).failures < 2 ^ 64 - 1 }
-    ensures { Acts (report_action derive) (R.reader reader.old) (R.reader reader.new) (W.device writer.old) (W.device writer.new) result }
+    ensures { Acts text_limits (report_action derive) (R.reader reader.old) (R.reader reader.new) (W.device writer.old) (W.device writer.new) result }
 {
-    match read_text(alloc, reader) {
-        Input::Text(text) => tell_report(alloc, writer, derive, text.as_slice(), findings),
+    match read_text(alloc, text_limits, reader) {
+        Input::Text(text) => tell_report(
+            alloc,
+            text_limits,
+            writer,
+            derive,
+            text.as_slice(),
+            findings,
+        ),
         Input::Memory => tell(writer, MEMORY_LINE, MEMORY),
         Input::Failed => FAULT,
     }
@@ -305,6 +336,7 @@ fn report_read<R: TextIn, W: TextOut>(
 fn report_run<T: Threads, R: TextIn, W: TextOut, H: Watch>(
     rt: &T,
     alloc: Global,
+    text_limits: TextLimits,
     net: bool,
     limits: Limits,
     reader: &mut R,
@@ -314,12 +346,13 @@ fn report_run<T: Threads, R: TextIn, W: TextOut, H: Watch>(
 ) -> Status
     requires reader { (R.reader reader.old).device.failures < 2 ^ 64 - 1 }
     requires writer { (W.device writer.old).failures < 2 ^ 64 - 1 }
-    ensures { Acts (run_action net limits) (R.reader reader.old) (R.reader reader.new) (W.device writer.old) (W.device writer.new) result }
+    ensures { Acts text_limits (run_action net limits) (R.reader reader.old) (R.reader reader.new) (W.device writer.old) (W.device writer.new) result }
 {
-    match read_text(alloc, reader) {
+    match read_text(alloc, text_limits, reader) {
         Input::Text(text) => tell_reply(
             rt,
             alloc,
+            text_limits,
             writer,
             net,
             limits,
@@ -332,11 +365,23 @@ fn report_run<T: Threads, R: TextIn, W: TextOut, H: Watch>(
     }
 }
 
+/// The limits of the text of a request.
+pub fn text_limits(request: &Request) -> TextLimits
+    ensures { result ≡ text_limits request.now.large }
+{
+    if request.large {
+        TextLimits::Large
+    } else {
+        TextLimits::Usual
+    }
+}
+
 /// As `act`, with a watch that sees the progress of a run, and findings that get what a check finds of a refused text. Neither changes the written
 /// bytes or the status.
 pub fn act_watched<T: Threads, R: TextIn, W: TextOut, H: Watch>(
     rt: &T,
     alloc: Global,
+    text_limits: TextLimits,
     action: &Action,
     reader: &mut R,
     writer: &mut W,
@@ -345,37 +390,55 @@ pub fn act_watched<T: Threads, R: TextIn, W: TextOut, H: Watch>(
 ) -> Status
     requires reader { (R.reader reader.old).device.failures < 2 ^ 64 - 1 }
     requires writer { (W.device writer.old).failures < 2 ^ 64 - 1 }
-    ensures { Acts action.now (R.reader reader.old) (R.reader reader.new) (W.device writer.old) (W.device writer.new) result }
+    ensures { Acts text_limits action.now (R.reader reader.old) (R.reader reader.new) (W.device writer.old) (W.device writer.new) result }
 {
     match action {
-        Action::Check => report_read(alloc, false, reader, writer, findings),
-        Action::Derive => report_read(alloc, true, reader, writer, findings),
+        Action::Check => report_read(alloc, text_limits, false, reader, writer, findings),
+        Action::Derive => report_read(alloc, text_limits, true, reader, writer, findings),
         Action::Run(limits) => report_run(
-            rt, alloc, true, *limits, reader, writer, watch, findings,
+            rt,
+            alloc,
+            text_limits,
+            true,
+            *limits,
+            reader,
+            writer,
+            watch,
+            findings,
         ),
         Action::Count(limits) => report_run(
-            rt, alloc, false, *limits, reader, writer, watch, findings,
+            rt,
+            alloc,
+            text_limits,
+            false,
+            *limits,
+            reader,
+            writer,
+            watch,
+            findings,
         ),
     }
 }
 
-/// Does the action that the words name: `check` and `derive` as `report` does. For `run` the lines on an accepted program are the net that the
-/// run reaches, the count of its interactions and its stop, or the line of a net that doesn't fit the cells; without its net the same lines
-/// except the net's. All else is as for `report`.
+/// Does the action that the words name on a text with these limits: `check` and `derive` as `report` does. For `run` the lines on an accepted
+/// program are the net that the run reaches, the count of its interactions and its stop, or the line of a net that doesn't fit the cells; without
+/// its net the same lines except the net's. All else is as for `report`.
 pub fn act<T: Threads + Wait, R: TextIn, W: TextOut>(
     rt: &T,
     alloc: Global,
+    text_limits: TextLimits,
     action: &Action,
     reader: &mut R,
     writer: &mut W,
 ) -> Status
     requires reader { (R.reader reader.old).device.failures < 2 ^ 64 - 1 }
     requires writer { (W.device writer.old).failures < 2 ^ 64 - 1 }
-    ensures { Acts action.now (R.reader reader.old) (R.reader reader.new) (W.device writer.old) (W.device writer.new) result }
+    ensures { Acts text_limits action.now (R.reader reader.old) (R.reader reader.new) (W.device writer.old) (W.device writer.new) result }
 {
     act_watched(
         rt,
         alloc,
+        text_limits,
         action,
         reader,
         writer,

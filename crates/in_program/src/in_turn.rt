@@ -12,7 +12,7 @@ use crate::acting::{
 use crate::runs::start_line;
 use in_check::{Checked, check};
 use in_run::{Limits, StartFault, run_in_turn};
-use in_syntax::TextOut;
+use in_syntax::{TextLimits, TextOut};
 use std::alloc::Global;
 
 /// Writes the reason why there is no start: a net that doesn't fit the cells, or running out of memory.
@@ -50,11 +50,17 @@ fn tell_run_in_turn<W: TextOut>(
 }
 
 /// Writes the output of `run` with one worker on a text in memory, and returns the status, as `act` does on a text that it reads. Starts no thread.
-pub fn run_text<W: TextOut>(alloc: Global, writer: &mut W, limits: Limits, text: &[u8]) -> Status
+pub fn run_text<W: TextOut>(
+    alloc: Global,
+    text_limits: TextLimits,
+    writer: &mut W,
+    limits: Limits,
+    text: &[u8],
+) -> Status
     requires { (W.device writer.old).failures < 2 ^ 64 - 1 }
-    ensures { TellsOne (IsReply (Run limits) text.now) (W.device writer.old) (W.device writer.new) result }
+    ensures { TellsOne (IsReply text_limits (Run limits) text.now) (W.device writer.old) (W.device writer.new) result }
 {
-    match check(alloc, text) {
+    match check(alloc, text_limits, text) {
         Ok(checked) => {
             let status = tell_run_in_turn(alloc, writer, &checked, limits);
             drop(checked);

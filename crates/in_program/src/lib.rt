@@ -16,7 +16,7 @@ mod runs;
 mod steps;
 mod streams;
 
-pub use acting::{Status, act, act_watched, report, report_text, tell, tell_usage};
+pub use acting::{Status, act, act_watched, report, report_text, tell, tell_usage, text_limits};
 pub use failures::{Device, shown, tell_failure};
 pub use in_run::{NoWatch, Progress, Watch};
 pub use in_turn::run_text;

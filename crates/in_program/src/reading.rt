@@ -1,7 +1,7 @@
 ghost use Rattle.std.specs.Prelude.{◌-◌, ◌^◌, ◌<◌};
 ghost use Rattle.in_program.specs.Devices.{IsInput};
 
-use in_syntax::{MAX_TEXT_BYTES, TextIn};
+use in_syntax::{TextIn, TextLimits};
 use std::alloc::Global;
 
 /// The result of reading.
@@ -15,15 +15,16 @@ pub enum Input {
     Memory,
 }
 
-/// Reads to the end, or until more bytes came than a text may have.
-pub fn read_text<R: TextIn>(alloc: Global, reader: &mut R) -> Input
+/// Reads to the end, or until more bytes came than a text with these limits may have.
+pub fn read_text<R: TextIn>(alloc: Global, limits: TextLimits, reader: &mut R) -> Input
     requires { (R.reader reader.old).device.failures < 2 ^ 64 - 1 }
-    ensures { IsInput (R.reader reader.old) (R.reader reader.new) result }
+    ensures { IsInput limits (R.reader reader.old) (R.reader reader.new) result }
 {
+    let most = limits.text_bytes();
     let mut text = Vec::new(alloc);
     let mut buffer = [0u8; 4096];
     // Each turn except the last brings at least one byte, so these are enough.
-    for _turn in 0..MAX_TEXT_BYTES + 1 {
+    for _turn in 0..most + 1 {
         match reader.read(&mut buffer) {
             Err(()) => return Input::Failed,
             Ok(0) => return Input::Text(text),
@@ -31,7 +32,7 @@ pub fn read_text<R: TextIn>(alloc: Global, reader: &mut R) -> Input
                 if text.extend_from_slice(&buffer[..n]).is_err() {
                     return Input::Memory;
                 }
-                if text.len() > MAX_TEXT_BYTES {
+                if text.len() > most {
                     return Input::Text(text);
                 }
             }

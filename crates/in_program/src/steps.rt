@@ -8,7 +8,8 @@ use in_check::{Checked, Item};
 use in_cover::RuleNo;
 use in_net::Rule;
 use in_open_nets::{Derivation, Node, OpenNet, Step};
-use in_symbols::{SymbolNo, Symbols};
+use in_symbols::Symbols;
+use in_syntax::SymbolNo;
 use std::alloc::{AllocError, Global};
 
 /// Adds the name of a symbol.

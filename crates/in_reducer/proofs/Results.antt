@@ -6,7 +6,7 @@ use Rattle.std.proofs.Math.Seq.{take-append_seam}
 use Rattle.in_base.proofs.Places.{kept_at}
 use Rattle.in_symbols.specs.Tables.{Tables}
 use Rattle.in_symbols.specs.declared.symbols.PortType.{PortType}
-use Rattle.in_symbols.specs.declared.symbols.SymbolNo.{SymbolNo}
+use Rattle.in_syntax.specs.declared.symbol_no.SymbolNo.{SymbolNo}
 use Rattle.in_net.specs.declared.nets.FreeEnd.{FreeEnd}
 use Rattle.in_net.specs.declared.nets.Point.TheVariants as code
 use Rattle.in_net.specs.ActivePairs.{IsActivePair}

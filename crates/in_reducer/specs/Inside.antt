@@ -5,7 +5,7 @@ use Rattle.in_arena.specs.Classes.{all_of}
 use Rattle.in_symbols.specs.declared.symbols.PortType.{PortType}
 use Rattle.in_net.specs.declared.nets.FreeEnd.{FreeEnd}
 use Rattle.in_net.specs.declared.nets.Point.TheVariants.{Free}
-use Rattle.in_net.specs.NetFaults.{max_member_agents}
+use Rattle.in_syntax.specs.TextLimits.{most_member_agents}
 use Rattle.in_check.specs.Programs.{Program}
 use Rattle.in_compile.specs.Templates.{TemplateParts}
 use Rattle.in_reducer.specs.declared.body.Body.{Body}
@@ -58,17 +58,17 @@ abbrev pub most_ends : ℕ
 most_ends = 32
 
 -- the most free ends
-abbrev pub most_free : ℕ
-most_free = 65536
+abbrev pub most_free_ends : ℕ
+most_free_ends = 65536
 
 -- the most points of a right member: one for each boundary end and each agent
 abbrev pub most_points : ℕ
-most_points = most_ends + max_member_agents
+most_points = most_ends + most_member_agents
 
--- the tools are of this arena, hold nothing, and have room for `max_member_agents` agents, `most_ends` pairs and all points
+-- the tools are of this arena, hold nothing, and have room for `most_member_agents` agents, `most_ends` pairs and all points
 pub record AreTools (x : Tools) (a : ArenaView) : Type 0 where
   pub placed : IsNoneOf x.placed.bag a
-  pub room : max_member_agents ≤ x.placed.room
+  pub room : most_member_agents ≤ x.placed.room
   pub made : x.made.items ≡ []
   pub made_room : most_ends ≤ vec_capacity x.made
   pub points : most_points ≤ length x.points.items
@@ -78,7 +78,7 @@ pub record KeepsNet (r : Body) : Type 0 where
   pub reducer : IsReducer (reducer_view r)
   pub net : IsNetIn r.checked.now.program.tables (at_rest r.arena)
   pub few : AreAllowed r.arena.cells
-  pub few_free : length r.free.items ≤ most_free
+  pub few_free : length r.free.items ≤ most_free_ends
   pub free : (k : ℕ) (e : OwnEnd) → slice_get r.free.items k ≡ Some e → IsOwnEnd r.checked.now.program e
   pub ends : length r.free.items + most_ends + most_ends ≤ length r.ends.items
   pub queue : all_of r.arena.cells + 2 * most_ends ≤ 2 * r.queue.room + 1

@@ -12,6 +12,7 @@ use Rattle.in_reducer.specs.Machines.{MachineParts, parts_of}
 use Rattle.in_reducer.specs.Reducers.{IsReducer}
 use Rattle.in_reducer.specs.Starts.{IsStart}
 use Rattle.in_reducer.specs.Steps.{StepsAt}
+use Rattle.in_syntax.specs.declared.text_limits.TextLimits.{TextLimits}
 
 -- the net that a reducer shows is as promised
 abbrev pub ReducersAsPromised : Type 0
@@ -24,4 +25,4 @@ StepsKeepReducers = (m o : MachineParts) (i : ℕ) → IsReducer m → StepsAt m
 
 -- a start of an accepted program is a reducer
 abbrev pub StartsAreReducers : Type 0
-StartsAreReducers = (text : List ℕ) (p : Program) (cells : CellCounts) (m : MachineParts) → IsAccepted text p → AreAllowed cells → IsStart p cells m → IsReducer m
+StartsAreReducers = (limits : TextLimits) (text : List ℕ) (p : Program) (cells : CellCounts) (m : MachineParts) → IsAccepted limits text p → AreAllowed cells → IsStart p cells m → IsReducer m

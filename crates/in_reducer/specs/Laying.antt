@@ -15,7 +15,7 @@ use Rattle.in_reducer.specs.Inside.{AreTools, most_ends}
 use Rattle.in_reducer.specs.Interacting.{named}
 use Rattle.in_compile.specs.Putting.{IsPut}
 use Rattle.in_reducer.specs.Sides.{inner_of, HasJoint}
-use Rattle.in_syntax.specs.Grammar.{max_free}
+use Rattle.in_syntax.specs.TextLimits.{most_free}
 
 -- that many free cells of each class and no other, tools of this arena, and an empty queue with room for all pairs and for those that an interaction makes
 pub record IsFresh (size : CellCounts) (f : Fresh) : Type 0 where
@@ -28,7 +28,7 @@ pub record IsFresh (size : CellCounts) (f : Fresh) : Type 0 where
 -- there is room for the member, which has no more boundary ends than a net has free ends; its joints and pairs are of its own agents
 pub record CanLay (m : MemberParts) (f : Fresh) : Type 0 where
   pub free : IsEnough (count_of m.need) (free_of f.arena)
-  pub few : length m.joints ≤ max_free
+  pub few : length m.joints ≤ most_free
   pub joints : (ns : List CellNo) → length ns ≡ length m.agents → (e : ℕ) (j : Joint) → slice_get m.joints e ≡ Some j → HasJoint ns j
   pub pairs : (ns : List CellNo) → length ns ≡ length m.agents → (k : ℕ) (q : ℕ × ℕ) → slice_get m.pairs k ≡ Some q → (q.0 < length ns) × (q.1 < length ns)
   pub queue : f.queue.items ≡ []

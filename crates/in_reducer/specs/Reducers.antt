@@ -6,10 +6,11 @@ use Rattle.in_check.specs.Checking.{IsAccepted}
 use Rattle.in_order.specs.Reducible.{IsReducible}
 use Rattle.in_reducer.specs.Limiting.{AreAllowed}
 use Rattle.in_reducer.specs.Machines.{MachineParts, HasCells, HasItsPairs, plain_of}
+use Rattle.in_syntax.specs.declared.text_limits.TextLimits.{TextLimits}
 
 -- its program is accepted, its net is sound, its queue has each active pair once, and each class has its number of cells
 pub record IsReducer (m : MachineParts) : Type 0 where
-  pub accepted : (text : List ℕ) × IsAccepted text m.program
+  pub accepted : (limits : TextLimits) × (text : List ℕ) × IsAccepted limits text m.program
   pub net : IsReducible (plain_of m)
   pub queue : HasItsPairs m
   pub cells : (cells : CellCounts) × AreAllowed cells × HasCells cells m

@@ -1,6 +1,6 @@
 -- Laws on the results of a reducer's calls: each has one.
 use Rattle.std.specs.Prelude.{◌≡◌, ◌⊎◌, ◌<◌, ◌≤◌, ℕ, []}
-use Rattle.in_symbols.specs.declared.symbols.SymbolNo.{SymbolNo}
+use Rattle.in_syntax.specs.declared.symbol_no.SymbolNo.{SymbolNo}
 use Rattle.in_compile.specs.declared.cells.Need.{Need}
 use Rattle.in_reducer.specs.Cutting.{CutsAt, JoinsLast}
 use Rattle.in_reducer.specs.Machines.{MachineParts}

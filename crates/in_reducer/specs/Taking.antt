@@ -1,7 +1,7 @@
 -- Symbols of pairs that are read ahead, and cells that are left free or are known to be free. Both are this project's own choice.
 use Rattle.std.specs.Prelude.{◌≡◌, ◌⊎◌, ◌+◌, ◌-◌, ◌≤◌, ◌<◌, ℕ, List, [], length, Some, slice_get}
 use Rattle.in_arena.specs.declared.content.CellClass.{CellClass}
-use Rattle.in_symbols.specs.declared.symbols.SymbolNo.{SymbolNo}
+use Rattle.in_syntax.specs.declared.symbol_no.SymbolNo.{SymbolNo}
 use Rattle.in_compile.specs.declared.cells.Need.{Need}
 use Rattle.in_compile.specs.Cells.{count_of}
 use Rattle.in_reducer.specs.Machines.{MachineParts}

@@ -14,7 +14,7 @@ use Rattle.in_symbols.specs.Tables.{Tables}
 use Rattle.in_net.specs.Built.{IsOver}
 use Rattle.in_net.specs.declared.nets.AgentNo.{AgentNo}
 use Rattle.in_net.specs.Interactions.{IsOfPair, IsRedex, redex_at}
-use Rattle.in_net.specs.NetFaults.{max_member_agents}
+use Rattle.in_syntax.specs.TextLimits.{most_member_agents}
 use Rattle.in_net.specs.Nets.{Point, Free, IsNet, net_of, signature_of}
 use Rattle.in_net.specs.Parts.{Parts}
 use Rattle.in_interaction.specs.Queues.{numbers_of}
@@ -55,7 +55,7 @@ pub record HasBegun (m : MemberParts) (ns : List CellNo) (old new : ArenaView) :
 pub record CanBegin (m : MemberParts) (a : ArenaView) (points : List End) : Type 0 where
   pub all : HasAllCells a
   pub free : IsEnough (count_of m.need) (free_of a)
-  pub few : length m.agents ≤ max_member_agents
+  pub few : length m.agents ≤ most_member_agents
   pub long : most_points ≤ length points
 
 -- the agents have these cells, and their points come after those of 32 boundary ends: the principal ports

@@ -1,6 +1,6 @@
 // The free ends of a net in which wires are cut.
 ghost use Rattle.std.specs.Prelude.{◌≡◌, ◌≤◌, ◌<◌, ◌+◌};
-ghost use Rattle.in_reducer.specs.Inside.{most_free};
+ghost use Rattle.in_reducer.specs.Inside.{most_free_ends};
 ghost use Rattle.in_reducer.specs.Parting.{place_of_two};
 
 /// The free ends of a net in which `count` wires are cut: the `own` ones before the cuts, and after them the first and the second end of each cut. A
@@ -9,7 +9,7 @@ ghost use Rattle.in_reducer.specs.Parting.{place_of_two};
 pub(crate) struct Cuts {
     pub(crate) own: u32,
     pub(crate) count: u32,
-    ghost few: { own + (count + count) ≤ most_free },
+    ghost few: { own + (count + count) ≤ most_free_ends },
 }
 
 impl Cuts {

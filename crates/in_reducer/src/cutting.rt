@@ -2,7 +2,7 @@
 ghost use Rattle.std.specs.Prelude.{◌≡◌, ◌≤◌, ◌+◌, length, OnErr, OnOk, vec_len, vec_capacity};
 ghost use Rattle.in_typing.specs.Typed.{opposite};
 ghost use Rattle.in_reducer.specs.Cutting.{CanCut, CutsAt};
-ghost use Rattle.in_reducer.specs.Inside.{most_free};
+ghost use Rattle.in_reducer.specs.Inside.{most_free_ends};
 
 use crate::body::OwnEnd;
 use crate::reducer::Reducer;
@@ -37,7 +37,7 @@ impl<'a> Reducer<'a> {
     /// and have no names, but fitting types. There are at most 65,536 free ends. Refused only when out of memory, and then the reducer is as it was.
     pub fn cut(&mut self, cell: CellNo, place: u8) -> Result<(), AllocError>
         requires can { CanCut self.old cell.0 place }
-        requires few { length self.old.free + 2 ≤ most_free }
+        requires few { length self.old.free + 2 ≤ most_free_ends }
         ensures cut { OnOk result (CutsAt self.old cell.0 place self.new) }
         ensures refused { OnErr result (self.new ≡ self.old) }
     {

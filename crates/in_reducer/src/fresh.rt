@@ -13,7 +13,7 @@ use crate::wiring::POINTS;
 use in_arena::{Arena, CellCounts, EndWord};
 use in_check::Checked;
 use in_compile::Placed;
-use in_net::MAX_MEMBER_AGENTS;
+use in_syntax::MOST_MEMBER_AGENTS;
 use std::alloc::{AllocError, Global};
 
 /// Cells without agents, the tools of interactions, and a queue with room for all pairs of agents in these cells and for those that an interaction
@@ -68,7 +68,7 @@ fn tools_of(alloc: Global, arena: &Arena) -> Result<Tools, AllocError>
     ensures { IfOk result (λ x. AreTools x arena.now) }
 {
     Ok(Tools {
-        placed: Placed::empty(alloc, arena, MAX_MEMBER_AGENTS as u32)?,
+        placed: Placed::empty(alloc, arena, MOST_MEMBER_AGENTS as u32)?,
         made: Vec::with_capacity(alloc, MOST_ENDS)?,
         points: vec![in alloc; EndWord::free(0); POINTS]?,
     })

@@ -12,7 +12,7 @@ use crate::reducer::Reducer;
 use in_arena::{CellClass, CellNo, End};
 use in_check::Checked;
 use in_compile::Need;
-use in_symbols::SymbolNo;
+use in_syntax::SymbolNo;
 
 impl<'a> Reducer<'a> {
     /// Its program.

@@ -1,7 +1,7 @@
 // Room for a part that comes back.
 ghost use Rattle.std.specs.Prelude.{◌≡◌, ◌≤◌, ◌*◌, ◌+◌, IfOk, length};
 ghost use Rattle.in_arena.specs.Classes.{classes};
-ghost use Rattle.in_reducer.specs.Inside.{most_ends, most_free};
+ghost use Rattle.in_reducer.specs.Inside.{most_ends, most_free_ends};
 ghost use Rattle.in_reducer.specs.Limiting.{most_cells};
 ghost use Rattle.in_reducer.specs.Reserved.{IsReserved};
 
@@ -21,7 +21,7 @@ pub struct Seam {
     pub(crate) agents: Vec<CellNo>,
     pub(crate) rest: Vec<u16>,
     pub(crate) part: Vec<u16>,
-    ghost few_free: { most ≤ most_free },
+    ghost few_free: { most ≤ most_free_ends },
     ghost few_cells: { cells ≤ most_cells },
     ghost free_room: { IsReserved most free },
     ghost ends_room: { IsReserved (most + most_ends + most_ends) ends },
@@ -33,7 +33,7 @@ pub struct Seam {
 impl Seam {
     /// Room for `most` free ends, at most 65,536, and a part with `cells` cells of each class. Refused only when out of memory.
     pub fn new(alloc: Global, most: u32, cells: u32) -> Result<Seam, AllocError>
-        requires few { most ≤ most_free }
+        requires few { most ≤ most_free_ends }
         requires cells { cells ≤ most_cells }
         ensures { IfOk result (λ s. (s.most ≡ most) × (s.cells ≡ cells)) }
     {

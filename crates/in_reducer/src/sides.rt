@@ -3,7 +3,7 @@ ghost use Rattle.std.specs.Prelude.{◌≡◌, ◌≢◌, ◌≤◌, ◌<◌, �
 ghost use Rattle.in_arena.specs.declared.content.End.TheVariants.{Cell};
 ghost use Rattle.in_compile.specs.declared.joints.Joint.{Joint as Target};
 ghost use Rattle.in_compile.specs.Members.{IsAtPort};
-ghost use Rattle.in_reducer.specs.Inside.{most_ends, most_free};
+ghost use Rattle.in_reducer.specs.Inside.{most_ends, most_free_ends};
 ghost use Rattle.in_reducer.specs.Sides.{port_at, end_there, outer_of, inner_of, AreSetBelow, HasPort, HasJoint};
 
 use in_arena::{Arena, CellNo, End, EndWord};
@@ -25,7 +25,7 @@ pub(crate) struct PlacedPair<'b> {
     pub(crate) template: &'b Template,
     pub(crate) placed: &'b Placed,
     pub(crate) own: u32,
-    ghost few_own: { own ≤ most_free },
+    ghost few_own: { own ≤ most_free_ends },
     ghost few_ends: { length template.now.member.joints ≤ most_ends },
 }
 

@@ -62,7 +62,7 @@ fn lay(alloc: Global, start: &Member, fresh: &mut Fresh) -> Result<Vec<EndWord>,
     let mut ends = vec![in alloc; EndWord::free(0); own + 2 * MOST_ENDS]?;
     let placed = place_start(alloc, start, &mut fresh.arena)?;
     for number in 0..own {
-        ends[number] = inner(&placed, 0, start.joint(number as u8));
+        ends[number] = inner(&placed, 0, start.joint(number as u16));
     }
     queue_own(start, &placed, &mut fresh.queue);
     Ok(ends)

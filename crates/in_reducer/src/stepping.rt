@@ -19,7 +19,7 @@ use crate::wiring::{queue_begun, wire_anew, wire_up};
 use in_arena::CellNo;
 use in_base::use_promise;
 use in_compile::{Need, Template, Templates};
-use in_symbols::SymbolNo;
+use in_syntax::SymbolNo;
 
 impl<'a> Body<'a> {
     /// The symbol of an agent.

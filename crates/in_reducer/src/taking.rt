@@ -1,7 +1,7 @@
 // Interactions of the first pairs, or of the last ones, one after another.
 ghost use Rattle.std.specs.Prelude.{◌≡◌, ◌⊎◌, ◌↔◌, ◌≤◌, ◌<◌, ◌+◌, ◌-◌, ◌*◌, ℕ, IsTrue, true, false, [], length, Some, IsSome, slice_get};
 ghost use Rattle.in_arena.specs.declared.content.CellClass.{CellClass};
-ghost use Rattle.in_symbols.specs.declared.symbols.SymbolNo.{SymbolNo as Symbol};
+ghost use Rattle.in_syntax.specs.declared.symbol_no.SymbolNo.{SymbolNo as Symbol};
 ghost use Rattle.in_compile.specs.Cells.{count_of};
 ghost use Rattle.in_compile.specs.Templates.{AreTemplatesOf};
 ghost use Rattle.in_reducer.specs.Parting.{ReducesTo};
@@ -14,7 +14,7 @@ use crate::reducer::Reducer;
 use in_arena::CellClass;
 use in_base::use_promise;
 use in_compile::{Need, Template, Templates};
-use in_symbols::SymbolNo;
+use in_syntax::SymbolNo;
 
 /// The number of pairs whose symbols are read together, so that their cells are fetched at once: more than eight gain nothing. This project's own
 /// choice.

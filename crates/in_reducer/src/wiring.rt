@@ -22,10 +22,10 @@ use in_arena::{Arena, CellClass, CellNo, EndWord, PlaceStep};
 use in_base::use_promise;
 use in_cells::exchange_in;
 use in_compile::{Member, Template};
-use in_net::MAX_MEMBER_AGENTS;
+use in_syntax::MOST_MEMBER_AGENTS;
 
 /// The most points of a right member: one for each boundary end and each agent.
-pub(crate) const POINTS: usize = MOST_ENDS + MAX_MEMBER_AGENTS;
+pub(crate) const POINTS: usize = MOST_ENDS + MOST_MEMBER_AGENTS;
 
 /// Begins a cell for each agent from this one on. The cell's principal port is the agent's point.
 fn begin_from(member: &Member, from: u32, arena: &mut Arena, points: &mut [EndWord])
@@ -122,7 +122,7 @@ fn read_ports(arena: &Arena, pair: Pair, many: u8, points: &mut [EndWord])
 
 /// The side of a wire at this point and place.
 #[inline(always)]
-fn side(points: &[EndWord], slot: u8, step: PlaceStep) -> EndWord
+fn side(points: &[EndWord], slot: u16, step: PlaceStep) -> EndWord
     requires { (x : End) × (y : End) × (slice_get points.now slot ≡ Some x) × IsAtPlace x step y }
     ensures { (x y : End) → slice_get points.now slot ≡ Some x → IsAtPlace x step y → result ≡ y }
 {

@@ -14,4 +14,4 @@ unmarked_pairs_of_sound_nets_are_apart p n x system sound active one two =
 
 pub unmarked_lead_none_back : UnmarkedLeadNoneBack
 unmarked_lead_none_back m a b k r h at is_rule one two =
-    unmarked_pairs_of_sound_nets_are_apart (system_of m.program) (net_of (parts_of m)) (redex_at r a.0 b.0) (is_sound h.accepted.0 m.program h.accepted.1) h.net.sound (redex m h a b at k r is_rule) one two
+    unmarked_pairs_of_sound_nets_are_apart (system_of m.program) (net_of (parts_of m)) (redex_at r a.0 b.0) (is_sound h.accepted.0 h.accepted.1 m.program h.accepted.2) h.net.sound (redex m h a b at k r is_rule) one two

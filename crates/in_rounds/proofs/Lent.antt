@@ -14,7 +14,7 @@ use Rattle.in_compile.specs.Placing.{PlacedParts}
 use Rattle.in_compile.specs.Stocks.{StockParts, AddsTo, HasRoom, IsStockOf, empty_stock}
 use Rattle.in_compile.proofs.Public.{count_all, cells_all, memory_all, none_in_empty}
 use Rattle.in_claims.specs.Seats.{BoardView}
-use Rattle.in_net.specs.NetFaults.{max_member_agents}
+use Rattle.in_compile.specs.Templates.{AreMostAgents, TemplateParts}
 use Rattle.in_rounds.specs.Holding.{holders}
 use Rattle.in_rounds.proofs.Filling.{Change, Changes, change}
 use Rattle.in_rounds.proofs.Filling.Change.{Lends, Stays}
@@ -40,8 +40,8 @@ pub empty_has_room : (a : ArenaView) (share : Need) → HasRoom (empty_stock a s
 empty_has_room a share c = let none = (empty_is_of a).2 c in omega (arith, none)
 
 -- a room for a template that is made of this arena is one of a stock of the same arena
-pub empty_room : (s : StockParts) (a : ArenaView) (p : PlacedParts) (room : ℕ) → (s.bag.memory ≡ a.memory) × (s.bag.cells ≡ a.cells) → max_member_agents ≤ room → p ≡ record { cells = []; bag = empty_bag a; room = room } → IsEmptyRoom s p
-empty_room s a p room same large is = subst (IsEmptyRoom s) (sym is) (record { one = (sym same.0, sym same.1); none = none_in_empty a; room = large })
+pub empty_room : (ts : List TemplateParts) (s : StockParts) (a : ArenaView) (p : PlacedParts) (room : ℕ) → (s.bag.memory ≡ a.memory) × (s.bag.cells ≡ a.cells) → AreMostAgents ts room → p ≡ record { cells = []; bag = empty_bag a; room = room } → IsEmptyRoom ts s p
+empty_room ts s a p room same most is = subst (IsEmptyRoom ts s) (sym is) (record { one = (sym same.0, sym same.1); none = none_in_empty a; room = (room, most, omega arith) })
 
 no_more : (k : ℕ) → (0 < k → ⊥) → k ≡ 0
 no_more zero never = refl
@@ -95,8 +95,8 @@ module _ (bs : List ArenaView) (share : Need) (a a' a'' : ArenaView) (s : StockP
 
 -- ---- one more hand
 
-pub rooms_of : (s s' : StockParts) (rooms : List PlacedParts) → AreOfOne s.bag s'.bag → All (IsEmptyRoom s) rooms → All (IsEmptyRoom s') rooms
-rooms_of s s' rooms one all = All-weaker (IsEmptyRoom s) (IsEmptyRoom s') (λ p is. record { one = (is.one.0 ∙ sym one.0, is.one.1 ∙ sym one.1); none = is.none; room = is.room }) rooms all
+pub rooms_of : (ts : List TemplateParts) (s s' : StockParts) (rooms : List PlacedParts) → AreOfOne s.bag s'.bag → All (IsEmptyRoom ts s) rooms → All (IsEmptyRoom ts s') rooms
+rooms_of ts s s' rooms one all = All-weaker (IsEmptyRoom ts s) (IsEmptyRoom ts s') (λ p is. record { one = (is.one.0 ∙ sym one.0, is.one.1 ∙ sym one.1); none = is.none; room = is.room }) rooms all
 
 -- a fresh hand that has got its share
 module _ (plan : PlanParts) (board : BoardView) (share : Need) (ps : List Hand) (a a' a'' : ArenaView) (p : Hand) (s : StockParts) (all : HasAllCells a) (lent : AreLentOut (in_hands ps) a a') (is : IsFreshHand plan board a share p) (added : AddsTo share a' p.stock a'' s) where
@@ -121,7 +121,7 @@ module _ (plan : PlanParts) (board : BoardView) (share : Need) (ps : List Hand) 
   is_ready = record {
     of_board = is.ready.of_board;
     limit = is.ready.limit;
-    rooms = rooms_of p.stock s p.rooms.items
+    rooms = rooms_of plan.templates.templates p.stock s p.rooms.items
         (ap (λ v. v.memory) added.0.bag ∙ memory_all p.stock.bag added.0.cells Vacant, ap (λ v. v.cells) added.0.bag ∙ cells_all p.stock.bag added.0.cells Vacant) is.ready.rooms;
     list = is.ready.list;
   }

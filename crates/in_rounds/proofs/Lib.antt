@@ -6,7 +6,6 @@ pub mod Keeping
 pub mod Lent
 pub mod OneAnswer
 pub mod Placing
-pub mod Planned
 pub mod Public
 pub mod Rounded
 pub mod SameRound

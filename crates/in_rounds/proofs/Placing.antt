@@ -1,5 +1,5 @@
 -- A member placed from a stock, and the rest of the stock.
-use Rattle.std.proofs.Common.{◌≡◌, ◌+◌, ℕ, cond, [], ◌∷◌, Some, slice_get, ap, ◌∙◌, subst, arith}
+use Rattle.std.proofs.Common.{◌≡◌, ◌≤◌, ◌+◌, ℕ, length, cond, [], ◌∷◌, Some, slice_get, ap, ◌∙◌, subst, arith}
 use Rattle.std.proofs.lemmas.Option.{option_and_then_some}
 use Rattle.in_base.proofs.Each.{all_at}
 use Rattle.in_arena.specs.Arenas.{ArenaView, state_at}
@@ -13,7 +13,7 @@ use Rattle.in_compile.specs.declared.cells.Need.{Need}
 use Rattle.in_compile.specs.Cells.{count_of, IsEnough}
 use Rattle.in_compile.specs.Placing.{PlacedParts, AreCellsOf, TakesCells}
 use Rattle.in_compile.specs.Stocks.{StockParts, held}
-use Rattle.in_compile.specs.Templates.{TemplateParts, TemplatesParts, IsLargestNeed, template_at}
+use Rattle.in_compile.specs.Templates.{TemplateParts, TemplatesParts, AreMostAgents, IsLargestNeed, template_at}
 use Rattle.in_compile.proofs.Public.{as_left, one_of_all, cells_all, memory_all}
 use Rattle.in_rounds.specs.Holding.{holders, is_own}
 use Rattle.in_rounds.proofs.Holding.{InOrOut, in_or_out, in_one, out_of_one}
@@ -51,6 +51,10 @@ one_of_one a b c ab bc = (bc.0 ∙ ab.0, bc.1 ∙ ab.1)
 -- a template that is found is one of the templates
 pub template_in : (ts : TemplatesParts) (c d : ℕ) (t : TemplateParts) → template_at ts c d ≡ Some t → (k : ℕ) × (slice_get ts.templates k ≡ Some t)
 template_in ts c d t e = option_and_then_some (λ (k : RuleNo). slice_get ts.templates k.0) (rule_at ts.numbers c d) t e (λ k is at. (k.0, at))
+
+-- .. and has no more agents than any of them
+pub at_most : (ts : TemplatesParts) (most : ℕ) (c d : ℕ) (t : TemplateParts) → AreMostAgents ts.templates most → template_at ts c d ≡ Some t → length t.member.agents ≤ most
+at_most ts most c d t are at = let k = template_in ts c d t at in are.0 k.0 t k.1
 
 -- the stock holds the need of any template
 pub holds_any : (ts : TemplatesParts) (largest : Need) (s : StockParts) (c d : ℕ) (t : TemplateParts) → IsLargestNeed ts.templates largest → IsEnough (count_of largest) (held s) → template_at ts c d ≡ Some t → IsEnough (count_of t.member.need) (held s)

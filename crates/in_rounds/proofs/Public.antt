@@ -9,4 +9,3 @@ pub use Rattle.in_rounds.proofs.Holding.{same_have_all}
 pub use Rattle.in_rounds.proofs.Keeping.{put_all, put_holders, take_all, take_holders, taken_have_all}
 pub use Rattle.in_rounds.proofs.Placing.{holds_any, one_of_one, placed_count, stays_of_one, template_in}
 pub use Rattle.in_rounds.proofs.Gathered.{lent_have_all}
-pub use Rattle.in_rounds.proofs.Planned.{is_plan, templates_are_small}

@@ -1,6 +1,6 @@
 -- The result of a job: the placed template for its pair's symbols.
 use Rattle.std.specs.Prelude.{◌≡◌, ℕ, Some}
-use Rattle.in_symbols.specs.declared.symbols.SymbolNo.{SymbolNo}
+use Rattle.in_syntax.specs.declared.symbol_no.SymbolNo.{SymbolNo}
 use Rattle.in_compile.specs.PlacedTemplates.{PlacedTemplateParts, IsOfTemplate}
 use Rattle.in_compile.specs.Templates.{TemplatesParts, template_at}
 

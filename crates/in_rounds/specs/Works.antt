@@ -3,12 +3,11 @@ use Rattle.std.specs.Prelude.{◌≡◌, ◌≤◌, ◌+◌, ◌⊎◌, true, �
 use Rattle.in_arena.specs.Arenas.{ArenaView}
 use Rattle.in_arena.specs.Bags.{AreOfOne}
 use Rattle.in_claims.specs.Seats.{BoardView}
-use Rattle.in_net.specs.NetFaults.{max_member_agents}
 use Rattle.in_compile.specs.declared.cells.Need.{Need}
 use Rattle.in_compile.specs.Cells.{count_of, IsEnough}
 use Rattle.in_compile.specs.Placing.{PlacedParts, HasNoCell}
 use Rattle.in_compile.specs.Stocks.{StockParts, held}
-use Rattle.in_compile.specs.Templates.{IsLargestNeed}
+use Rattle.in_compile.specs.Templates.{AreMostAgents, IsLargestNeed, TemplateParts}
 use Rattle.in_rounds.specs.Dones.{DoneParts}
 use Rattle.in_rounds.specs.Holding.{holders}
 use Rattle.in_rounds.specs.Plans.{PlanParts}
@@ -26,17 +25,17 @@ bags ds = map (λ d. d.placed.placed.bag) ds
 abbrev pub jobs : List DoneParts → List ℕ
 jobs ds = map (λ d. d.job) ds
 
--- room for a template, of the stock's arena
-pub record IsEmptyRoom (s : StockParts) (p : PlacedParts) : Type 0 where
+-- room for any of these templates, of the stock's arena
+pub record IsEmptyRoom (templates : List TemplateParts) (s : StockParts) (p : PlacedParts) : Type 0 where
   pub one : AreOfOne s.bag p.bag
   pub none : HasNoCell p.bag
-  pub room : max_member_agents ≤ p.room
+  pub room : (most : ℕ) × AreMostAgents templates most × (most ≤ p.room)
 
 -- a seat of this board, which hands out the numbers of the jobs, and room in the list for as many jobs as there are empty rooms
 pub record IsReady (plan : PlanParts) (board : BoardView) (p : Hand) : Type 0 where
   pub of_board : p.seat.board ≡ board
   pub limit : board.limit ≤ length plan.jobs
-  pub rooms : All (IsEmptyRoom p.stock) p.rooms.items
+  pub rooms : All (IsEmptyRoom plan.templates.templates p.stock) p.rooms.items
   pub list : vec_len p.done + vec_len p.rooms ≤ vec_capacity p.done
 
 -- its seat is done, or its stock doesn't hold the most that a job can need, or there is no more room

@@ -11,7 +11,7 @@ ghost use Rattle.in_rounds.specs.Dones.{IsItsTemplate};
 use in_arena::Arena;
 use in_base::{use_invariant, use_promise};
 use in_compile::{Placed, PlacedTemplate, Stock, Templates, place};
-use in_symbols::SymbolNo;
+use in_syntax::SymbolNo;
 use std::marker::Model;
 
 /// The template of a job's active pair, placed in leased cells. It names the job and the symbols of its pair, the constructor first, and its

@@ -7,7 +7,7 @@ ghost use Rattle.in_rounds.specs.Holding.{AreBagsOf, Returns};
 
 use crate::done::Done;
 use in_arena::Arena;
-use in_symbols::SymbolNo;
+use in_syntax::SymbolNo;
 use std::alloc::{AllocError, Global};
 use std::marker::Model;
 use std::mem;

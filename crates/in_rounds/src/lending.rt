@@ -13,23 +13,24 @@ use in_arena::Arena;
 use in_base::use_promise;
 use in_claims::{Board, Seat};
 use in_compile::{Need, Placed, Stock};
-use in_net::MAX_MEMBER_AGENTS;
 use std::alloc::{AllocError, Global};
 
-/// Rooms for `count` templates.
+/// Rooms for `count` templates, each as large as the one with the most agents needs.
 fn rooms_for(
     alloc: Global,
+    plan: &Plan,
     arena: &Arena,
     stock: &Stock,
     count: u32,
 ) -> Result<Vec<Placed>, AllocError>
     requires { (stock.now.bag.memory ≡ arena.now.memory) × (stock.now.bag.cells ≡ arena.now.cells) }
-    ensures each { IfOk result (λ v. All (IsEmptyRoom stock.now) v.items) }
+    ensures each { IfOk result (λ v. All (IsEmptyRoom plan.now.templates.templates stock.now) v.items) }
     ensures count { IfOk result (λ v. vec_len v ≡ count) }
 {
     let mut rooms = Vec::with_capacity(alloc, count as usize)?;
+    let agents = plan.templates.most_agents();
     for _made in 0..count {
-        rooms.push_reserved(Placed::empty(alloc, arena, MAX_MEMBER_AGENTS as u32)?);
+        rooms.push_reserved(Placed::empty(alloc, arena, agents)?);
     }
     Ok(rooms)
 }
@@ -50,7 +51,7 @@ fn hand<'t>(
 {
     let stock = Stock::empty(alloc, arena, share)?;
     let done = Vec::with_capacity(alloc, rooms as usize)?;
-    let rooms = rooms_for(alloc, arena, &stock, rooms)?;
+    let rooms = rooms_for(alloc, plan, arena, &stock, rooms)?;
     Ok(Hand {
         seat,
         stock,

@@ -3,7 +3,7 @@ ghost use Rattle.std.specs.Prelude.{◌≡◌};
 ghost use Rattle.in_rounds.specs.Plans.{IsPlan};
 
 use in_compile::Templates;
-use in_symbols::SymbolNo;
+use in_syntax::SymbolNo;
 use std::marker::Model;
 
 /// The jobs of a round, each by the two symbols of its active pair, the constructor first; and the templates, one for each job among them.
@@ -24,7 +24,7 @@ impl<'t> Model for Plan<'t> {
 }
 
 impl<'t> Plan<'t> {
-    /// A plan of these jobs. There must be a template for each, and none may have more agents than a right member may.
+    /// A plan of these jobs. There must be a template for each.
     pub fn new(templates: &'t Templates, jobs: &'t [(SymbolNo, SymbolNo)]) -> Plan<'t>
         requires { IsPlan (record { templates = templates.now; jobs = jobs.now }) }
         ensures { result ≡ record { templates = templates.now; jobs = jobs.now } }

@@ -15,7 +15,7 @@ use crate::stitching::{give_back, stitch_all};
 use in_claims::Gate;
 use in_compile::Templates;
 use in_reducer::{Body, Reducer};
-use in_symbols::SymbolNo;
+use in_syntax::SymbolNo;
 use std::alloc::{AllocError, Global};
 use std::sync::Wait;
 use std::thread::Threads;

@@ -14,6 +14,7 @@ use Rattle.in_run.specs.Laws.{OutcomesStopAlike, TurnsAreOne}
 use Rattle.in_run.specs.Stops.{IsStop}
 use Rattle.in_run.proofs.SameOutcome.{same_outcome, same_stop, stop_moved}
 use Rattle.in_machine.proofs.Public.{same_start, start_machine}
+use Rattle.in_syntax.specs.declared.text_limits.TextLimits.{TextLimits}
 
 module _ (p : Program) (l : Limits) (o : Outcome) (h : RunsTo p l (Ok o)) where
   pub ended_reached : IsReachedBy (plain_of o.machine) o.interactions
@@ -23,13 +24,13 @@ module _ (p : Program) (l : Limits) (o : Outcome) (h : RunsTo p l (Ok o)) where
   ended_machine = h.0.0.machine
 
 pub turns_alike : TurnsAreOne
-turns_alike text p l o u accepted x y =
-    same_outcome x.0 y.0 (start_machine text p accepted l.cells x.0 x.1 l.most) (start_machine text p accepted l.cells y.0 y.1 l.most) (same_start text p accepted l.cells x.0 y.0 x.1 y.1)
+turns_alike limits text p l o u accepted x y =
+    same_outcome x.0 y.0 (start_machine limits text p accepted l.cells x.0 x.1 l.most) (start_machine limits text p accepted l.cells y.0 y.1 l.most) (same_start limits text p accepted l.cells x.0 y.0 x.1 y.1)
     l.limit o.machine u.machine o.interactions u.interactions o.stop u.stop x.2 y.2
 
-pub ended_alike : (text : List ℕ) (p : Program) → IsAccepted text p → (l : Limits) → l.workers ≡ 1 → (o u : Outcome) → RunsTo p l (Ok o) → RunsTo p l (Ok u)
+pub ended_alike : (limits : TextLimits) (text : List ℕ) (p : Program) → IsAccepted limits text p → (l : Limits) → l.workers ≡ 1 → (o u : Outcome) → RunsTo p l (Ok o) → RunsTo p l (Ok u)
     → AreSame o.machine u.machine × (o.interactions ≡ u.interactions) × (o.stop ≡ u.stop)
-ended_alike text p accepted l one o u h g = turns_alike text p l o u accepted (h.1 one) (g.1 one)
+ended_alike limits text p accepted l one o u h g = turns_alike limits text p l o u accepted (h.1 one) (g.1 one)
 
 pub ended_so : OutcomesStopAlike
 ended_so p l o u h g (f, same) as_many =

@@ -21,7 +21,7 @@ reached_once : (p : Program) (cells : CellCounts) (k : ℕ) (m : MachineParts) �
 reached_once p cells k m h none = subst (λ (z : Program). EndsOnce z k (text_of m)) h.program (normal_ends_are_one m k h.machine h.reached none)
 
 pub normal_outcomes_are_one : NormalOutcomesAreOne
-normal_outcomes_are_one input p l o accepted runs normal =
+normal_outcomes_are_one limits input p l o accepted runs normal =
     reached_once p l.cells o.interactions o.machine runs.0.0 (no_pair l.limit o.machine o.interactions o.stop runs.0.2 normal)
 
 -- a run that is under way and stops normally is at the end

@@ -26,6 +26,7 @@ use Rattle.in_machine.specs.Taking.{TakesNoFirst}
 use Rattle.in_reducer.specs.Same.{RunsUpToNumbers}
 use Rattle.in_reducer.proofs.Public.{counted_same, joined, run_before, start_same_as}
 use Rattle.in_machine.proofs.Public.{as_reducer, machine_on, machine_same, reached_same, room_moved, start_machine, start_reached}
+use Rattle.in_syntax.specs.declared.text_limits.TextLimits.{TextLimits}
 
 -- k interactions of a program's run within these limits
 pub record IsStateOfRun (p : Program) (l : Limits) (k : ℕ) (m : MachineParts) : Type 0 where
@@ -91,14 +92,14 @@ reaches_on p cells j k m n h run = record {
 }
 
 -- a start is reached by none
-module _ (text : List ℕ) (p : Program) (l : Limits) (accepted : IsAccepted text p) (m : MachineParts) (h : IsStart p l.cells m) where
+module _ (limits : TextLimits) (text : List ℕ) (p : Program) (l : Limits) (accepted : IsAccepted limits text p) (m : MachineParts) (h : IsStart p l.cells m) where
   at_first : ReachesWith p l.cells 0 m
   at_first = record {
     start = (m, h);
-    machine = start_machine text p accepted l.cells m h l.most;
+    machine = start_machine limits text p accepted l.cells m h l.most;
     program = h.program;
     counted = h.counted;
-    reached = start_reached text p accepted l.cells m h;
+    reached = start_reached limits text p accepted l.cells m h;
   }
 
   pub begins : IsStateOfRun p l 0 m
@@ -108,16 +109,16 @@ module _ (text : List ℕ) (p : Program) (l : Limits) (accepted : IsAccepted tex
   reaches_in_turn k n run = subst (λ j. ReachesWith p l.cells j n) (let z : k + 0 ≡ k = omega arith in z) (reaches_on p l.cells 0 k m n at_first (runs_anyhow m n k run))
 
 pub turns_are_allowed : TurnsAreAllowed
-turns_are_allowed text p l (Ok o) accepted h = ((reaches_in_turn text p l accepted h.0 h.1 o.interactions o.machine h.2.run, h.2.within, h.2.stop), λ _. h, inl h)
-turns_are_allowed text p l (Err (Start f)) accepted h = (h, λ _. h, inl h)
-turns_are_allowed text p l (Err (Memory m k)) accepted h = absurd h
+turns_are_allowed limits text p l (Ok o) accepted h = ((reaches_in_turn limits text p l accepted h.0 h.1 o.interactions o.machine h.2.run, h.2.within, h.2.stop), λ _. h, inl h)
+turns_are_allowed limits text p l (Err (Start f)) accepted h = (h, λ _. h, inl h)
+turns_are_allowed limits text p l (Err (Memory m k)) accepted h = absurd h
 
 -- ---- further on
 
 -- a run in turn from a start, and then one up to numbers, is a run from a start
-turn_further : (text : List ℕ) (p : Program) (l : Limits) (j k : ℕ) (start m n : MachineParts) → IsAccepted text p → IsStart p l.cells start → Runs start k m → RunsUpToNumbers m j n → (other : MachineParts) × IsStart p l.cells other × Runs other (j + k) n
-turn_further text p l j k start m n accepted is run (s, same, more) =
-    let r = run_before start m s k (as_reducer start (start_machine text p accepted l.cells start is l.most)) run same in
+turn_further : (limits : TextLimits) (text : List ℕ) (p : Program) (l : Limits) (j k : ℕ) (start m n : MachineParts) → IsAccepted limits text p → IsStart p l.cells start → Runs start k m → RunsUpToNumbers m j n → (other : MachineParts) × IsStart p l.cells other × Runs other (j + k) n
+turn_further limits text p l j k start m n accepted is run (s, same, more) =
+    let r = run_before start m s k (as_reducer start (start_machine limits text p accepted l.cells start is l.most)) run same in
     (r.0, start_same_as p l.cells start r.0 is r.1, joined r.0 s n k j r.2 more)
 
 -- if an interaction is possible, some are done
@@ -136,7 +137,7 @@ module _ (p : Program) (l : Limits) (k : ℕ) (m : MachineParts) (h : IsStateOfR
     in_turn = λ one. (
         let accepted = h.reaches.machine.accepted in
         let from = h.in_turn one in
-        turn_further accepted.0 p l j k from.0 m n (subst (λ (z : Program). IsAccepted accepted.0 z) h.reaches.program accepted.1) from.1 from.2 (turn one)
+        turn_further accepted.0 accepted.1 p l j k from.0 m n (subst (λ (z : Program). IsAccepted accepted.0 accepted.1 z) h.reaches.program accepted.2) from.1 from.2 (turn one)
         );
     within = fits;
   }
@@ -186,7 +187,7 @@ pub ends_in_turn : (p : Program) (l : Limits) (k : ℕ) (m : MachineParts) → I
 ends_in_turn p l k m h s stop = (h.start, h.starts, record { run = h.run; within = h.within; stop = stop })
 
 -- some more interactions, if one is possible
-pub takes_in_turn : (text : List ℕ) (p : Program) (l : Limits) (j k : ℕ) (m n : MachineParts) → IsAccepted text p → IsInTurn p l k m → RunsUpToNumbers m j n → j + k ≤ l.limit → IsInTurn p l (k + j) n
-takes_in_turn text p l j k m n accepted h turn fits =
-    let r = turn_further text p l j k h.start m n accepted h.starts h.run turn in
+pub takes_in_turn : (limits : TextLimits) (text : List ℕ) (p : Program) (l : Limits) (j k : ℕ) (m n : MachineParts) → IsAccepted limits text p → IsInTurn p l k m → RunsUpToNumbers m j n → j + k ≤ l.limit → IsInTurn p l (k + j) n
+takes_in_turn limits text p l j k m n accepted h turn fits =
+    let r = turn_further limits text p l j k h.start m n accepted h.starts h.run turn in
     record { start = r.0; starts = r.1; run = subst (λ i. Runs r.0 i n) (let z : j + k ≡ k + j = omega arith in z) r.2; within = omega (arith, fits) }

@@ -1,45 +1,26 @@
 -- Nodes that are listed in rising order.
-use Rattle.std.proofs.Common.{◌≡◌, ◌⊎◌, ◌↔◌, ◌<◌, ◌≤◌, ◌+◌, ℕ, suc, Bool, List, [], ◌∷◌, ◌++◌, refl, sym, subst, inl, inr, arith}
+use Rattle.std.proofs.Common.{◌↔◌, ◌<◌, ◌+◌, ℕ, Bool, List, [], ◌∷◌, ◌++◌, sym, subst, inl, inr, arith}
 use Rattle.in_open_nets.specs.Constructions.{IsIn}
 use Rattle.in_open_nets.specs.Stuck.{Among, IsListed, RisesThrough}
-use Rattle.in_open_nets.proofs.Public.{same_nat}
+use Rattle.in_open_nets.proofs.Public.{among_cases, among_last, among_left, rises_more, same_nat}
 
 -- those of the set that are below b
 pub record ListsBelow (s : ℕ → Bool) (b : ℕ) (ns : List ℕ) : Type 0 where
   pub rises : RisesThrough 0 ns
   pub all : (n : ℕ) → ((n < b) × IsIn n s) ↔ Among n ns
 
-rises_on : (low : ℕ) (ns : List ℕ) (k : ℕ) → RisesThrough low ns → ((n : ℕ) → Among n ns → n < k) → low ≤ k → RisesThrough low (ns ++ k ∷ [])
-rises_on low [] k r f le = (le, tt)
-rises_on low (n ∷ ns) k r f le = (r.0, rises_on (suc n) ns k r.1 (λ m a. f m (inr a)) (f n (inl refl)))
-
-left_among : (ns : List ℕ) (n k : ℕ) → Among n ns → Among n (ns ++ k ∷ [])
-left_among [] n k h = absurd h
-left_among (m ∷ ns) n k (inl e) = inl e
-left_among (m ∷ ns) n k (inr a) = inr (left_among ns n k a)
-
-last_among : (ns : List ℕ) (k : ℕ) → Among k (ns ++ k ∷ [])
-last_among [] k = inl refl
-last_among (m ∷ ns) k = inr (last_among ns k)
-
-among_or : (ns : List ℕ) (n k : ℕ) → Among n (ns ++ k ∷ []) → Among n ns ⊎ (n ≡ k)
-among_or [] n k (inl e) = inr e
-among_or [] n k (inr a) = absurd a
-among_or (m ∷ ns) n k (inl e) = inl (inl e)
-among_or (m ∷ ns) n k (inr a) = elim (among_or ns n k a) [ inl b ↦ inl (inr b) | inr e ↦ inr e ]
-
 pub lists_none : (s : ℕ → Bool) → ListsBelow s 0 []
 lists_none s = record { rises = tt; all = λ n. ((λ h. let l = h.0 in absurd (omega arith)), λ h. absurd h) }
 
 pub lists_more : (s : ℕ → Bool) (b : ℕ) (ns : List ℕ) → ListsBelow s b ns → IsIn b s → ListsBelow s (b + 1) (ns ++ b ∷ [])
 lists_more s b ns l here = record {
-  rises = rises_on 0 ns b l.rises (λ n a. ((l.all n).1 a).0) (omega arith);
+  rises = rises_more 0 ns b l.rises (λ n a. ((l.all n).1 a).0) (omega arith);
   all = λ n. (
     (λ h. elim (same_nat n b) [
-      | inl e ↦ subst (λ z. Among z (ns ++ b ∷ [])) (sym e) (last_among ns b)
-      | inr d ↦ let less = h.0 in left_among ns n b ((l.all n).0 (omega arith, h.1))
+      | inl e ↦ subst (λ z. Among z (ns ++ b ∷ [])) (sym e) (among_last ns b)
+      | inr d ↦ let less = h.0 in among_left ns n b ((l.all n).0 (omega arith, h.1))
     ]),
-    λ h. elim (among_or ns n b h) [
+    λ h. elim (among_cases ns n b h) [
       | inl a ↦ let r = (l.all n).1 a in let r0 = r.0 in (omega arith, r.1)
       | inr e ↦ (omega arith, subst (λ z. IsIn z s) (sym e) here)
     ],

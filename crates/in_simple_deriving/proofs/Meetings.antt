@@ -248,8 +248,26 @@ module _ (x : NodeOrder) (h : IsNodeTurns x) (n : ℕ) where
   meets_end up m0 later = record {
     size = m0.size;
     goes = m0.goes;
-    leads = leads;
-    heads = heads;
+    leads = λ m g. elim (cases m g) [
+      | inl e ↦ subst (λ z. Linked (open_graph x.net) (λ u. IsIn u (left x t)) z (up_from up z)) (sym e) (subst (Linked (open_graph x.net) (λ u. IsIn u (left x t)) n) (sym m0.itself) (alone n own))
+      | inr a ↦ elim (m0.leads m a) [
+        | inl b ↦ subst (Linked (open_graph x.net) (λ u. IsIn u (left x t)) m) (sym b.0) (to_n m b.1)
+        | inr b ↦ link_map (open_graph x.net) After (λ u. IsIn u (left x t)) to_left m (up_from up m) b
+      ]
+    ];
+    heads = λ m g e. elim (cases m g) [
+      | inl f ↦ subst (IsHeadFrom x t) (sym f) (own, λ l u. (left_is x t l (link_first (open_graph x.net) (λ u. IsIn u (left x t)) l n (link_back x.net (λ u. IsIn u (left x t)) (is_in (left x t)) n l u))).1)
+      | inr a ↦ let q = m0.heads m a e in (
+        g,
+        λ l u. elim (exits x.net (λ u. IsIn u (left x t)) n l m (link_back x.net (λ u. IsIn u (left x t)) (is_in (left x t)) m l u) (after_other m a)) [
+          | inl y ↦ q.0.1 l (back l m (link_map (open_graph x.net) Off After (off_after m0.node) l m y))
+          | inr y ↦
+              let few = turn_one_port_most x.net net n y.0 (in_ports x.net net y.1 n y.0 (Port y.2 y.3) y.4) in
+              let some = some_turns x n in
+              absurd (q.1 (turn x.net n y.0, y.2, omega arith, inl (y.0, y.1, y.3, y.4, refl), link_map (open_graph x.net) Off After (off_after m0.node) y.2 m y.5))
+        ],
+      )
+    ];
   }
     where
       t : ℕ
@@ -274,30 +292,6 @@ module _ (x : NodeOrder) (h : IsNodeTurns x) (n : ℕ) where
           go (inl a) = link_join x.net (λ u. IsIn u (left x t)) (is_in (left x t)) m met.1 n on
               (onward met.1 n n a.2 a.0 (to_left met.1 (link_first (open_graph x.net) After met.1 m met.4)) (a.1, wire_turn x.net a.1 (Port n a.0) (Port met.1 a.2) a.3) (alone n own))
           go (inr a) = let zero = more_turns x n met.0 met.2 (omega arith) in absurd (omega arith)
-
-      leads : (m : ℕ) → IsIn m (left x t) → Linked (open_graph x.net) (λ u. IsIn u (left x t)) m (up_from up m)
-      leads m g = elim (cases m g) [
-        | inl e ↦ subst (λ z. Linked (open_graph x.net) (λ u. IsIn u (left x t)) z (up_from up z)) (sym e) (subst (Linked (open_graph x.net) (λ u. IsIn u (left x t)) n) (sym m0.itself) (alone n own))
-        | inr a ↦ elim (m0.leads m a) [
-          | inl b ↦ subst (Linked (open_graph x.net) (λ u. IsIn u (left x t)) m) (sym b.0) (to_n m b.1)
-          | inr b ↦ link_map (open_graph x.net) After (λ u. IsIn u (left x t)) to_left m (up_from up m) b
-        ]
-      ]
-
-      heads : (m : ℕ) → IsIn m (left x t) → up_from up m ≡ m → IsHeadFrom x t m
-      heads m g e = elim (cases m g) [
-        | inl f ↦ subst (IsHeadFrom x t) (sym f) (own, λ l u. (left_is x t l (link_first (open_graph x.net) (λ u. IsIn u (left x t)) l n (link_back x.net (λ u. IsIn u (left x t)) (is_in (left x t)) n l u))).1)
-        | inr a ↦ let q = m0.heads m a e in (
-          g,
-          λ l u. elim (exits x.net (λ u. IsIn u (left x t)) n l m (link_back x.net (λ u. IsIn u (left x t)) (is_in (left x t)) m l u) (after_other m a)) [
-            | inl y ↦ q.0.1 l (back l m (link_map (open_graph x.net) Off After (off_after m0.node) l m y))
-            | inr y ↦
-                let few = turn_one_port_most x.net net n y.0 (in_ports x.net net y.1 n y.0 (Port y.2 y.3) y.4) in
-                let some = some_turns x n in
-                absurd (q.1 (turn x.net n y.0, y.2, omega arith, inl (y.0, y.1, y.3, y.4, refl), link_map (open_graph x.net) Off After (off_after m0.node) y.2 m y.5))
-          ],
-        )
-      ]
 
   pub heads_more : (first : List ℕ) (old new : List Met) → n < length x.net.nodes → AreHeads x (suc (turn_of x n)) first old → AreMetAfter x n old (last_turn x n) new → AreHeads x (turn_of x n) (slice_set first n (length old)) new
   heads_more first old new small a l = record {
@@ -328,26 +322,24 @@ module _ (x : NodeOrder) (h : IsNodeTurns x) (n : ℕ) where
       other : (m : ℕ) → m ≢ n → slice_index_or (slice_set first n (length old)) m 0 ≡ slice_index_or first m 0
       other m d = at_other first n (length old) 0 m d
 
+-- no node has a turn past the last one
+none_past : (x : NodeOrder) → IsNodeTurns x → (n : ℕ) → IsIn n (left x (length x.nodes)) → ⊥
+none_past x h n g = let r = left_is x (length x.nodes) n g in let r1 = r.1 in let t = (h.turn n r.0).0 in omega arith
+
 pub heads_none : (x : NodeOrder) (first : List ℕ) → IsNodeTurns x → length first ≡ length x.net.nodes → AreHeads x (length x.nodes) first []
 heads_none x first h size = record {
   size = size;
-  room = λ n g. absurd (none n g);
-  each = λ n k g l. absurd (none n g);
+  room = λ n g. absurd (none_past x h n g);
+  each = λ n k g l. absurd (none_past x h n g);
 }
-  where
-    none : (n : ℕ) → IsIn n (left x (length x.nodes)) → ⊥
-    none n g = let r = left_is x (length x.nodes) n g in let r1 = r.1 in let t = (h.turn n r.0).0 in omega arith
 
 pub up_none : (x : NodeOrder) (up : List ℕ) → IsNodeTurns x → length up ≡ length x.net.nodes → LeadsEarlier x.turns up → IsUp x (length x.nodes) up
 up_none x up h size goes = record {
   size = size;
   goes = goes;
-  leads = λ n g. absurd (none n g);
-  heads = λ n g e. absurd (none n g);
+  leads = λ n g. absurd (none_past x h n g);
+  heads = λ n g e. absurd (none_past x h n g);
 }
-  where
-    none : (n : ℕ) → IsIn n (left x (length x.nodes)) → ⊥
-    none n g = let r = left_is x (length x.nodes) n g in let r1 = r.1 in let t = (h.turn n r.0).0 in omega arith
 
 -- turns with no node
 pub no_port : (o : OpenNet) (net : IsOpenNet o) (n k : ℕ) → k ≤ ports_of o n → IsPortAt o n k None → (l : ℕ) → IsAtTurn o n k l → ⊥

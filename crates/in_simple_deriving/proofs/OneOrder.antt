@@ -1,6 +1,5 @@
 -- The order of steps determines them.
 use Rattle.std.proofs.Common.{◌≡◌, inl, inr, ℕ, suc, ◌+◌, ◌<◌, Bool, true, cond, nat_eq, List, [], ◌∷◌, ◌++◌, length, Option, Some, None, IsSomeAnd, slice_get, refl, sym, ◌∙◌, ap, subst, arith}
-use mathlib.Core.Path.{fun_ext}
 use Rattle.in_open_nets.specs.declared.open_nets.Node.{Node}
 use Rattle.in_open_nets.specs.declared.open_nets.Node.TheVariants.{AgentNode, ClassNode}
 use Rattle.in_open_nets.specs.declared.open_nets.OpenNode.{OpenNode}
@@ -14,10 +13,11 @@ use Rattle.in_simple_deriving.specs.declared.plans.Task.{Task}
 use Rattle.in_simple_deriving.specs.declared.plans.Task.TheVariants.{Derive, Make}
 use Rattle.std.proofs.Common.{append_assoc}
 use Rattle.in_open_nets.specs.Stuck.{ComesAt, IsPart, ports_of}
-use Rattle.in_simple_deriving.specs.TakenOrder.{IsLeft, Manner, begins, beside, cut, manner, IsWireAt, JoinsInManner, LeadsAway, LinksAt, Stage, part, turns, at, Comes, taken, start, next, component, link, nothing, AreJointsOf, with_nodes, without, AreTaken, before, links_from, steps_from}
+use Rattle.in_simple_deriving.specs.TakenOrder.{Manner, begins, beside, cut, manner, IsWireAt, JoinsInManner, LeadsAway, LinksAt, Stage, part, turns, at, Comes, taken, start, next, component, link, nothing, AreJointsOf, with_nodes, without, AreTaken, before, links_from, steps_from}
 use Rattle.in_simple_deriving.specs.Stacks.{Yields, done, made, derived}
 use Rattle.in_simple_deriving.proofs.Planning.{part_inside}
-use Rattle.in_open_nets.proofs.Public.{one_first, turn_same, turn_one, turn_cases, all_one, same_test}
+use Rattle.in_node_orders.proofs.Public.{one_left}
+use Rattle.in_open_nets.proofs.Public.{one_first, turn_same, turn_one, turn_cases, all_one}
 
 -- the nodes are the open net's
 abbrev Inside : OpenNet → Stage → Type 0
@@ -56,13 +56,10 @@ module _ (o : OpenNet) (net : IsOpenNet o) where
       (subst (LeadsAway s n k) same l.away).0 (part_inside o net n s inside c p t.1.1 t.1.4).0
   not_both s n k inside c w p (inr t) l = let a = t.1.2 in let b = l.port in omega (arith, a, b)
 
-  one_left : (s t u : ℕ → Bool) (n : ℕ) → IsLeft n s t → IsLeft n s u → t ≡ u
-  one_left s t u n f g = fun_ext (λ m. same_test (t m) (u m) (λ h. (g m).1 ((f m).0 h)) (λ h. (f m).1 ((g m).0 h)))
-
   one : (g : Stage) (js is : List StackStep) → Inside o g → Comes o g js → Comes o g is → js ≡ is
   one _ _ _ inside (taken s t n js f left h) (taken _ u m is f1 left1 k) =
       let e = one_first o net s n m f f1 in
-      let same : t ≡ u = one_left s t u n left (subst (λ z. IsLeft z s u) (sym e) left1) in
+      let same : t ≡ u = one_left n m s t u e left left1 in
       one (turns t n (suc (ports_of o n) + length o.nodes)) js is (λ m g. inside m ((left m).0 g).0) h
       (subst (λ z. Comes o (turns z n (suc (ports_of o n) + length o.nodes)) is) (sym same) (subst (λ z. Comes o (turns u z (suc (ports_of o z) + length o.nodes)) is) (sym e) k))
   one _ _ _ inside (start s n) (start _ _) = refl

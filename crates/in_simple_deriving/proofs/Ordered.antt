@@ -1,21 +1,22 @@
 -- The nodes that are taken out of the whole net in turn.
-use Rattle.std.proofs.Common.{◌≡◌, ◌↔◌, ◌<◌, ◌≤◌, ◌+◌, ℕ, zero, suc, slice_index_or, inl, inr, Bool, List, [], ◌∷◌, ◌++◌, length, append_assoc, nat_lt, ltb-true, lt-ltb, true, refl, sym, subst, ap, ◌∙◌, arith}
+use Rattle.std.proofs.Common.{◌≡◌, ◌↔◌, ◌<◌, ◌≤◌, ◌+◌, ℕ, zero, suc, slice_index_or, inl, inr, Bool, List, [], ◌∷◌, ◌++◌, length, append_assoc, nat_lt, ltb-true, lt-ltb, true, sym, subst, ap, ◌∙◌, arith}
 use mathlib.Core.Path.{fun_ext}
+use Rattle.std.proofs.lemmas.List.{append-nil}
 use Rattle.in_open_nets.proofs.Public.{in_length, same_nat, same_test}
-use Rattle.in_simple_deriving.specs.Turns.{AreDistinct, NodeOrder, left, node_at, turn_of}
+use Rattle.in_simple_deriving.specs.Turns.{NodeOrder, left, node_at, turn_of}
 use Rattle.in_simple_deriving.proofs.HeadParts.{left_in, left_is}
 use Rattle.in_open_nets.specs.Members.{nodes_in}
 use Rattle.in_open_nets.specs.Constructions.{IsIn}
 use Rattle.in_open_nets.specs.OpenNets.{OpenNet}
-use Rattle.in_open_nets.specs.Splitting.{Without}
 use Rattle.in_open_nets.specs.Stuck.{IsFirstToSplit}
-use Rattle.in_node_orders.specs.Orders.{IsNodeOrder, IsOrder, NoNodeSplits, all_nodes, ends, takes}
+use Rattle.in_node_orders.specs.Orders.{IsLeft, IsNodeOrder, IsOrder, NoNodeSplits, all_nodes, ends, takes}
+use Rattle.in_node_orders.specs.Turns.{AreDistinct}
 
 -- an order of what is left goes on with the nodes so far to one of the net
 abbrev pub LeadsOn : OpenNet → List ℕ → (ℕ → Bool) → Type 0
 LeadsOn o ns s = (ms : List ℕ) (rest : ℕ → Bool) → IsOrder o s ms rest → IsOrder o (all_nodes o) (ns ++ ms) rest
 
-pub leads_more : (o : OpenNet) (ns : List ℕ) (s t : ℕ → Bool) (n : ℕ) → LeadsOn o ns s → IsFirstToSplit o n s → ((m : ℕ) → IsIn m t ↔ Without n s m) → LeadsOn o (ns ++ n ∷ []) t
+pub leads_more : (o : OpenNet) (ns : List ℕ) (s t : ℕ → Bool) (n : ℕ) → LeadsOn o ns s → IsFirstToSplit o n s → IsLeft n s t → LeadsOn o (ns ++ n ∷ []) t
 leads_more o ns s t n on f left ms rest k = subst (λ z. IsOrder o (all_nodes o) z rest) (sym (append_assoc ns (n ∷ []) ms)) (on (n ∷ ms) rest (takes s t rest n ms f left k))
 
 pub leads_start : (o : OpenNet) (bits : List Bool) → length bits ≡ length o.nodes → ((n : ℕ) → n < length o.nodes → nodes_in bits n ≡ true) → LeadsOn o [] (nodes_in bits)
@@ -26,12 +27,8 @@ leads_start o bits size all ms rest k = subst (λ z. IsOrder o z ms rest) (fun_e
         (λ h. let l = in_length bits n h in lt-ltb n (length o.nodes) (omega arith))
         (λ h. all n (ltb-true n (length o.nodes) h))
 
-append_none : (ns : List ℕ) → ns ++ [] ≡ ns
-append_none [] = refl
-append_none (n ∷ ns) = ap (λ z. n ∷ z) (append_none ns)
-
 pub leads_end : (o : OpenNet) (ns : List ℕ) (s : ℕ → Bool) → LeadsOn o ns s → NoNodeSplits o s → IsNodeOrder o ns
-leads_end o ns s on none = (s, subst (λ z. IsOrder o (all_nodes o) z s) (append_none ns) (on [] s (ends s none)))
+leads_end o ns s on none = (s, subst (λ z. IsOrder o (all_nodes o) z s) (append-nil ns) (on [] s (ends s none)))
 
 -- each node of an order is in the set, and comes once
 record IsOnce (s : ℕ → Bool) (ns : List ℕ) : Type 0 where

@@ -1,6 +1,6 @@
 -- Sets as lists of tests, and the nodes that are joined in a set, by computing.
 use Rattle.std.proofs.Common.{◌≡◌, ◌⊎◌, ◌↔◌, ◌<◌, ℕ, zero, suc, Bool, true, false, ◌||◌, ◌&&◌, nat_eq, Some, List, [], ◌∷◌, ◌++◌, length, slice_get, refl, sym, subst, ap, inl, inr, ◌∙◌, arith}
-use Rattle.std.proofs.lemmas.Bool.{and_from, cases_Bool, or_cases, or_left, or_right}
+use Rattle.std.proofs.lemmas.Bool.{and_from, cases_Bool, eqb-true, or_cases, or_left, or_right}
 use Rattle.std.proofs.lemmas.Bool.Decides.{eqb_tells}
 use Rattle.std.proofs.Math.ListN.{get_or-append, length-append}
 use Rattle.std.proofs.Math.Seq.{get_or-append_seam}
@@ -11,7 +11,7 @@ use Rattle.in_open_nets.specs.Members.{nodes_in}
 use Rattle.in_open_nets.specs.OpenNets.{OpenNet, IsWire, open_graph}
 use Rattle.in_open_nets.specs.Splitting.{Linked, alone, onward}
 use Rattle.in_base.proofs.Places.{some_same}
-use Rattle.in_open_nets.proofs.Public.{both_left, both_right, in_length, link_first, not_both, same_nat, Decided}
+use Rattle.in_open_nets.proofs.Public.{both_left, both_right, in_length, link_first, not_both, same_nat, Decided, NextIn}
 use Rattle.in_simple_deriving.specs.Turns.{is_pair, joined_through, next_in, tests_below}
 
 -- ---- lists of tests
@@ -45,24 +45,18 @@ is_in s n = elim (cases_Bool (s n)) [ inl h ↦ inl h | inr h ↦ inr (λ k. not
 
 -- ---- joined nodes
 
-same_true : (a b : ℕ) → nat_eq a b ≡ true → a ≡ b
-same_true a b h = elim (same_nat a b) [ inl e ↦ e | inr d ↦ elim (eqb_tells a b) [ inl t ↦ t.1 | inr t ↦ let f = t.0 in absurd (cc) ] ]
-
 pub same_is : (a : ℕ) → nat_eq a a ≡ true
 same_is a = elim (eqb_tells a a) [ inl t ↦ t.0 | inr t ↦ absurd (t.1 refl) ]
 
 pair_has : (p q : OpenPoint) (l m : ℕ) → is_pair p q l m ≡ true → (i : ℕ) × (j : ℕ) × (p ≡ Port l i) × (q ≡ Port m j)
-pair_has (Port a i) (Port b j) l m h = (i, j, ap (λ z. Port z i) (same_true a l (both_left (nat_eq a l) (nat_eq b m) h)), ap (λ z. Port z j) (same_true b m (both_right (nat_eq a l) (nat_eq b m) h)))
+pair_has (Port a i) (Port b j) l m h = (i, j, ap (λ z. Port z i) (eqb-true a l (both_left (nat_eq a l) (nat_eq b m) h)), ap (λ z. Port z j) (eqb-true b m (both_right (nat_eq a l) (nat_eq b m) h)))
 pair_has (Port a i) (Free k) l m h = absurd (cc)
 pair_has (Free k) q l m h = absurd (cc)
 
 pair_is : (l i m j : ℕ) → is_pair (Port l i) (Port m j) l m ≡ true
 pair_is l i m j = and_from (nat_eq l l) (nat_eq m m) (same_is l) (same_is m)
 
-abbrev JoinsIn : List (OpenPoint × OpenPoint) → ℕ → ℕ → Type 0
-JoinsIn ws l m = (i : ℕ) × (j : ℕ) × (w : ℕ) × ((slice_get ws w ≡ Some (Port l i, Port m j)) ⊎ (slice_get ws w ≡ Some (Port m j, Port l i)))
-
-next_has : (ws : List (OpenPoint × OpenPoint)) (l m : ℕ) → next_in ws l m ≡ true → JoinsIn ws l m
+next_has : (ws : List (OpenPoint × OpenPoint)) (l m : ℕ) → next_in ws l m ≡ true → NextIn ws l m
 next_has [] l m h = absurd (cc)
 next_has ((p, q) ∷ ws) l m h = elim (or_cases (is_pair p q l m || is_pair p q m l) (next_in ws l m) h) [
   | inl g ↦ elim (or_cases (is_pair p q l m) (is_pair p q m l) g) [
@@ -103,7 +97,7 @@ module _ (o : OpenNet) (s : ℕ → Bool) where
   ways_near l m h =
       let a = both_left (s l && s m) (nat_eq l m || next_in o.wires l m) h in
       let b = both_right (s l && s m) (nat_eq l m || next_in o.wires l m) h in
-      (both_left (s l) (s m) a, both_right (s l) (s m) a, elim (or_cases (nat_eq l m) (next_in o.wires l m) b) [ inl e ↦ inl (same_true l m e) | inr e ↦ inr (next_has o.wires l m e) ])
+      (both_left (s l) (s m) a, both_right (s l) (s m) a, elim (or_cases (nat_eq l m) (next_in o.wires l m) b) [ inl e ↦ inl (eqb-true l m e) | inr e ↦ inr (next_has o.wires l m e) ])
 
   ways_more : (z l m : ℕ) → Ways z l m → Ways (suc z) l m
   unfolding joined_through

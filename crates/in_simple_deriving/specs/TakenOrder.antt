@@ -15,7 +15,7 @@ use Rattle.in_open_nets.specs.Constructions.{IsIn}
 use Rattle.in_open_nets.specs.declared.derivations.Step.{Step}
 use Rattle.in_open_nets.specs.OpenNets.{OpenNet, IsAgent, IsNode, IsWire, class_in, classes_of}
 use Rattle.in_simple_deriving.specs.Joints.{count_of, step_of, loose_in}
-use Rattle.in_open_nets.specs.Splitting.{Without}
+use Rattle.in_node_orders.specs.Orders.{IsLeft}
 use Rattle.in_open_nets.specs.Stuck.{ComesAt, IsFirstToSplit, IsPart, ports_of, turn}
 
 -- ---- the joints at a node, turn by turn: those of the turn, those before it, and the one that joins it to the earlier ones
@@ -66,10 +66,6 @@ abbrev pub JoinsInManner : OpenNet → ℕ → ℕ → Manner → List StackStep
 JoinsInManner o n k begins js = js ≡ []
 JoinsInManner o n k beside js = js ≡ Mix ∷ []
 JoinsInManner o n k cut js = (w : ℕ) × IsWireAt o n k w × (js ≡ Cut w ∷ [])
-
--- t is s without n
-abbrev pub IsLeft : ℕ → (ℕ → Bool) → (ℕ → Bool) → Type 0
-IsLeft n s t = (m : ℕ) → IsIn m t ↔ Without n s m
 
 -- the point is no port of a node of t, nor one of n up to k
 abbrev pub LeadsAway : (ℕ → Bool) → ℕ → ℕ → OpenPoint → Type 0

@@ -8,6 +8,7 @@ use Rattle.in_open_nets.specs.OpenNets.{OpenNet, NodeTest, IsOrderly, open_graph
 use Rattle.in_open_nets.specs.Splitting.{Linked}
 use Rattle.in_open_nets.specs.Stuck.{IsFirstToSplit}
 use Rattle.in_node_orders.specs.Orders.{NoNodeSplits}
+use Rattle.in_node_orders.specs.Turns.{AreDistinct}
 
 -- the nodes by turn, the turn of each node, and how many nodes are taken out
 pub record NodeOrder : Type 0 where
@@ -36,26 +37,15 @@ pub record IsNodeTurns (x : NodeOrder) : Type 0 where
   pub first : (t : ℕ) → t < x.taken → IsFirstToSplit x.net (node_at x t) (left x t)
   pub stuck : NoNodeSplits x.net (left x x.taken)
 
--- ---- while they are numbered
+-- the first of these nodes are the given ones
+abbrev pub AreFirst : List ℕ → List ℕ → Type 0
+AreFirst first nodes = (rest : List ℕ) × (nodes ≡ first ++ rest)
 
--- no node has a turn
-abbrev pub no_turn : ℕ
-no_turn = 0xFFFF_FFFF
-
-pub record AreBlank (count : ℕ) (turns : List ℕ) : Type 0 where
-  pub size : length turns ≡ count
-  pub none : (n : ℕ) → n < count → slice_index_or turns n 0 ≡ no_turn
-
--- each of these nodes comes once
-pub record AreDistinct (count : ℕ) (nodes : List ℕ) : Type 0 where
-  pub below : (t : ℕ) → t < length nodes → slice_index_or nodes t 0 < count
-  pub once : (s t : ℕ) → s < t → t < length nodes → slice_index_or nodes s 0 ≡ slice_index_or nodes t 0 → ⊥
-
--- the turns of the first `b` of these nodes; the others have none
-pub record AreFirstTurns (count b : ℕ) (nodes turns : List ℕ) : Type 0 where
-  pub size : length turns ≡ count
-  pub node : (t : ℕ) → t < b → (slice_index_or nodes t 0 < count) × (slice_index_or turns (slice_index_or nodes t 0) 0 ≡ t)
-  pub turn : (n : ℕ) → n < count → (slice_index_or turns n 0 ≡ no_turn) ⊎ ((slice_index_or turns n 0 < b) × (slice_index_or nodes (slice_index_or turns n 0) 0 ≡ n))
+-- .. and then the others come; each node comes once
+pub record AreAllFrom (count : ℕ) (first nodes : List ℕ) : Type 0 where
+  pub begins : AreFirst first nodes
+  pub distinct : AreDistinct count nodes
+  pub all : (n : ℕ) → n < count → (t : ℕ) × (t < length nodes) × (slice_index_or nodes t 0 ≡ n)
 
 -- ---- sets as lists of tests
 

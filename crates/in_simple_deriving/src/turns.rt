@@ -3,10 +3,11 @@ ghost use Rattle.std.specs.Prelude.{◌≡◌, ◌<◌, ◌≤◌, ◌^◌, leng
 ghost use Rattle.in_node_orders.specs.Orders.{IsNodeOrder};
 ghost use Rattle.in_open_nets.specs.OpenNets.{IsOrderly};
 ghost use Rattle.in_open_nets.specs.Parts.{IsFirstIn};
-ghost use Rattle.in_simple_deriving.specs.Turns.{AreBlank, AreDistinct, AreFirstTurns, IsNodeTurns, node_at, turn_of};
+ghost use Rattle.in_simple_deriving.specs.Turns.{AreAllFrom, IsNodeTurns, node_at, turn_of};
+ghost use Rattle.in_node_orders.specs.Turns.{AreDistinct, AreTurns};
 
 use in_base::use_promise;
-use in_node_orders::is_order;
+use in_node_orders::{is_order, turns_of};
 use in_open_nets::{ClassGraph, NodeList, NodeSet, Part, Scratch, Wired, first_splitting};
 use in_order_search::likely_order;
 use in_syntax::with_room;
@@ -59,14 +60,11 @@ fn node_order(alloc: Global, wired: &Wired) -> Result<Items<u32>, AllocError>
     found_order(alloc, wired)
 }
 
-/// No turn.
-const NONE: u32 = u32::MAX;
-
 /// All nodes in the order in which they are taken out, then those that are never taken out, by number; and the turn of each node.
 pub(crate) struct NodeTurns<'a> {
     wired: &'a Wired<'a>,
     nodes: Items<u32>,
-    turns: Items<u32>,
+    turns: Items<usize>,
     taken: usize,
 }
 
@@ -93,26 +91,38 @@ impl<'a> Model for NodeTurns<'a> {
     ghost invariant = { λ x. IsNodeTurns (record { net = x.wired.now; nodes = x.nodes; turns = x.turns; taken = x.taken }) };
 }
 
-/// `count` times no turn.
-fn no_turns(alloc: Global, count: usize) -> Result<Items<u32>, AllocError>
-    ensures { IfOk result (AreBlank count) }
+/// The turn of each node, by its index in these nodes.
+fn distinct_turns(
+    alloc: Global,
+    count: usize,
+    nodes: &Items<u32>,
+) -> Result<Items<usize>, AllocError>
+    requires { AreDistinct count nodes.now }
+    ensures { IfOk result (AreTurns count nodes.now) }
 {
-    let mut turns = Vec::new(alloc);
-    turns.resize(count, NONE)?;
-    Ok(Items::from_vec(turns))
+    match turns_of(alloc, count, nodes)? {
+        Some(turns) => Ok(turns),
+        // Each node comes once, by the requirement.
+        None => unreachable!(),
+    }
 }
 
-/// The turns of these nodes; the others have none.
-fn turns_of(alloc: Global, count: usize, nodes: &Items<u32>) -> Result<Items<u32>, AllocError>
-    requires few { length nodes.now < 2 ^ 32 }
-    requires nodes { AreDistinct count nodes.now }
-    ensures { IfOk result (AreFirstTurns count (length nodes.now) nodes.now) }
+/// These nodes, and then all others, by number.
+fn with_others(alloc: Global, count: usize, first: Items<u32>) -> Result<Items<u32>, AllocError>
+    requires few { count < 2 ^ 32 }
+    requires first { AreDistinct count first }
+    ensures { IfOk result (AreAllFrom count first) }
 {
-    let mut turns = no_turns(alloc, count)?;
-    for turn in 0..nodes.len() {
-        turns.set(nodes.as_slice()[turn] as usize, turn as u32);
+    let taken = first.len();
+    let found = distinct_turns(alloc, count, &first)?;
+    let turns = found.as_slice();
+    let mut nodes = first;
+    for node in 0..count {
+        if turns[node] == taken {
+            nodes.push(node as u32)?;
+        }
     }
-    Ok(turns)
+    Ok(nodes)
 }
 
 impl<'a> NodeTurns<'a> {
@@ -121,21 +131,10 @@ impl<'a> NodeTurns<'a> {
         ensures { IfOk result (λ turns. turns.net ≡ wired.now) }
     {
         let count = wired.nodes();
-        let mut nodes = node_order(alloc, wired)?;
-        let taken = nodes.len();
-        if taken >= NONE as usize {
-            return Err(AllocError);
-        }
-        let mut turns = turns_of(alloc, count, &nodes)?;
-        for node in 0..count {
-            if turns.as_slice()[node] == NONE {
-                if nodes.len() >= NONE as usize {
-                    return Err(AllocError);
-                }
-                turns.set(node, nodes.len() as u32);
-                nodes.push(node as u32)?;
-            }
-        }
+        let order = node_order(alloc, wired)?;
+        let taken = order.len();
+        let nodes = with_others(alloc, count, order)?;
+        let turns = distinct_turns(alloc, count, &nodes)?;
         Ok(NodeTurns {
             wired,
             nodes,
@@ -181,6 +180,6 @@ impl<'a> NodeTurns<'a> {
         ensures turn { result ≡ turn_of self.now node }
         ensures turns { IsNodeTurns self.now }
     {
-        self.turns.as_slice()[node] as usize
+        self.turns.as_slice()[node]
     }
 }

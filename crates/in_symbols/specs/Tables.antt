@@ -16,7 +16,7 @@ use Rattle.in_syntax.specs.declared.tree.SourceRule.{SourceRule}
 use Rattle.in_syntax.specs.declared.tree.SourceSymbol.{SourceSymbol}
 use Rattle.in_symbols.specs.declared.symbols.PortType.{PortType}
 use Rattle.in_symbols.specs.declared.symbols.Shape.{Shape}
-use Rattle.in_symbols.specs.declared.symbols.SymbolNo.{SymbolNo}
+use Rattle.in_syntax.specs.declared.symbol_no.SymbolNo.{SymbolNo}
 use Rattle.in_syntax.specs.declared.faults.Fault.TheVariants.{Refused, Memory}
 use Rattle.in_symbols.specs.Faults.{IsFaultless, IsFirstFault}
 use Rattle.in_symbols.specs.Names.{number_in}

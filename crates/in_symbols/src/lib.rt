@@ -13,4 +13,4 @@ mod symbols;
 mod tables;
 
 pub use names::Names;
-pub use symbols::{PortType, SymbolNo, Symbols};
+pub use symbols::{PortType, Symbols};

@@ -9,7 +9,7 @@ use crate::declaring::Declared;
 use crate::names::Names;
 use crate::searching::first_fault;
 use crate::{declaring, tables};
-use in_syntax::{Fault, Place, Source, SourcePort};
+use in_syntax::{Fault, Place, Source, SourcePort, SymbolNo};
 use sqlite_items::Items;
 use std::alloc::Global;
 use std::marker::Model;
@@ -21,10 +21,6 @@ pub struct PortType {
     pub kind: u32,
     pub output: bool,
 }
-
-/// The number of a symbol, from 0 in the order of declaration.
-#[derive(Clone, Copy, Debug, PartialEq, Eq)]
-pub struct SymbolNo(pub u32);
 
 /// The declaration of a symbol: the types and classes of its places, the principal port being place 0 and a class by itself.
 #[derive(Drop)]

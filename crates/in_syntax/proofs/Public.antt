@@ -8,4 +8,6 @@ pub use Rattle.in_syntax.proofs.Trees.SourcePlaces.{part_small, texts_begin_apar
 pub use Rattle.in_syntax.proofs.Trees.Terms.{names_out, term_by_arguments, terms_by_arguments}
 pub use Rattle.in_syntax.proofs.Trees.Walks.{walk_out}
 pub use Rattle.in_syntax.proofs.Grammar.ThenOne.{then_same, then_two}
+pub use Rattle.in_syntax.proofs.Grammar.Parsed.{limits_are, of_text}
 pub use Rattle.in_syntax.proofs.Grammar.WholeTexts.{parsed_once, same_refusal}
+pub use Rattle.in_syntax.proofs.AnyLimits.{agents_few, free_few, member_agents_few, rules_few, symbols_few, text_few}

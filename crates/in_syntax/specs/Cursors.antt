@@ -13,7 +13,8 @@ use Rattle.in_syntax.specs.declared.lexer.Move.{Move}
 use Rattle.in_syntax.specs.declared.lexer.Move.TheVariants as move
 use Rattle.in_syntax.specs.Characters.{is_blank, begins_name}
 use Rattle.in_syntax.specs.Places.{start, past_all}
-use Rattle.in_syntax.specs.Tokens.{text_limit, Passes, Faults, Stops, refusal_at}
+use Rattle.in_syntax.specs.Tokens.{Passes, Faults, Stops, refusal_at}
+use Rattle.in_syntax.specs.TextLimits.{most_bytes}
 
 -- the text is a character and then the rest
 pub record BeginsWith (text : List ℕ) (c : ℕ) (rest : List ℕ) : Type 0 where
@@ -40,7 +41,7 @@ pub record BeginsSigns (c : ℕ) : Type 0 where
 
 -- a spot, and the rest of a text after it, within the limit on texts
 pub record IsWithin (s : Spot) (rest : List ℕ) : Type 0 where
-  pub total : s.at + length rest ≤ text_limit
+  pub total : s.at + length rest ≤ most_bytes
   pub line : s.line ≤ s.at + 1
   pub col : s.col ≤ s.at + 1
 

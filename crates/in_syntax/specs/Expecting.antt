@@ -15,6 +15,7 @@ use Rattle.in_syntax.specs.declared.words.TokenKind.TheVariants as kind
 use Rattle.in_syntax.specs.Grammar.{is_with}
 use Rattle.in_syntax.specs.Programs.{Begins, IsOutcomeOfSigns, fault, sign_of, signs_of}
 use Rattle.in_syntax.specs.Tokens.{IsTokensOf, IsTokenFault}
+use Rattle.in_syntax.specs.declared.text_limits.TextLimits.{TextLimits}
 
 -- ---- tokens
 
@@ -127,25 +128,25 @@ IsAt _ s = Unit {0}
 -- ---- the expected tokens
 
 -- after these signs, exactly the expected tokens continue with some program, and a name is of the sort of this section
-pub record IsExpected (text : List ℕ) (front : List Sign) (e : Expected) : Type 0 where
-  pub tokens : (t : Token) → IsTrue (takes e (sign_of text t)) ↔ Begins (front ++ sign_of text t ∷ [])
+pub record IsExpected (limits : TextLimits) (text : List ℕ) (front : List Sign) (e : Expected) : Type 0 where
+  pub tokens : (t : Token) → IsTrue (takes e (sign_of text t)) ↔ Begins limits (front ++ sign_of text t ∷ [])
   pub sort : IsAt e (section front)
 
 -- a relation between the tokens of a text, the result on them, and the noted expectation
 abbrev pub Noting : Type 1
-Noting = List ℕ → List Token → Result Source Fault → Expected → Type 0
+Noting = TextLimits → List ℕ → List Token → Result Source Fault → Expected → Type 0
 
 -- the noted expectation of tokens: nothing more if they are a program, and at a fault the tokens expected after the signs before it
 abbrev pub IsNotedOf : Noting
-IsNotedOf text tokens (Ok source) e = e ≡ expected.Nothing
-IsNotedOf text tokens (Err (Refused r)) e =
-    (at : ℕ) × IsOutcomeOfSigns (signs_of text tokens) (fault r.code at) × IsExpected text (take at (signs_of text tokens)) e
-IsNotedOf text tokens (Err (Memory m)) e = Unit {0}
+IsNotedOf limits text tokens (Ok source) e = e ≡ expected.Nothing
+IsNotedOf limits text tokens (Err (Refused r)) e =
+    (at : ℕ) × IsOutcomeOfSigns limits (signs_of text tokens) (fault r.code at) × IsExpected limits text (take at (signs_of text tokens)) e
+IsNotedOf limits text tokens (Err (Memory m)) e = Unit {0}
 
 -- the expectation noted for a text, where `before` was noted: it stays if the tokens have a fault, otherwise it is that of the tokens; running
 -- out of memory isn't covered
-abbrev pub IsNoted : List ℕ → Expected → Expected → Result Source Fault → Type 0
-IsNoted text before e (Ok source) = e ≡ expected.Nothing
-IsNoted text before e (Err (Refused r)) =
-    (IsTokenFault text r × (e ≡ before)) ⊎ ((tokens : List Token) × IsTokensOf text tokens × IsNotedOf text tokens (Err (Refused r)) e)
-IsNoted text before e (Err (Memory m)) = Unit {0}
+abbrev pub IsNoted : TextLimits → List ℕ → Expected → Expected → Result Source Fault → Type 0
+IsNoted limits text before e (Ok source) = e ≡ expected.Nothing
+IsNoted limits text before e (Err (Refused r)) =
+    (IsTokenFault limits text r × (e ≡ before)) ⊎ ((tokens : List Token) × IsTokensOf limits text tokens × IsNotedOf limits text tokens (Err (Refused r)) e)
+IsNoted limits text before e (Err (Memory m)) = Unit {0}

@@ -21,19 +21,12 @@ use Rattle.in_syntax.specs.declared.signs.Sign.{Sign}
 use Rattle.in_syntax.specs.declared.signs.Sign.TheVariants.{Named, Tilde, Plain}
 use Rattle.in_syntax.specs.declared.words.TokenKind.{TokenKind}
 use Rattle.in_syntax.specs.declared.words.TokenKind.TheVariants as kind
+use Rattle.in_syntax.specs.declared.text_limits.TextLimits.{TextLimits}
+use Rattle.in_syntax.specs.TextLimits.{max_symbols, max_rules, max_free}
 
--- the greatest number of types, of symbols, of rules and of free names
+-- the greatest number of types
 abbrev pub max_types : ℕ
 max_types = 256
-
-abbrev pub max_symbols : ℕ
-max_symbols = 512
-
-abbrev pub max_rules : ℕ
-max_rules = 4096
-
-abbrev pub max_free : ℕ
-max_free = 256
 
 -- the greatest number of a symbol's auxiliary ports
 abbrev pub max_ports : ℕ
@@ -95,10 +88,10 @@ abbrev pub spell_classes : ℕ → List (List SourcePort) → Spelling
 spell_classes number [] = []
 spell_classes number (c ∷ more) = spell_class number c ++ spell_classes (number + length c) more
 
--- "symbol" name ":" port class* ";", of a symbol by its number: the name of the 513th and of later ones passes the limit
-abbrev pub spell_symbol : ℕ → SourceSymbol → Spelling
-spell_symbol number s =
-    plain kind.Symbol ∷ marked (nat_lt max_symbols number) (Named s.name) ∷ plain kind.Colon ∷ spell_port false s.port
+-- "symbol" name ":" port class* ";", of a symbol by its number: past the greatest number of symbols its name passes the limit
+abbrev pub spell_symbol : TextLimits → ℕ → SourceSymbol → Spelling
+spell_symbol limits number s =
+    plain kind.Symbol ∷ marked (nat_lt (max_symbols limits) number) (Named s.name) ∷ plain kind.Colon ∷ spell_port false s.port
     ++ spell_classes 1 s.classes ++ plain kind.Semicolon ∷ []
 
 -- a type's name by its number: the 257th and later ones pass the limit
@@ -156,20 +149,20 @@ abbrev pub StandAfterWord : Option Place → List Equation → Type 0
 StandAfterWord None es = es ≡ []
 StandAfterWord (Some p) es = Unit {0}
 
--- "rule" head "><" head [ "with" .. ] ";", of a rule by its number: the word `rule` of the 4,097th and of later ones passes the limit
-abbrev pub spell_rule : ℕ → Option Place → SourceRule → Spelling
-spell_rule number w r =
-    marked (nat_lt max_rules number) (Plain kind.Rule)
+-- "rule" head "><" head [ "with" .. ] ";", of a rule by its number: past the greatest number of rules its word `rule` passes the limit
+abbrev pub spell_rule : TextLimits → ℕ → Option Place → SourceRule → Spelling
+spell_rule limits number w r =
+    marked (nat_lt (max_rules limits) number) (Plain kind.Rule)
     ∷ (((spell_head r.first ++ plain kind.Meets ∷ spell_head r.second) ++ spell_with w r.equations) ++ plain kind.Semicolon ∷ [])
 
--- free = name ":" port, by its number: the name of the 257th and of later ones passes the limit
-abbrev pub spell_free : ℕ → SourceFree → Spelling
-spell_free number f = marked (nat_lt max_free number) (Named f.name) ∷ plain kind.Colon ∷ spell_port false f.port
+-- free = name ":" port, by its number: past the greatest number of free names its name passes the limit
+abbrev pub spell_free : TextLimits → ℕ → SourceFree → Spelling
+spell_free limits number f = marked (nat_lt (max_free limits) number) (Named f.name) ∷ plain kind.Colon ∷ spell_port false f.port
 
 -- net = "net" "(" [ free ("," free)* ] ")" "{" (term "~" term ";")* "}"
-abbrev pub spell_net : SourceNet → Spelling
-spell_net n =
-    plain kind.Net ∷ plain kind.OpenParenthesis ∷ separated (numbered spell_free 1 n.free)
+abbrev pub spell_net : TextLimits → SourceNet → Spelling
+spell_net limits n =
+    plain kind.Net ∷ plain kind.OpenParenthesis ∷ separated (numbered (spell_free limits) 1 n.free)
     ++ plain kind.CloseParenthesis ∷ plain kind.OpenBrace ∷ flat_map spell_equation n.equations
     ++ plain kind.CloseBrace ∷ []
 
@@ -181,20 +174,20 @@ pub data Item : Type 0 where
   rule : Option Place → SourceRule → Item
 
 -- no declarations yet
-abbrev pub none_yet : Counts
-none_yet = record { types = 0; symbols = 0; rules = 0 }
+abbrev pub none_yet : TextLimits → Counts
+none_yet limits = record { limits = limits; types = 0; symbols = 0; rules = 0 }
 
 -- the numbers of declarations after an item
 abbrev pub counted : Counts → Item → Counts
-counted c (types names) = record { types = c.types + length names; symbols = c.symbols; rules = c.rules }
-counted c (symbol s) = record { types = c.types; symbols = c.symbols + 1; rules = c.rules }
-counted c (rule w r) = record { types = c.types; symbols = c.symbols; rules = c.rules + 1 }
+counted c (types names) = record { limits = c.limits; types = c.types + length names; symbols = c.symbols; rules = c.rules }
+counted c (symbol s) = record { limits = c.limits; types = c.types; symbols = c.symbols + 1; rules = c.rules }
+counted c (rule w r) = record { limits = c.limits; types = c.types; symbols = c.symbols; rules = c.rules + 1 }
 
 -- item = "type" .. | "symbol" .. | "rule" .., with these numbers of declarations before it
 abbrev pub spell_item : Counts → Item → Spelling
 spell_item c (types names) = spell_types (c.types + 1) names
-spell_item c (symbol s) = spell_symbol (c.symbols + 1) s
-spell_item c (rule w r) = spell_rule (c.rules + 1) w r
+spell_item c (symbol s) = spell_symbol c.limits (c.symbols + 1) s
+spell_item c (rule w r) = spell_rule c.limits (c.rules + 1) w r
 
 -- item*
 abbrev pub spell_items : Counts → List Item → Spelling
@@ -214,8 +207,8 @@ pub record GrammarProgram : Type 0 where
   pub net : SourceNet
 
 -- its signs in the order of the text
-abbrev pub spelling : GrammarProgram → Spelling
-spelling p = spell_items none_yet p.items ++ spell_net p.net
+abbrev pub spelling : TextLimits → GrammarProgram → Spelling
+spelling limits p = spell_items (none_yet limits) p.items ++ spell_net limits p.net
 
 -- the types that an item declares
 abbrev pub types_in : Item → List Name
@@ -236,8 +229,9 @@ rules_in (symbol s) = []
 rules_in (rule w r) = r ∷ []
 
 -- the tree, which gathers the types, the symbols and the rules, each in the order of the text
-abbrev pub source_of : GrammarProgram → Source
-source_of p = record {
+abbrev pub source_of : TextLimits → GrammarProgram → Source
+source_of limits p = record {
+  limits = limits;
   types = flat_map types_in p.items;
   symbols = flat_map symbols_in p.items;
   rules = flat_map rules_in p.items;

@@ -12,48 +12,49 @@ use Rattle.in_syntax.specs.Answers.{IsOne}
 use Rattle.in_syntax.specs.Expecting.{IsExpected, IsNoted}
 use Rattle.in_syntax.specs.Order.{BeginApart, source_places}
 use Rattle.in_syntax.specs.Parsing.{IsAnswer, IsTreeOf, Parses}
+use Rattle.in_syntax.specs.declared.text_limits.TextLimits.{TextLimits}
 
 -- a text has at most one list of tokens
 abbrev pub TokensAreUnique : Type 0
-TokensAreUnique = (text : List ℕ) (ts us : List Token) → IsTokensOf text ts → IsTokensOf text us → ts ≡ us
+TokensAreUnique = (limits : TextLimits) (text : List ℕ) (ts us : List Token) → IsTokensOf limits text ts → IsTokensOf limits text us → ts ≡ us
 
 -- a text has at most one first fault of its tokens
 abbrev pub TokenFaultsAreUnique : Type 0
-TokenFaultsAreUnique = (text : List ℕ) (q r : Refusal) → IsTokenFault text q → IsTokenFault text r → q ≡ r
+TokenFaultsAreUnique = (limits : TextLimits) (text : List ℕ) (q r : Refusal) → IsTokenFault limits text q → IsTokenFault limits text r → q ≡ r
 
 -- a text has tokens or a fault of its tokens
 abbrev pub TextsHaveTokensOrFault : Type 0
-TextsHaveTokensOrFault = (text : List ℕ) → ((ts : List Token) × IsTokensOf text ts) ⊎ ((r : Refusal) × IsTokenFault text r)
+TextsHaveTokensOrFault = (limits : TextLimits) (text : List ℕ) → ((ts : List Token) × IsTokensOf limits text ts) ⊎ ((r : Refusal) × IsTokenFault limits text r)
 
 -- no text has both tokens and a fault of its tokens
 abbrev pub NoTextHasBoth : Type 0
-NoTextHasBoth = (text : List ℕ) (ts : List Token) (r : Refusal) → IsTokensOf text ts → IsTokenFault text r → ⊥
+NoTextHasBoth = (limits : TextLimits) (text : List ℕ) (ts : List Token) (r : Refusal) → IsTokensOf limits text ts → IsTokenFault limits text r → ⊥
 
 -- each token of a text is in it
 abbrev pub TokensStandInTheirText : Type 0
-TokensStandInTheirText = (text : List ℕ) (ts : List Token) → IsTokensOf text ts → AllByRecursion (StandsIn text) ts
+TokensStandInTheirText = (limits : TextLimits) (text : List ℕ) (ts : List Token) → IsTokensOf limits text ts → AllByRecursion (StandsIn text) ts
 
 -- the tokens of a text are in it one after another
 abbrev pub TokensStandInOrder : Type 0
-TokensStandInOrder = (text : List ℕ) (ts : List Token) → IsTokensOf text ts → StandInOrder 0 ts
+TokensStandInOrder = (limits : TextLimits) (text : List ℕ) (ts : List Token) → IsTokensOf limits text ts → StandInOrder 0 ts
 
 -- each text is exactly one of these: one tree, or one first fault
 abbrev pub OneAnswer : Type 0
-OneAnswer = (text : List ℕ) → (a : Result Source Refusal) × IsAnswer text a × ((b : Result Source Refusal) → IsAnswer text b → b ≡ a)
+OneAnswer = (limits : TextLimits) (text : List ℕ) → (a : Result Source Refusal) × IsAnswer limits text a × ((b : Result Source Refusal) → IsAnswer limits text b → b ≡ a)
 
 -- all results that parsing may have for a text agree
 abbrev pub TextsAreParsedOnce : Type 0
-TextsAreParsedOnce = (text : List ℕ) → IsOne (Parses text)
+TextsAreParsedOnce = (limits : TextLimits) (text : List ℕ) → IsOne (Parses limits text)
 
 -- the names and the ~ of a text's program that begin at one byte have one place
 abbrev pub TextsBeginApart : Type 0
-TextsBeginApart = (text : List ℕ) (s : Source) → IsTreeOf text s → BeginApart (source_places s)
+TextsBeginApart = (limits : TextLimits) (text : List ℕ) (s : Source) → IsTreeOf limits text s → BeginApart (source_places s)
 
 -- signs have at most one expectation
 abbrev pub OneExpected : Type 0
-OneExpected = (text : List ℕ) (front : List Sign) (d e : Expected) → IsExpected text front d → IsExpected text front e → d ≡ e
+OneExpected = (limits : TextLimits) (text : List ℕ) (front : List Sign) (d e : Expected) → IsExpected limits text front d → IsExpected limits text front e → d ≡ e
 
 -- a refused text has one noted expectation
 abbrev pub TextsAreNotedOnce : Type 0
 TextsAreNotedOnce =
-    (text : List ℕ) (before d e : Expected) (q r : Refusal) → IsNoted text before d (Err (Refused q)) → IsNoted text before e (Err (Refused r)) → d ≡ e
+    (limits : TextLimits) (text : List ℕ) (before d e : Expected) (q r : Refusal) → IsNoted limits text before d (Err (Refused q)) → IsNoted limits text before e (Err (Refused r)) → d ≡ e

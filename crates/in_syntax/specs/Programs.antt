@@ -14,6 +14,7 @@ use Rattle.in_syntax.specs.declared.signs.Sign.TheVariants.{Named, Tilde, Plain}
 use Rattle.in_syntax.specs.declared.tree.Name.{Name}
 use Rattle.in_syntax.specs.declared.tree.Source.{Source}
 use Rattle.in_syntax.specs.Grammar.{Spelling, marked, within, GrammarProgram, spelling, source_of}
+use Rattle.in_syntax.specs.declared.text_limits.TextLimits.{TextLimits}
 
 -- the place is that of a part of the text
 pub record IsTextAt (text : List ℕ) (place : Place) : Type 0 where
@@ -58,32 +59,32 @@ abbrev pub unmarked : List Sign → Spelling
 unmarked = map within
 
 -- the signs are those of a program of this tree, and none of them passes a limit
-abbrev pub IsTree : List Sign → Source → Type 0
-IsTree s source = (p : GrammarProgram) × (spelling p ≡ unmarked s) × (source_of p ≡ source)
+abbrev pub IsTree : TextLimits → List Sign → Source → Type 0
+IsTree limits s source = (p : GrammarProgram) × (spelling limits p ≡ unmarked s) × (source_of limits p ≡ source)
 
 -- the signs are a program's, whether or not one passes a limit
-abbrev pub IsProgram : List Sign → Type 0
-IsProgram s = (p : GrammarProgram) × (signs (spelling p) ≡ s)
+abbrev pub IsProgram : TextLimits → List Sign → Type 0
+IsProgram limits s = (p : GrammarProgram) × (signs (spelling limits p) ≡ s)
 
 -- some program begins so, whether or not a sign passes a limit
-abbrev pub Begins : List Sign → Type 0
-Begins front = (p : GrammarProgram) × (more : List Sign) × (signs (spelling p) ≡ front ++ more)
+abbrev pub Begins : TextLimits → List Sign → Type 0
+Begins limits front = (p : GrammarProgram) × (more : List Sign) × (signs (spelling limits p) ≡ front ++ more)
 
 -- some program begins so, and passes no limit there
-abbrev pub BeginsWithin : List Sign → Type 0
-BeginsWithin front = (p : GrammarProgram) × (more : Spelling) × (spelling p ≡ unmarked front ++ more)
+abbrev pub BeginsWithin : TextLimits → List Sign → Type 0
+BeginsWithin limits front = (p : GrammarProgram) × (more : Spelling) × (spelling limits p ≡ unmarked front ++ more)
 
 -- some program begins so, and passes a limit first at the last sign
-abbrev pub BeginsPast : List Sign → Sign → Type 0
-BeginsPast front s = (p : GrammarProgram) × (more : Spelling) × (spelling p ≡ unmarked front ++ marked true s ∷ more)
+abbrev pub BeginsPast : TextLimits → List Sign → Sign → Type 0
+BeginsPast limits front s = (p : GrammarProgram) × (more : Spelling) × (spelling limits p ≡ unmarked front ++ marked true s ∷ more)
 
 -- the first fault is this one, between the signs `front` before it and those from it on: some program begins with `front`, and passes no
 -- limit there; E02 if none continues with the next sign, or none ends here; E03 if one does, and its sign passes a limit
-abbrev pub IsFault : Code → List Sign → List Sign → Type 0
-IsFault E02 front [] = BeginsWithin front × ¬ IsProgram front
-IsFault E02 front (s ∷ rest) = BeginsWithin front × ¬ Begins (front ++ s ∷ [])
-IsFault E03 front (s ∷ rest) = BeginsPast front s
-IsFault _ front rest = ⊥
+abbrev pub IsFault : TextLimits → Code → List Sign → List Sign → Type 0
+IsFault limits E02 front [] = BeginsWithin limits front × ¬ IsProgram limits front
+IsFault limits E02 front (s ∷ rest) = BeginsWithin limits front × ¬ Begins limits (front ++ s ∷ [])
+IsFault limits E03 front (s ∷ rest) = BeginsPast limits front s
+IsFault limits _ front rest = ⊥
 
 -- the outcome of signs
 pub data Outcome : Type 0 where
@@ -92,9 +93,9 @@ pub data Outcome : Type 0 where
   fault : Code → ℕ → Outcome
 
 -- the signs are a program within the limits, or they have a first fault
-abbrev pub IsOutcomeOfSigns : List Sign → Outcome → Type 0
-IsOutcomeOfSigns s (tree source) = IsTree s source
-IsOutcomeOfSigns s (fault code i) = (i ≤ length s) × IsFault code (take i s) (drop i s)
+abbrev pub IsOutcomeOfSigns : TextLimits → List Sign → Outcome → Type 0
+IsOutcomeOfSigns limits s (tree source) = IsTree limits s source
+IsOutcomeOfSigns limits s (fault code i) = (i ≤ length s) × IsFault limits code (take i s) (drop i s)
 
 -- the place of the first of the tokens, or the end
 abbrev pub place_at : List Token → Place → Place
@@ -102,8 +103,8 @@ place_at [] end = end
 place_at (t ∷ ts) end = t.place
 
 -- the result on a text's tokens
-abbrev pub IsParsing : (text : List ℕ) (tokens : List Token) (end : Place) → Result Source Fault → Type 0
-IsParsing text tokens end (Ok source) = IsOutcomeOfSigns (signs_of text tokens) (tree source)
-IsParsing text tokens end (Err (Refused r)) =
-    (i : ℕ) × IsOutcomeOfSigns (signs_of text tokens) (fault r.code i) × (r.place ≡ place_at (drop i tokens) end) × (r.other ≡ None)
-IsParsing text tokens end (Err (Memory e)) = Unit {0}
+abbrev pub IsParsing : (limits : TextLimits) (text : List ℕ) (tokens : List Token) (end : Place) → Result Source Fault → Type 0
+IsParsing limits text tokens end (Ok source) = IsOutcomeOfSigns limits (signs_of text tokens) (tree source)
+IsParsing limits text tokens end (Err (Refused r)) =
+    (i : ℕ) × IsOutcomeOfSigns limits (signs_of text tokens) (fault r.code i) × (r.place ≡ place_at (drop i tokens) end) × (r.other ≡ None)
+IsParsing limits text tokens end (Err (Memory e)) = Unit {0}

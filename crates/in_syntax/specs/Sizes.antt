@@ -8,8 +8,8 @@ use Rattle.in_syntax.specs.declared.tree.Source.{Source}
 use Rattle.in_syntax.specs.declared.tree.SourceSymbol.{SourceSymbol}
 use Rattle.in_syntax.specs.declared.tree.SourceRule.{SourceRule}
 use Rattle.in_syntax.specs.declared.tree.Head.{Head}
-use Rattle.in_syntax.specs.Grammar.{max_types, max_symbols, max_rules, max_free, max_ports}
-use Rattle.in_syntax.specs.Tokens.{text_limit}
+use Rattle.in_syntax.specs.Grammar.{max_types, max_ports}
+use Rattle.in_syntax.specs.TextLimits.{text_limit, max_symbols, max_rules, max_free}
 
 abbrev pub total : List ℕ → ℕ
 total [] = 0
@@ -42,9 +42,9 @@ pub record IsSizedSymbol (s : SourceSymbol) : Type 0 where
 -- the sizes of a program that is read from a text: no list is longer than its limit, and there are no more names than bytes
 pub record IsSized (s : Source) : Type 0 where
   pub types : length s.types ≤ max_types
-  pub symbols : length s.symbols ≤ max_symbols
+  pub symbols : length s.symbols ≤ max_symbols s.limits
   pub ports : AllByRecursion IsSizedSymbol s.symbols
-  pub rules : length s.rules ≤ max_rules
-  pub free : length s.net.free ≤ max_free
-  pub names : names_in_equations s.net.equations ≤ text_limit
-  pub heads : names_in_rules s.rules ≤ text_limit
+  pub rules : length s.rules ≤ max_rules s.limits
+  pub free : length s.net.free ≤ max_free s.limits
+  pub names : names_in_equations s.net.equations ≤ text_limit s.limits
+  pub heads : names_in_rules s.rules ≤ text_limit s.limits

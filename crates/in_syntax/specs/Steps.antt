@@ -42,9 +42,11 @@ use Rattle.in_syntax.specs.declared.machine.Event.{Event}
 use Rattle.in_syntax.specs.declared.machine.Event.TheVariants as event
 use Rattle.in_syntax.specs.declared.reader.Reader.{Reader}
 use Rattle.in_syntax.specs.Expecting.{Noting}
-use Rattle.in_syntax.specs.Grammar.{max_types, max_symbols, max_rules, max_free, max_ports, max_depth, is_with}
+use Rattle.in_syntax.specs.Grammar.{max_types, max_ports, max_depth, is_with}
 use Rattle.in_syntax.specs.Trees.{bare, bare_head, bare_rule, with_argument, with_class, with_equation, rule_with_equation, with_term}
 use Rattle.in_syntax.specs.Programs.{signs_of, place_at}
+use Rattle.in_syntax.specs.declared.text_limits.TextLimits.{TextLimits}
+use Rattle.in_syntax.specs.TextLimits.{max_symbols, max_rules, max_free}
 
 -- the step that a sign makes, by the grammar alone
 pub data Step : Type 0 where
@@ -64,7 +66,7 @@ on = goes false
 abbrev pub at_item : Counts → Sign → Step
 at_item c (Plain kind.Type) = on (state.TypeName [])
 at_item c (Plain kind.Symbol) = on state.SymbolName
-at_item c (Plain kind.Rule) = goes (nat_lt max_rules (c.rules + 1)) (state.HeadName First)
+at_item c (Plain kind.Rule) = goes (nat_lt (max_rules c.limits) (c.rules + 1)) (state.HeadName First)
 at_item c (Plain kind.Net) = on state.NetOpen
 at_item c _ = stuck
 
@@ -78,7 +80,7 @@ at_type_end names (Plain kind.Semicolon) = adds_types names
 at_type_end names _ = stuck
 
 abbrev pub at_symbol_name : Counts → Sign → Step
-at_symbol_name c (Named n) = goes (nat_lt max_symbols (c.symbols + 1)) (state.SymbolColon n)
+at_symbol_name c (Named n) = goes (nat_lt (max_symbols c.limits) (c.symbols + 1)) (state.SymbolColon n)
 at_symbol_name c _ = stuck
 
 abbrev pub at_symbol_colon : Name → Sign → Step
@@ -155,9 +157,9 @@ at_free_first (Named n) = on (state.FreeColon [] n)
 at_free_first (Plain kind.CloseParenthesis) = on (state.BodyOpen [])
 at_free_first _ = stuck
 
-abbrev pub at_free_name : List SourceFree → Sign → Step
-at_free_name fs (Named n) = goes (nat_lt max_free (1 + length fs)) (state.FreeColon fs n)
-at_free_name fs _ = stuck
+abbrev pub at_free_name : Counts → List SourceFree → Sign → Step
+at_free_name c fs (Named n) = goes (nat_lt (max_free c.limits) (1 + length fs)) (state.FreeColon fs n)
+at_free_name c fs _ = stuck
 
 abbrev pub at_free_colon : List SourceFree → Name → Sign → Step
 at_free_colon fs n (Plain kind.Colon) = on (state.PortKind (Free fs n))
@@ -245,7 +247,7 @@ step c (state.RuleOpen f h p) x = at_rule_open f h p x
 step c (state.RuleClose y p) x = at_rule_close y x
 step c state.NetOpen x = at_net_open x
 step c state.FreeFirst x = at_free_first x
-step c (state.FreeName fs) x = at_free_name fs x
+step c (state.FreeName fs) x = at_free_name c fs x
 step c (state.FreeColon fs n) x = at_free_colon fs n x
 step c (state.FreeEnd fs) x = at_free_end fs x
 step c (state.BodyOpen fs) x = at_body_open fs x
@@ -272,8 +274,8 @@ led (event.Symbol y) s = move.Symbol y
 led (event.Rule r) s = move.Rule r
 led (event.Refuses c) s = move.Refuses c
 
-abbrev pub start : Reader
-start = record { types = []; symbols = []; rules = []; state = state.Item }
+abbrev pub start : TextLimits → Reader
+start limits = record { limits = limits; types = []; symbols = []; rules = []; state = state.Item }
 
 -- a tree, or a fault and the signs from it on
 pub data Answer : Type 0 where
@@ -285,26 +287,26 @@ net_of (state.Done n) = Some n
 net_of _ = None
 
 abbrev pub whole : Reader → Option SourceNet → Answer
-whole r (Some n) = reads (record { types = r.types; symbols = r.symbols; rules = r.rules; net = n })
+whole r (Some n) = reads (record { limits = r.limits; types = r.types; symbols = r.symbols; rules = r.rules; net = n })
 whole r None = refused E02 []
 
 abbrev pub at_state : Reader → State → Reader
-at_state r s = record { types = r.types; symbols = r.symbols; rules = r.rules; state = s }
+at_state r s = record { limits = r.limits; types = r.types; symbols = r.symbols; rules = r.rules; state = s }
 
-abbrev pub between_items : List Name → List SourceSymbol → List SourceRule → Reader
-between_items types symbols rules = record { types = types; symbols = symbols; rules = rules; state = state.Item }
+abbrev pub between_items : TextLimits → List Name → List SourceSymbol → List SourceRule → Reader
+between_items limits types symbols rules = record { limits = limits; types = types; symbols = symbols; rules = rules; state = state.Item }
 
 abbrev pub with_types : Reader → List Name → Reader
-with_types r names = between_items (r.types ++ names) r.symbols r.rules
+with_types r names = between_items r.limits (r.types ++ names) r.symbols r.rules
 
 abbrev pub with_symbol : Reader → SourceSymbol → Reader
-with_symbol r s = between_items r.types (r.symbols ++ s ∷ []) r.rules
+with_symbol r s = between_items r.limits r.types (r.symbols ++ s ∷ []) r.rules
 
 abbrev pub with_rule : Reader → SourceRule → Reader
-with_rule r y = between_items r.types r.symbols (r.rules ++ y ∷ [])
+with_rule r y = between_items r.limits r.types r.symbols (r.rules ++ y ∷ [])
 
 abbrev pub counts_of : Reader → Counts
-counts_of r = record { types = length r.types; symbols = length r.symbols; rules = length r.rules }
+counts_of r = record { limits = r.limits; types = length r.types; symbols = length r.symbols; rules = length r.rules }
 
 -- reads the signs from a reader on, to their end
 abbrev pub run : Reader → List Sign → Answer
@@ -350,12 +352,12 @@ EndsText r end (Err (Refused f)) = (run r [] ≡ refused f.code []) × (f.place 
 EndsText r end (Err (Memory e)) = Unit {0}
 
 -- the result of the code's run
-abbrev pub GivesSource : List ℕ → List Token → Place → Result Source Fault → Type 0
-GivesSource text tokens end (Ok source) = run start (signs_of text tokens) ≡ reads source
-GivesSource text tokens end (Err (Refused r)) =
-    (i : ℕ) × (i ≤ length tokens) × (run start (signs_of text tokens) ≡ refused r.code (signs_of text (drop i tokens)))
+abbrev pub GivesSource : TextLimits → List ℕ → List Token → Place → Result Source Fault → Type 0
+GivesSource limits text tokens end (Ok source) = run (start limits) (signs_of text tokens) ≡ reads source
+GivesSource limits text tokens end (Err (Refused r)) =
+    (i : ℕ) × (i ≤ length tokens) × (run (start limits) (signs_of text tokens) ≡ refused r.code (signs_of text (drop i tokens)))
     × (r.place ≡ place_at (drop i tokens) end) × (r.other ≡ None)
-GivesSource text tokens end (Err (Memory e)) = Unit {0}
+GivesSource limits text tokens end (Err (Memory e)) = Unit {0}
 
 -- ---- the tokens expected in a state
 
@@ -405,12 +407,12 @@ expected_in (state.TermEnd b t) = expected.AfterTerm (part_of b)
 expected_in (state.Done n) = expected.Nothing
 
 -- the noted expectation after the first `i` tokens
-abbrev pub IsNotedBefore : List ℕ → List Token → ℕ → Expected → Type 0
-IsNotedBefore text tokens i e = (last : Reader) × SignsLead start (signs_of text (take i tokens)) last × (e ≡ expected_in last.state)
+abbrev pub IsNotedBefore : TextLimits → List ℕ → List Token → ℕ → Expected → Type 0
+IsNotedBefore limits text tokens i e = (last : Reader) × SignsLead (start limits) (signs_of text (take i tokens)) last × (e ≡ expected_in last.state)
 
 -- the noted expectation of a run with this result
 abbrev pub Notes : Noting
-Notes text tokens (Ok source) e = e ≡ expected.Nothing
-Notes text tokens (Err (Refused r)) e =
-    (i : ℕ) × (i ≤ length tokens) × (run start (signs_of text tokens) ≡ refused r.code (signs_of text (drop i tokens))) × IsNotedBefore text tokens i e
-Notes text tokens (Err (Memory m)) e = Unit {0}
+Notes limits text tokens (Ok source) e = e ≡ expected.Nothing
+Notes limits text tokens (Err (Refused r)) e =
+    (i : ℕ) × (i ≤ length tokens) × (run (start limits) (signs_of text tokens) ≡ refused r.code (signs_of text (drop i tokens))) × IsNotedBefore limits text tokens i e
+Notes limits text tokens (Err (Memory m)) e = Unit {0}

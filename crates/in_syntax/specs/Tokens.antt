@@ -14,6 +14,8 @@ use Rattle.in_syntax.specs.declared.faults.Code.TheVariants.{E01, E03}
 use Rattle.in_syntax.specs.declared.faults.Refusal.{Refusal}
 use Rattle.in_syntax.specs.Characters.{line_feed, hash, is_blank, begins_name, continues_name, stays_in_comment}
 use Rattle.in_syntax.specs.Places.{start, past, past_all, place_between, place_at}
+use Rattle.in_syntax.specs.declared.text_limits.TextLimits.{TextLimits}
+use Rattle.in_syntax.specs.TextLimits.{text_limit}
 
 -- the reserved words
 abbrev pub reserved_words : List (List ℕ × TokenKind)
@@ -58,12 +60,9 @@ abbrev pub EndsLine : List ℕ → Type 0
 EndsLine [] = Unit {0}
 EndsLine (c ∷ cs) = c ≡ line_feed
 
--- the greatest number of characters in a name, and of bytes in a text
+-- the greatest number of characters in a name
 abbrev pub name_limit : ℕ
 name_limit = 64
-
-abbrev pub text_limit : ℕ
-text_limit = 1_048_576
 
 -- the text at a spot is passed, and gives these tokens: a blank or a comment none, a token itself; then come another spot and the rest of the text
 pub data Passes : Spot → List ℕ → List Token → Spot → List ℕ → Type 0 where
@@ -89,8 +88,8 @@ pub data Stops : Spot → List ℕ → Code → Spot → Type 0 where
   later : {s t at : Spot} {cs rest : List ℕ} {ts : List Token} {code : Code} → Passes s cs ts t rest → Stops t rest code at → Stops s cs code at
 
 -- a text's tokens
-pub record IsTokensOf (text : List ℕ) (ts : List Token) : Type 0 where
-  pub short : length text ≤ text_limit
+pub record IsTokensOf (limits : TextLimits) (text : List ℕ) (ts : List Token) : Type 0 where
+  pub short : length text ≤ text_limit limits
   pub utf8 : IsUtf8 text
   pub reads : Reads start (chars text) ts
 
@@ -103,12 +102,12 @@ abbrev pub refusal_at : Code → Spot → Refusal
 refusal_at code at = refusal_of code (place_at at)
 
 -- the first fault of a text's tokens
-pub data IsTokenFault : List ℕ → Refusal → Type 0 where
-  long_text : {text : List ℕ} → text_limit < length text → IsTokenFault text (refusal_at E03 start)
-  first_fault : {text : List ℕ} (code : Code) (at : Spot) → length text ≤ text_limit → Stops start (chars (well_formed text)) code at →
-      IsTokenFault text (refusal_at code at)
-  ill_formed : {text : List ℕ} {ts : List Token} → length text ≤ text_limit → Reads start (chars (well_formed text)) ts → utf8_valid_len text < length text →
-      IsTokenFault text (refusal_at E01 (past_all start (chars (well_formed text))))
+pub data IsTokenFault (limits : TextLimits) : List ℕ → Refusal → Type 0 where
+  long_text : {text : List ℕ} → text_limit limits < length text → IsTokenFault limits text (refusal_at E03 start)
+  first_fault : {text : List ℕ} (code : Code) (at : Spot) → length text ≤ text_limit limits → Stops start (chars (well_formed text)) code at →
+      IsTokenFault limits text (refusal_at code at)
+  ill_formed : {text : List ℕ} {ts : List Token} → length text ≤ text_limit limits → Reads start (chars (well_formed text)) ts → utf8_valid_len text < length text →
+      IsTokenFault limits text (refusal_at E01 (past_all start (chars (well_formed text))))
 
 -- a token's place is a part of the text that isn't empty, and is by itself a token of this kind
 pub record StandsIn (text : List ℕ) (t : Token) : Type 0 where

@@ -2,19 +2,18 @@ ghost use Rattle.std.specs.Prelude.{◌≡◌, ◌+◌, ◌<◌, ◌≤◌, List
 ghost use Rattle.std.specs.Str.{chars};
 ghost use Rattle.in_syntax.specs.Characters.{hash, begins_name, continues_name};
 ghost use Rattle.in_syntax.specs.Places.{start, past_all, end_place};
-ghost use Rattle.in_syntax.specs.Tokens.{beside, word_kind, signs, text_limit, well_formed, refusal_at, Reads, IsTokensOf, IsTokenFault, StandsIn};
+ghost use Rattle.in_syntax.specs.Tokens.{beside, word_kind, signs, well_formed, refusal_at, Reads, IsTokensOf, IsTokenFault, StandsIn};
 ghost use Rattle.std.specs.List.{AllByRecursion};
+ghost use Rattle.in_syntax.specs.TextLimits.{most_bytes};
 ghost use Rattle.in_syntax.specs.Cursors.{FirstIs, BeginsSigns, IsWithin, IsRun, IsMove, RefusedBy, IsStopOf};
 
 use crate::characters::{START, Spot, begins_name, continues_name, first_char, is_blank};
 use crate::faults::{Code, Fault, Refusal};
 use crate::places::Place;
+use crate::text_limits::TextLimits;
 use crate::words::{Token, TokenKind};
 use std::alloc::{AllocError, Global};
 use std::str;
-
-/// The longest text that is read, in bytes. This project's own choice.
-pub const MAX_TEXT_BYTES: usize = 1_048_576;
 
 /// The longest name, in characters. This project's own choice.
 pub const MAX_NAME_CHARACTERS: usize = 64;
@@ -179,7 +178,7 @@ fn keep(tokens: &mut Vec<Token>, token: Option<Token>) -> Result<(), AllocError>
 
 /// The tokens of a text that is well-formed and not too long, and the spot after its last character.
 fn read(alloc: Global, text: &str) -> Result<(Vec<Token>, Spot), Fault>
-    requires { length text.now ≤ text_limit }
+    requires { length text.now ≤ most_bytes }
     ensures tokens { IfOk result (λ r. Reads start (chars text.now) r.0.items) }
     ensures end { IfOk result (λ r. r.1 ≡ past_all start (chars text.now)) }
     ensures fault { IfErr result (RefusedBy (IsStopOf (chars text.now))) }
@@ -215,15 +214,19 @@ fn front(text: &[u8]) -> &str
 }
 
 /// The tokens of a program's text, as `tokens` returns them, and the place after its last character.
-pub fn tokens_to_end(alloc: Global, text: &[u8]) -> Result<(Vec<Token>, Place), Fault>
-    ensures tokens { IfOk result (λ r. IsTokensOf text.now r.0.items) }
+pub fn tokens_to_end(
+    alloc: Global,
+    limits: TextLimits,
+    text: &[u8],
+) -> Result<(Vec<Token>, Place), Fault>
+    ensures tokens { IfOk result (λ r. IsTokensOf limits text.now r.0.items) }
     ensures end { IfOk result (λ r. r.1 ≡ end_place text.now) }
-    ensures fault { IfErr result (RefusedBy (IsTokenFault text.now)) }
+    ensures fault { IfErr result (RefusedBy (IsTokenFault limits text.now)) }
 
     // Follows from the first clause.
     ensures texts { IfOk result (λ r. AllByRecursion (StandsIn text.now) r.0.items) }
 {
-    if text.len() > MAX_TEXT_BYTES {
+    if text.len() > limits.text_bytes() {
         return Err(refused(Code::E03, START));
     }
     let front = front(text);
@@ -236,7 +239,7 @@ pub fn tokens_to_end(alloc: Global, text: &[u8]) -> Result<(Vec<Token>, Place), 
 
 /// The tokens of a program's text, in order.
 ///
-/// A text is of at most `MAX_TEXT_BYTES` bytes of UTF-8. Space, tab, carriage return and line feed part tokens, and
+/// A text is of UTF-8, of at most `limits.text_bytes()` bytes. Space, tab, carriage return and line feed part tokens, and
 /// so does a comment: from a `#` to the end of its line. A token is the longest one that begins at its place. A name
 /// begins with a character of Unicode's XID_Start or `_`, and continues with those of XID_Continue; nothing is
 /// normalized. All of this is this project's own choice.
@@ -248,13 +251,13 @@ pub fn tokens_to_end(alloc: Global, text: &[u8]) -> Result<(Vec<Token>, Place), 
 /// - `E03` at the first character of a word of more than `MAX_NAME_CHARACTERS` characters.
 ///
 /// Of the last two, the first in the text is returned. The other error is running out of memory.
-pub fn tokens(alloc: Global, text: &[u8]) -> Result<Vec<Token>, Fault>
-    ensures tokens { IfOk result (λ v. IsTokensOf text.now v.items) }
-    ensures fault { IfErr result (RefusedBy (IsTokenFault text.now)) }
+pub fn tokens(alloc: Global, limits: TextLimits, text: &[u8]) -> Result<Vec<Token>, Fault>
+    ensures tokens { IfOk result (λ v. IsTokensOf limits text.now v.items) }
+    ensures fault { IfErr result (RefusedBy (IsTokenFault limits text.now)) }
 
     // Follows from the first clause.
     ensures texts { IfOk result (λ v. AllByRecursion (StandsIn text.now) v.items) }
 {
-    let (tokens, _end) = tokens_to_end(alloc, text)?;
+    let (tokens, _end) = tokens_to_end(alloc, limits, text)?;
     Ok(tokens)
 }

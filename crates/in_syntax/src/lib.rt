@@ -30,7 +30,9 @@ mod signs;
 mod stack;
 mod states;
 mod streams;
+mod symbol_no;
 mod text;
+mod text_limits;
 mod tree;
 mod uses;
 mod walks;
@@ -38,14 +40,16 @@ mod words;
 
 pub use expecting::{Expected, PartOf};
 pub use faults::{Code, Fault, Refusal};
-pub use lexer::{MAX_NAME_CHARACTERS, MAX_TEXT_BYTES, tokens};
+pub use lexer::{MAX_NAME_CHARACTERS, tokens};
 pub use lists::with_room;
-pub use machine::{MAX_DEPTH, MAX_FREE_NAMES, MAX_PORTS, MAX_RULES, MAX_SYMBOLS, MAX_TYPES};
+pub use machine::{MAX_DEPTH, MAX_PORTS, MAX_TYPES};
 pub use memory::{MemoryIn, MemoryOut};
 pub use parsing::{parse, parse_expecting};
 pub use places::Place;
 pub use streams::{TextIn, TextOut};
+pub use symbol_no::SymbolNo;
 pub use text::Text;
+pub use text_limits::{MOST_MEMBER_AGENTS, TextLimits};
 pub use tree::{
     Equation, Equations, Head, Name, Source, SourceClass, SourceClasses, SourceFree, SourceFrees,
     SourceNet, SourcePort, SourceRule, SourceRules, SourceSymbol, SourceSymbols, Term, Terms,

@@ -23,17 +23,8 @@ use sqlite_items::Boxed;
 use std::alloc::{AllocError, Global};
 use std::mem;
 
-/// The greatest number of types. This project's own choice, as the other limits are.
+/// The greatest number of types, by any `TextLimits`. This project's own choice, as the other limits are.
 pub const MAX_TYPES: usize = 256;
-
-/// The greatest number of symbols.
-pub const MAX_SYMBOLS: usize = 512;
-
-/// The greatest number of rules.
-pub const MAX_RULES: usize = 4096;
-
-/// The greatest number of free names.
-pub const MAX_FREE_NAMES: usize = 256;
 
 /// The greatest number of auxiliary ports of a symbol.
 pub const MAX_PORTS: usize = 16;
@@ -127,7 +118,7 @@ fn step_from(
         State::RuleClose(rule, _) => Ok(at_rule_close(state, rule, sign)),
         State::NetOpen => Ok(at_net_open(state, sign)),
         State::FreeFirst => Ok(at_free_first(state, alloc, sign)),
-        State::FreeName(frees) => Ok(at_free_name(state, frees, sign)),
+        State::FreeName(frees) => Ok(at_free_name(state, counts, frees, sign)),
         State::FreeColon(frees, name) => at_free_colon(state, alloc, frees, name, sign),
         State::FreeEnd(frees) => Ok(at_free_end(state, frees, sign)),
         State::BodyOpen(frees) => Ok(at_body_open(state, alloc, frees, sign)),
@@ -146,7 +137,7 @@ fn at_item(state: &mut State, alloc: Global, counts: Counts, sign: Sign) -> Even
         Sign::Plain(TokenKind::Type) => goes(state, State::TypeName(TypeNames::new(alloc))),
         Sign::Plain(TokenKind::Symbol) => goes(state, State::SymbolName),
         Sign::Plain(TokenKind::Rule) => {
-            if counts.rules >= MAX_RULES {
+            if counts.rules >= counts.limits.rules() {
                 Event::Refuses(Code::E03)
             } else {
                 goes(state, State::HeadName(HeadOf::First))
@@ -192,7 +183,7 @@ fn at_symbol_name(state: &mut State, counts: Counts, sign: Sign) -> Event
 {
     match sign {
         Sign::Named(name) => {
-            if counts.symbols >= MAX_SYMBOLS {
+            if counts.symbols >= counts.limits.symbols() {
                 Event::Refuses(Code::E03)
             } else {
                 goes(state, State::SymbolColon(name))
@@ -471,12 +462,12 @@ fn at_free_first(state: &mut State, alloc: Global, sign: Sign) -> Event
     }
 }
 
-fn at_free_name(state: &mut State, frees: SourceFrees, sign: Sign) -> Event
-    ensures { led result state.new ≡ move_of (steps.at_free_name frees sign) }
+fn at_free_name(state: &mut State, counts: Counts, frees: SourceFrees, sign: Sign) -> Event
+    ensures { led result state.new ≡ move_of (steps.at_free_name counts frees sign) }
 {
     match sign {
         Sign::Named(name) => {
-            if frees.len() >= MAX_FREE_NAMES {
+            if frees.len() >= counts.limits.free_names() {
                 Event::Refuses(Code::E03)
             } else {
                 goes(state, State::FreeColon(frees, name))

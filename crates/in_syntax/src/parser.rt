@@ -5,6 +5,7 @@ use crate::expecting::{Expected, expected_in};
 use crate::faults::Fault;
 use crate::places::Place;
 use crate::reader::Reader;
+use crate::text_limits::TextLimits;
 use crate::tree::Source;
 use crate::words::Token;
 use std::alloc::Global;
@@ -14,9 +15,8 @@ use std::alloc::Global;
 ///
 /// The first fault in the order of the tokens is returned:
 /// - E02, at the first token that no program continues with, or at `end` if a program only begins so;
-/// - E03, at the name of the 257th type or the 513th symbol, at the word `rule` of the 4,097th rule, at the type's name
-///   of a symbol's seventeenth auxiliary port, counted over all its classes, at the 257th free name, or at the first name of a
-///   term at depth 201. A term of an equation or of a head has depth 1, an argument one more than its agent.
+/// - E03, at the name of a type, symbol or free name or at the word `rule` past the limits, at the type's name of a symbol's
+///   seventeenth auxiliary port, counted over all its classes, or at the first name of a term at depth 201. A term of an equation or of a head has depth 1, an argument one more than its agent.
 ///
 /// The grammar is that of Lafont's language ("Interaction nets", 1990) in this project's own signs; the limits and the equations
 /// of rules are this project's own choice. Its other error is running out of memory.
@@ -24,16 +24,17 @@ use std::alloc::Global;
 /// If the grammar refuses a program, `expected` has the tokens with which one can continue there.
 pub fn program(
     alloc: Global,
+    limits: TextLimits,
     text: &[u8],
     tokens: &[Token],
     end: Place,
     expected: &mut Expected,
 ) -> Result<Source, Fault>
     requires { HasTexts text.now tokens.now }
-    ensures parsing { IsParsing text.now tokens.now end result }
-    ensures expected { IsNotedOf text.now tokens.now result expected.new }
+    ensures parsing { IsParsing limits text.now tokens.now end result }
+    ensures expected { IsNotedOf limits text.now tokens.now result expected.new }
 {
-    let mut reader = Reader::new(alloc);
+    let mut reader = Reader::new(alloc, limits);
     *expected = expected_in(&reader.state);
     for token in tokens {
         reader.take(alloc, text, *token)?;

@@ -6,7 +6,7 @@ ghost use Rattle.in_syntax.specs.Refusals.{earlier};
 /// `from` and `to` are offsets in bytes, the first byte and the one after the last; if they are equal, the place is
 /// between two characters. `line` and `col` are those of `from`, both counted from 1: lines end with a line feed, and
 /// columns are characters. That columns are characters is this project's own choice. 32 bits are enough for each, since a
-/// text has at most `MAX_TEXT_BYTES` bytes; a long text has many places.
+/// text has at most 67,108,864 bytes by any limits; a long text has many places.
 #[derive(Clone, Copy, Debug, PartialEq, Eq)]
 pub struct Place {
     pub from: u32,

@@ -9,12 +9,14 @@ use crate::machine::{Event, step, write};
 use crate::places::Place;
 use crate::signs::{Sign, read_sign};
 use crate::states::{State, put_away};
+use crate::text_limits::TextLimits;
 use crate::tree::{Source, SourceNet, SourceRules, SourceSymbols, TypeNames};
 use crate::words::Token;
 use std::alloc::Global;
 
-/// The parts of a program that were read, between two tokens.
+/// The parts of a program that were read, between two tokens, and the limits.
 pub struct Reader {
+    pub limits: TextLimits,
     pub types: TypeNames,
     pub symbols: SourceSymbols,
     pub rules: SourceRules,
@@ -25,6 +27,7 @@ pub struct Reader {
 impl Drop for Reader {
     fn drop(self) {
         let Reader {
+            limits: _,
             types: _,
             symbols: _,
             rules: _,
@@ -35,10 +38,11 @@ impl Drop for Reader {
 }
 
 impl Reader {
-    pub fn new(alloc: Global) -> Reader
-        ensures { result ≡ start }
+    pub fn new(alloc: Global, limits: TextLimits) -> Reader
+        ensures { result ≡ start limits }
     {
         Reader {
+            limits,
             types: TypeNames::new(alloc),
             symbols: SourceSymbols::new(alloc),
             rules: SourceRules::new(alloc),
@@ -60,6 +64,7 @@ impl Reader {
         ensures { TakesSign self.old sign place self.new result }
     {
         let counts = Counts {
+            limits: self.limits,
             types: self.types.len(),
             symbols: self.symbols.len(),
             rules: self.rules.len(),
@@ -88,6 +93,7 @@ impl Reader {
         ensures { EndsText self end result }
     {
         let Reader {
+            limits,
             types,
             symbols,
             rules,
@@ -95,6 +101,7 @@ impl Reader {
         } = self;
         match net_of(state) {
             Some(net) => Ok(Source {
+                limits,
                 types,
                 symbols,
                 rules,

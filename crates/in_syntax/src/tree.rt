@@ -3,6 +3,7 @@ ghost use Rattle.in_syntax.specs.Trees.{bare, bare_head, bare_rule, with_argumen
 
 use crate::places::Place;
 use crate::text::Text;
+use crate::text_limits::TextLimits;
 use sqlite_items::Items;
 use std::alloc::{AllocError, Global};
 
@@ -22,8 +23,9 @@ pub type Equations = Items<Equation>;
 
 pub type Terms = Items<Term>;
 
-/// A program as written, each list in the order of the text.
+/// A program as written, each list in the order of the text, and the limits by which it was read.
 pub struct Source {
+    pub limits: TextLimits,
     pub types: TypeNames,
     pub symbols: SourceSymbols,
     pub rules: SourceRules,
@@ -34,6 +36,7 @@ pub struct Source {
 impl Drop for Source {
     fn drop(self) {
         let Source {
+            limits: _,
             types: _,
             symbols: _,
             rules: _,

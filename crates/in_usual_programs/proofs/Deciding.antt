@@ -2,7 +2,7 @@
 use Rattle.std.proofs.Common.{◌≡◌, ◌↔◌, ℕ, List, slice_get, Some, sym, ap, ◌∙◌, arith}
 use Rattle.std.specs.Prelude.{Ok, ◌++◌}
 use Rattle.std.proofs.lemmas.Option.{slice_get_within}
-use Rattle.in_symbols.specs.declared.symbols.SymbolNo.{SymbolNo}
+use Rattle.in_syntax.specs.declared.symbol_no.SymbolNo.{SymbolNo}
 use Rattle.in_symbols.specs.Tables.{Tables}
 use Rattle.in_net.specs.Parts.{Parts}
 use Rattle.in_net.specs.Rules.{RuleParts, auxiliary_types}
@@ -21,6 +21,7 @@ use Rattle.in_syntax.specs.declared.tree.Source.{Source}
 use Rattle.in_check.proofs.Public.{program_of}
 use Rattle.in_usual_braces_of_programs.specs.Laws.{HasNoDirectedCircle, NetsDecide, RightMembersDecide}
 use Rattle.in_usual_braces_of_programs.specs.Signs.{AreUsual}
+use Rattle.in_syntax.specs.declared.text_limits.TextLimits.{TextLimits}
 
 module _ (source : Source) (t : Tables) (rules : List RuleParts) (n : Parts) (tabulates : Tabulates source (Ok t)) (builds_rules : BuildsRules source t (Ok rules)) (builds : Builds source t (Ok n)) (fits : TypesAll t rules n (Ok tt)) where
   numbered : AreNumbered t
@@ -32,22 +33,22 @@ module _ (source : Source) (t : Tables) (rules : List RuleParts) (n : Parts) (ta
       let of = b.2.1 in
       let over = b.2.0 in
       let typed = all_at (λ p. TypesRule t p (Ok tt)) rules i p fits.0 e in
-      law t p o numbered (rule_whole t b.0 p b.2) of.member.whole over
+      law t p o numbered (rule_whole source.limits t b.0 p b.2) of.member.whole over
       (of.member.types ∙ ap (λ (h : SymbolNo × SymbolNo). auxiliary_types t h.0.0 ++ auxiliary_types t h.1.0) (sym of.heads)) typed.1 opens usual
 
   pub net_in_text : NetsDecide → AreUsual t → (o : OpenNet) → Opens t n o → IsDerivable o ↔ HasNoDirectedCircle t n
   net_in_text law usual o opens = law t n o numbered builds.1.whole builds.0 fits.1 opens usual
 
-module _ (text : List ℕ) (p : Program) (accepted : IsAccepted text p) (members : RightMembersDecide) (nets : NetsDecide) (usual : AreUsual p.tables) where
-  a : IsProgramOf text p
-  a = program_of text p accepted
+module _ (limits : TextLimits) (text : List ℕ) (p : Program) (accepted : IsAccepted limits text p) (members : RightMembersDecide) (nets : NetsDecide) (usual : AreUsual p.tables) where
+  a : IsProgramOf limits text p
+  a = program_of limits text p accepted
 
   pub rules_accepted : (i : ℕ) (r : RuleParts) → slice_get p.rules i ≡ Some r → HasNoDirectedCircle p.tables r.member
   rules_accepted i r e =
       let b = a.builds_rules.each i r e in
       let c = at_index a.rule_certificates i (omega (arith, slice_get_within p.rules i r e, a.simple_rules.count)) in
       let k = a.simple_rules.each i r c.0 e c.1 in
-      let open_net = rules_open p.tables r c.0.shape (tables_numbered a.source p.tables a.tabulates.0) (rule_whole p.tables b.0 r b.2) b.2.1.member.whole b.2.0 k.0 in
+      let open_net = rules_open p.tables r c.0.shape (tables_numbered a.source p.tables a.tabulates.0) (rule_whole a.source.limits p.tables b.0 r b.2) b.2.1.member.whole b.2.0 k.0 in
       (rule_in_text a.source p.tables p.rules p.net a.tabulates a.builds_rules a.builds a.fits members usual i r c.0.shape e k.0).0 (derivation_builds c.0.shape open_net c.0.derivation.steps k.1.0)
 
   pub net_accepted : HasNoDirectedCircle p.tables p.net

@@ -7,7 +7,7 @@
 #![tactic(auto)]
 
 ghost use Rattle.std.specs.Prelude.{◌≡◌, ◌⊎◌, ◌-◌, ◌<◌, ◌^◌, None};
-ghost use Rattle.in_program.specs.Acting.{Acts, Tells, fault_status, memory_status};
+ghost use Rattle.in_program.specs.Acting.{Acts, Tells, fault_status, memory_status, text_limits};
 ghost use Rattle.in_program.specs.Lines.{memory_line};
 ghost use Rattle.in_syntax.specs.Streams.{Reader};
 
@@ -21,7 +21,7 @@ use crate::words::{tell_diagnosis, tell_help};
 use in_check::Findings;
 use in_command_line::{Request, Usage, action_of};
 use in_program::{
-    Device, Status, StreamIn, StreamOut, act_watched, tell, tell_failure, tell_usage,
+    Device, Status, StreamIn, StreamOut, act_watched, tell, tell_failure, tell_usage, text_limits,
 };
 use in_syntax::TextOut;
 use in_version::version_line;
@@ -88,7 +88,7 @@ fn answer_text<T: Threads + Clock, R: Read + Drop, W: TextOut, E: Write>(
     console: Console,
 ) -> Status
     requires { (W.device output.old).failures < 2 ^ 64 - 1 }
-    ensures { (r r2 : Reader) × Acts request.now.action r r2 (W.device output.old) (W.device output.new) result }
+    ensures { (r r2 : Reader) × Acts (text_limits request.now.large) request.now.action r r2 (W.device output.old) (W.device output.new) result }
 {
     let mut input = KeepingIn::new(alloc, StreamIn::new(reader));
     let mut watch = Watching::new(rt, alloc, &mut *errors, console.tells, request.stats);
@@ -96,6 +96,7 @@ fn answer_text<T: Threads + Clock, R: Read + Drop, W: TextOut, E: Write>(
     let status = act_watched(
         rt,
         alloc,
+        text_limits(request),
         &request.action,
         &mut input,
         output,
@@ -107,6 +108,7 @@ fn answer_text<T: Threads + Clock, R: Read + Drop, W: TextOut, E: Write>(
         if let Some(text) = input.kept() {
             tell_diagnosis(
                 alloc,
+                text_limits(request),
                 request.file,
                 text,
                 &findings,
@@ -145,8 +147,8 @@ fn answer<T: Threads + Clock + Files, R: Read + Drop, W: TextOut, E: Write>(
     console: Console,
 ) -> Status
     requires { (W.device output.old).failures < 2 ^ 64 - 1 }
-    ensures input { request.now.file ≡ None → (r r2 : Reader) × Acts request.now.action r r2 (W.device output.old) (W.device output.new) result }
-    ensures file { ((r r2 : Reader) × Acts request.now.action r r2 (W.device output.old) (W.device output.new) result)
+    ensures input { request.now.file ≡ None → (r r2 : Reader) × Acts (text_limits request.now.large) request.now.action r r2 (W.device output.old) (W.device output.new) result }
+    ensures file { ((r r2 : Reader) × Acts (text_limits request.now.large) request.now.action r r2 (W.device output.old) (W.device output.new) result)
         ⊎ (Tells (W.device output.old) (W.device output.new) memory_line memory_status result ⊎ ((W.device output.new ≡ W.device output.old) × (result ≡ fault_status))) }
 {
     let Some(file) = request.file else {

@@ -4,7 +4,7 @@ use in_command_line::Action;
 use in_diagnosis::diagnosis_of;
 use in_limits::{Limits, MOST_CELLS, MOST_INTERACTIONS};
 use in_program::{Status, shown};
-use in_syntax::{Place, Refusal};
+use in_syntax::{Place, Refusal, TextLimits};
 use std::alloc::{AllocError, Global};
 use std::io::Write;
 
@@ -89,6 +89,7 @@ pub fn in_colours(alloc: Global, words: &str) -> Result<String, AllocError> {
 /// The diagnosis of a refused text, for people, after a line with its file.
 fn told(
     alloc: Global,
+    limits: TextLimits,
     file: Option<&str>,
     text: &[u8],
     findings: &Findings,
@@ -98,7 +99,7 @@ fn told(
         (Some(file), Some(refusal)) => head(alloc, file, refusal)?,
         _ => String::new(alloc),
     };
-    if let Some(diagnosis) = diagnosis_of(alloc, text, findings)? {
+    if let Some(diagnosis) = diagnosis_of(alloc, limits, text, findings)? {
         words.push_str(diagnosis.as_str())?;
     }
     if colours {
@@ -111,13 +112,14 @@ fn told(
 /// Writes the diagnosis of a refused text. If memory runs out, or it can't be written, nothing is added.
 pub fn tell_diagnosis<E: Write>(
     alloc: Global,
+    limits: TextLimits,
     file: Option<&str>,
     text: &[u8],
     findings: &Findings,
     colours: bool,
     errors: &mut E,
 ) {
-    if let Ok(words) = told(alloc, file, text, findings, colours) {
+    if let Ok(words) = told(alloc, limits, file, text, findings, colours) {
         let _ = errors.write_all(words.as_bytes());
     }
 }

@@ -9,7 +9,7 @@ use Rattle.in_syntax.specs.declared.tree.Source.{Source}
 use Rattle.in_syntax.specs.declared.tree.SourcePort.{SourcePort}
 use Rattle.in_syntax.specs.declared.tree.SourceRule.{SourceRule}
 use Rattle.in_symbols.specs.declared.symbols.Shape.{Shape}
-use Rattle.in_symbols.specs.declared.symbols.SymbolNo.{SymbolNo}
+use Rattle.in_syntax.specs.declared.symbol_no.SymbolNo.{SymbolNo}
 use Rattle.in_symbols.specs.Tables.{Tables, IsTabled, tables_of, type_names, classes_from, shape_of, class_in, port_at, is_constructor, are_opposite, matching}
 use Rattle.in_net.specs.declared.nets.Cell.{Cell}
 use Rattle.in_net.specs.declared.nets.FreeEnd.{FreeEnd}
@@ -35,6 +35,7 @@ use Rattle.in_check.proofs.Chain.{program_of}
 use Rattle.in_base.proofs.Each.{at_index, all_at}
 use Rattle.in_base.proofs.Places.{of_mapped, to_mapped}
 use Rattle.std.proofs.lemmas.Bool.{and_parts}
+use Rattle.in_syntax.specs.declared.text_limits.TextLimits.{TextLimits}
 
 -- ---- classes
 
@@ -133,9 +134,9 @@ heads_match t r p e m = subst (λ (h : SymbolNo × SymbolNo). IsMatching (signat
 
 -- ---- the program
 
-module _ (text : List ℕ) (p : Program) (accepted : IsAccepted text p) where
-  a : IsProgramOf text p
-  a = program_of text p accepted
+module _ (limits : TextLimits) (text : List ℕ) (p : Program) (accepted : IsAccepted limits text p) where
+  a : IsProgramOf limits text p
+  a = program_of limits text p accepted
 
   numbered : AreNumbered p.tables
   numbered = tables_numbered a.source p.tables a.tabulates.0
@@ -147,7 +148,7 @@ module _ (text : List ℕ) (p : Program) (accepted : IsAccepted text p) where
       let over : IsRuleOver p.tables r = b.2.0 in
       let whole : IsWhole r.member = of.member.whole in
       let fits = all_at (λ r. TypesRule p.tables r (Ok tt)) p.rules i r a.fits.0 e in
-      let complete = rule_whole p.tables b.0 r b.2 in
+      let complete = rule_whole a.source.limits p.tables b.0 r b.2 in
       let c = at_index a.rule_certificates i (omega (arith, slice_get_within p.rules i r e, a.simple_rules.count)) in
       let k : CertifiesRule p.tables r (Ok c.0) = a.simple_rules.each i r c.0 e c.1 in
       let open_net = rules_open p.tables r c.0.shape numbered complete whole over k.0 in

@@ -2,7 +2,7 @@
 use Rattle.std.proofs.Common.{◌≡◌, ◌++◌, ℕ, ◌<◌, ◌≤◌, true, false, List, length, Option, Some, slice_get, sym, subst, ap, inl, inr, ◌∙◌}
 use Rattle.std.specs.Prelude.{option_map, count_by, is_some}
 use Rattle.std.proofs.lemmas.Option.{same_Some}
-use Rattle.in_symbols.specs.declared.symbols.SymbolNo.{SymbolNo}
+use Rattle.in_syntax.specs.declared.symbol_no.SymbolNo.{SymbolNo}
 use Rattle.in_symbols.specs.Tables.{port_at}
 use Rattle.in_net.specs.declared.nets.AgentNo.{AgentNo}
 use Rattle.in_net.specs.declared.nets.Point as coded
@@ -24,6 +24,7 @@ use Rattle.in_check.specs.Systems.{IsMatching, IsNumberOfRule, IsSound, IsSoundS
 use Rattle.in_check.proofs.Chain.{program_of}
 use Rattle.in_check.proofs.Reached.FromText.{is_matching, is_sound}
 use Rattle.in_base.proofs.Places.{to_mapped}
+use Rattle.in_syntax.specs.declared.text_limits.TextLimits.{TextLimits}
 
 -- symbols and wires as numbers
 symbol_is : (p : PlainParts) (x : ℕ) (s : SymbolNo) → symbol_in p.net x ≡ Some s → (net_of p.net).symbol x ≡ Some s.0
@@ -61,10 +62,10 @@ as_least p q a b over at to = record {
 same_plain : (q r : PlainParts) → q.program ≡ r.program → q.net ≡ r.net → q ≡ r
 same_plain q r e f = ap (λ (z : Program). record { program = z; net = q.net }) e ∙ ap (λ (z : Parts). record { program = r.program; net = z }) f
 
-module _ (text : List ℕ) (p : PlainParts) (a b : AgentNo) (accepted : IsAccepted text p.program) (sound : IsSound (system_of p.program) (net_of p.net)) (promised : IsAsPromised (system_of p.program) (net_of p.net))
+module _ (limits : TextLimits) (text : List ℕ) (p : PlainParts) (a b : AgentNo) (accepted : IsAccepted limits text p.program) (sound : IsSound (system_of p.program) (net_of p.net)) (promised : IsAsPromised (system_of p.program) (net_of p.net))
     (over : IsOver p.program.tables p.net) (at : IsPairAt p a b) where
   good : IsSoundSystem (system_of p.program)
-  good = is_sound text p.program accepted
+  good = is_sound limits text p.program accepted
 
   matches : IsMatching (signature_of p.program.tables) at.first.0 at.second.0
   matches = elim (promised.one_rule a.0 b.0 at.first.0 at.second.0 (symbol_is p a.0 at.first at.one) (symbol_is p b.0 at.second at.two) (active_is p a b at)) [
@@ -74,7 +75,7 @@ module _ (text : List ℕ) (p : PlainParts) (a b : AgentNo) (accepted : IsAccept
 
   pub rule_at : (i : ℕ) (r : RuleParts) → slice_get p.program.rules i ≡ Some r → IsRuleOfSymbols r at.first.0 at.second.0 → IsRuleAt p a b i r
   rule_at i r e for =
-      let program : IsProgramOf text p.program = program_of text p.program accepted in
+      let program : IsProgramOf limits text p.program = program_of limits text p.program accepted in
       let b = program.builds_rules.each i r e in
       let heads = in_order for in
       record {

@@ -14,6 +14,7 @@ use Rattle.in_check.specs.Systems.{IsSound, system_of}
 use Rattle.in_check.proofs.Reached.FromText.{is_sound}
 use Rattle.in_check.proofs.Reached.Kept.{each_promised, sound_reached}
 use Rattle.in_check.proofs.Reached.PairRules.{acts_of, as_least, is_pair, one_step, rule_at}
+use Rattle.in_syntax.specs.declared.text_limits.TextLimits.{TextLimits}
 
 same_points : (p : Point ℕ) → renamed (λ x. x) p ≡ p
 same_points (Port x i) = refl
@@ -56,17 +57,17 @@ pub steps : PlainSteps
 steps p q a b h at to = steps_under_names p q a b (unused p.net.cells) h at (as_least p q a b h.over at to)
 
 pub promised : PlainAsPromised
-promised text p accepted h = each_promised (system_of p.program) (is_sound text p.program accepted) h.reached.0 (net_of p.net) h.reached.1
+promised limits text p accepted h = each_promised (system_of p.program) (is_sound limits text p.program accepted) h.reached.0 (net_of p.net) h.reached.1
 
 -- a net that is reached is sound
-pub plain_is_sound : (text : List ℕ) (p : PlainParts) → IsAccepted text p.program → IsPlain p → IsSound (system_of p.program) (net_of p.net)
-plain_is_sound text p accepted h = sound_reached (system_of p.program) (is_sound text p.program accepted) ℕ_discrete h.reached.0 (net_of p.net) h.reached.1
+pub plain_is_sound : (limits : TextLimits) (text : List ℕ) (p : PlainParts) → IsAccepted limits text p.program → IsPlain p → IsSound (system_of p.program) (net_of p.net)
+plain_is_sound limits text p accepted h = sound_reached (system_of p.program) (is_sound limits text p.program accepted) ℕ_discrete h.reached.0 (net_of p.net) h.reached.1
 
 pub steps_once : PlainStepsAreOne
-steps_once text p q r a b accepted h at few whole other x y = one_step text p a b accepted (plain_is_sound text p accepted h) (promised text p accepted h) h.over at q r few whole other x y
+steps_once limits text p q r a b accepted h at few whole other x y = one_step limits text p a b accepted (plain_is_sound limits text p accepted h) (promised limits text p accepted h) h.over at q r few whole other x y
 
 pub have_their_rule : PairsHaveTheirRule
-have_their_rule text p a b accepted h at =
-    let s = plain_is_sound text p accepted h in
-    let z = promised text p accepted h in
-    (is_pair text p a b accepted s z h.over at, λ i r e for. rule_at text p a b accepted s z h.over at i r e for)
+have_their_rule limits text p a b accepted h at =
+    let s = plain_is_sound limits text p accepted h in
+    let z = promised limits text p accepted h in
+    (is_pair limits text p a b accepted s z h.over at, λ i r e for. rule_at limits text p a b accepted s z h.over at i r e for)

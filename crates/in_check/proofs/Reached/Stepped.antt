@@ -2,7 +2,7 @@
 use Rattle.std.proofs.Common.{◌≡◌, ℕ, List, Some, Result, Ok, Err, slice_get, refl, sym, ◌∙◌, subst}
 use Rattle.std.specs.Prelude.{OnOk, OnErr}
 use Rattle.std.proofs.lemmas.Option.{same_Some}
-use Rattle.in_symbols.specs.declared.symbols.SymbolNo.{SymbolNo}
+use Rattle.in_syntax.specs.declared.symbol_no.SymbolNo.{SymbolNo}
 use Rattle.in_net.specs.declared.nets.AgentNo.{AgentNo}
 use Rattle.in_interaction.specs.Interacting.{CanInteract, Interacts}
 use Rattle.in_net.specs.Parts.{Parts, symbol_in}
@@ -12,12 +12,13 @@ use Rattle.in_check.specs.Checking.{IsAccepted}
 use Rattle.in_check.specs.Plain.{PlainParts, IsPlain, IsPairAt, IsRuleAt, StepsTo}
 use Rattle.in_check.proofs.Reached.PairRules.{fits}
 use Rattle.in_check.proofs.Reached.Plain.{have_their_rule}
+use Rattle.in_syntax.specs.declared.text_limits.TextLimits.{TextLimits}
 
-module _ (text : List ℕ) (p : PlainParts) (a b : AgentNo) (accepted : IsAccepted text p.program) (h : IsPlain p) (at : IsPairAt p a b) where
+module _ (limits : TextLimits) (text : List ℕ) (p : PlainParts) (a b : AgentNo) (accepted : IsAccepted limits text p.program) (h : IsPlain p) (at : IsPairAt p a b) where
   pub pair_of : (c d : SymbolNo) → symbol_in p.net a.0 ≡ Some c → symbol_in p.net b.0 ≡ Some d → IsPair p.program.tables c.0 d.0
   pair_of c d e f =
       subst (λ (z : SymbolNo). IsPair p.program.tables z.0 d.0) (same_Some at.first c (sym at.one ∙ e))
-      (subst (λ (z : SymbolNo). IsPair p.program.tables at.first.0 z.0) (same_Some at.second d (sym at.two ∙ f)) (have_their_rule text p a b accepted h at).0)
+      (subst (λ (z : SymbolNo). IsPair p.program.tables at.first.0 z.0) (same_Some at.second d (sym at.two ∙ f)) (have_their_rule limits text p a b accepted h at).0)
 
   pub rule_is : (c d : SymbolNo) → symbol_in p.net a.0 ≡ Some c → symbol_in p.net b.0 ≡ Some d →
       (k : ℕ) (r : RuleParts) → IsRuleFor p.program.rules k c.0 d.0 → slice_get p.program.rules k ≡ Some r → IsRuleAt p a b k r
@@ -26,7 +27,7 @@ module _ (text : List ℕ) (p : PlainParts) (a b : AgentNo) (accepted : IsAccept
       let here : IsRuleOfSymbols r c.0 d.0 = subst (λ (z : RuleParts). IsRuleOfSymbols z c.0 d.0) same found.symbols in
       let first : IsRuleOfSymbols r at.first.0 d.0 = subst (λ (z : SymbolNo). IsRuleOfSymbols r z.0 d.0) (same_Some c at.first (sym e ∙ at.one)) here in
       let both : IsRuleOfSymbols r at.first.0 at.second.0 = subst (λ (z : SymbolNo). IsRuleOfSymbols r at.first.0 z.0) (same_Some d at.second (sym f ∙ at.two)) first in
-      (have_their_rule text p a b accepted h at).1 k r stands both
+      (have_their_rule limits text p a b accepted h at).1 k r stands both
 
   pub can : (k : ℕ) (r : RuleParts) → IsRuleAt p a b k r → CanInteract p.program.tables p.net r a b
   can k r is = fits p a b h.over at k r is

@@ -8,7 +8,7 @@ use Rattle.std.proofs.lemmas.Option.{same_Some, slice_get_within}
 use Rattle.in_base.proofs.Each.{at_index}
 use Rattle.in_base.proofs.Places.{set_here, set_there}
 use Rattle.in_symbols.specs.Tables.{Tables}
-use Rattle.in_symbols.specs.declared.symbols.SymbolNo.{SymbolNo}
+use Rattle.in_syntax.specs.declared.symbol_no.SymbolNo.{SymbolNo}
 use Rattle.in_net.specs.Rules.{RuleParts}
 use Rattle.in_cover.specs.Cover.{IsComplete, IsPair, IsRuleFor, IsTableOf}
 use Rattle.in_cover.specs.Table.{Cells, rule_at}

@@ -2,7 +2,6 @@
 use Rattle.std.proofs.Common.{◌≡◌, ◌⊎◌, inl, inr, ℕ, Option, Some, None, List, length, slice_get, refl, sym, ap, ◌∙◌, arith}
 use Rattle.std.specs.Prelude.{option_and_then}
 use Rattle.std.proofs.lemmas.Option.{slice_get_within}
-use Rattle.in_arena.specs.declared.content.CellClass.{CellClass}
 use Rattle.in_net.proofs.Public.{all_same}
 use Rattle.in_base.proofs.Each.{at_index}
 use Rattle.in_cover.specs.declared.table.RuleNo.{RuleNo}
@@ -12,18 +11,18 @@ use Rattle.in_check.specs.Programs.{Program}
 use Rattle.in_compile.specs.declared.cells.Need.{Need}
 use Rattle.in_compile.specs.Cells.{count_of}
 use Rattle.in_compile.specs.Laws.{AreAlike}
-use Rattle.in_compile.specs.Templates.{TemplateParts, TemplatesParts, IsMost, IsLargestNeed, AreTemplatesOf}
+use Rattle.in_compile.specs.Templates.{TemplateParts, TemplatesParts, IsMost, cells_needed, IsLargestNeed, AreTemplatesOf}
 use Rattle.in_compile.proofs.Needs.Classes.{same_need}
-use Rattle.in_compile.proofs.Needs.Most.{NeedsIt}
+use Rattle.in_compile.proofs.Needs.Most.{HasIt}
 use Rattle.in_compile.proofs.Compiled.OneTemplate.{one_member, one_template}
 
--- ---- the largest need
+-- ---- the largest need and the most agents
 
-module _ (ts : List TemplateParts) (c : CellClass) where
-  one_most : (n m : ℕ) → IsMost ts c n → IsMost ts c m → n ≡ m
+module _ (ts : List TemplateParts) (count : TemplateParts → ℕ) where
+  pub one_most : (n m : ℕ) → IsMost ts count n → IsMost ts count m → n ≡ m
   one_most n m h g = by_cases h.1 g.1
     where
-      by_cases : ((length ts ≡ 0) × (n ≡ 0)) ⊎ NeedsIt ts c n → ((length ts ≡ 0) × (m ≡ 0)) ⊎ NeedsIt ts c m → n ≡ m
+      by_cases : ((length ts ≡ 0) × (n ≡ 0)) ⊎ HasIt ts count n → ((length ts ≡ 0) × (m ≡ 0)) ⊎ HasIt ts count m → n ≡ m
       by_cases (inl x) (inl y) = x.1 ∙ sym y.1
       by_cases (inl x) (inr y) = absurd (let l = slice_get_within ts y.0 y.1 y.2 in let e = x.0 in omega (arith, l, e))
       by_cases (inr x) (inl y) = absurd (let l = slice_get_within ts x.0 x.1 x.2 in let e = y.0 in omega (arith, l, e))
@@ -35,7 +34,7 @@ module _ (ts : List TemplateParts) (c : CellClass) where
           omega (arith, less, more, e, f)
 
 pub one_largest : (ts : List TemplateParts) (n m : Need) → IsLargestNeed ts n → IsLargestNeed ts m → n ≡ m
-one_largest ts n m h g = same_need n m (λ c. one_most ts c (count_of n c) (count_of m c) (h c) (g c))
+one_largest ts n m h g = same_need n m (λ c. one_most ts (cells_needed c) (count_of n c) (count_of m c) (h c) (g c))
 
 -- ---- the templates
 

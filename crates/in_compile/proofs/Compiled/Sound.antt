@@ -10,9 +10,9 @@ use Rattle.in_arena.specs.declared.content.CellClass.{CellClass}
 use Rattle.in_arena.specs.Classes.{Holds, holds, class_no}
 use Rattle.in_arena.proofs.Public.{same_class}
 use Rattle.in_symbols.specs.Tables.{Tables, arity_of}
-use Rattle.in_symbols.specs.declared.symbols.SymbolNo.{SymbolNo}
+use Rattle.in_syntax.specs.declared.symbol_no.SymbolNo.{SymbolNo}
 use Rattle.in_net.specs.Built.{IsOver, IsCellOver}
-use Rattle.in_net.specs.NetFaults.{max_agents}
+use Rattle.in_syntax.specs.TextLimits.{most_net_agents}
 use Rattle.in_net.specs.declared.nets.Cell.{Cell}
 use Rattle.in_net.specs.declared.nets.FreeEnd.{FreeEnd}
 use Rattle.in_net.specs.declared.nets.Point.{Point}
@@ -100,7 +100,7 @@ module _ (t : Tables) (n : Parts) (m : MemberParts) (of : IsMemberOf t n m) wher
       of.joints (Free e) ∙ sym (end_joint (slice_get n.free e)) ∙ sym (slice_get-map (λ (f : FreeEnd). joint_of f.end) n.free e)) in
       ap length same ∙ length-map n.free (λ (f : FreeEnd). joint_of f.end)
 
-module _ (t : Tables) (n : Parts) (m : MemberParts) (whole : IsWhole n) (over : IsOver t n) (there : AreAllThere n) (few : length n.cells ≤ max_agents) (of : IsMemberOf t n m) where
+module _ (t : Tables) (n : Parts) (m : MemberParts) (whole : IsWhole n) (over : IsOver t n) (there : AreAllThere n) (few : length n.cells ≤ most_net_agents) (of : IsMemberOf t n m) where
   back_by : (p q : Point) (i j : Joint) → joint_of p ≡ i → joint_of q ≡ j → joint_at m i ≡ Some j → joint_at m j ≡ Some i
   back_by p q i j ei ej h =
       let at : option_map joint_of (partner_in n p) ≡ Some j = sym (of.joints p) ∙ ap (joint_at m) ei ∙ h in
@@ -146,4 +146,4 @@ module _ (t : Tables) (n : Parts) (m : MemberParts) (whole : IsWhole n) (over : 
     counts = of.need c ∙ sym (same_count (has_class c) (takes t c) m.agents n.cells (λ k. taken_by k (slice_get m.agents k) (slice_get n.cells k) refl refl))
 
   pub sound : IsSoundMember m
-  sound = record { fits = fits; back = back; counts = counts; few = (let l = few_agents t n m of max_agents few in omega (arith, l)) }
+  sound = record { fits = fits; back = back; counts = counts; few = (let l = few_agents t n m of most_net_agents few in omega (arith, l)) }

@@ -1,4 +1,4 @@
--- The joints of a right member fit in two bytes.
+-- The joints of a right member have slots.
 use Rattle.std.proofs.Common.{◌≡◌, ◌≤◌, ◌<◌, ◌+◌, Option, Some, None, slice_get, refl, ap, subst, ◌∙◌, ℕ, arith}
 use Rattle.std.specs.Prelude.{option_and_then}
 use Rattle.std.proofs.lemmas.Option.{slice_get_within}
@@ -6,9 +6,9 @@ use Rattle.in_arena.specs.Classes.{width}
 use Rattle.in_arena.specs.declared.content.CellClass.{CellClass}
 use Rattle.in_arena.specs.declared.content.CellClass.TheVariants.{Small, Large, Wide}
 use Rattle.in_syntax.specs.Grammar.{max_ports}
-use Rattle.in_symbols.specs.declared.symbols.SymbolNo.{SymbolNo}
+use Rattle.in_syntax.specs.declared.symbol_no.SymbolNo.{SymbolNo}
 use Rattle.in_symbols.specs.Tables.{Tables, arity_of}
-use Rattle.in_net.specs.NetFaults.{max_member_agents}
+use Rattle.in_syntax.specs.TextLimits.{most_member_agents}
 use Rattle.in_net.specs.Parts.{Parts}
 use Rattle.in_net.specs.Rules.{RuleParts}
 use Rattle.in_open_nets_of_programs.specs.OpeningRules.{IsRuleWhole}
@@ -50,7 +50,7 @@ module _ (m : MemberParts) (small : IsSmallMember m) (sound : IsSoundMember m) w
       go (Some a) is at =
           let agent = slice_get_within m.agents k a is in
           let few = small.1 in
-          ((let l : k < max_member_agents = omega (arith, agent, few) in l), port_place m sound (ToAgent k i) p (ap (option_and_then (λ (a : AgentParts). slice_get a.ends i)) is ∙ at))
+          ((let l : k < most_member_agents = omega (arith, agent, few) in l), port_place m sound (ToAgent k i) p (ap (option_and_then (λ (a : AgentParts). slice_get a.ends i)) is ∙ at))
 
   pub small_joint : (p j : Joint) → joint_at m p ≡ Some j → IsSmallJoint j
   small_joint p j at = small_place j p (sound.back p j at)
@@ -64,4 +64,4 @@ small_member t r m n same of whole heads are first second a few b also =
     let ends = whole.ends in
     let one = a ∙ ap (λ (h : SymbolNo × SymbolNo). arity_of t h.0.0) are in
     let other = b ∙ ap (λ (h : SymbolNo × SymbolNo). arity_of t h.1.0) are in
-    (omega (arith, many, ends, one, other, few, also), few_agents t r.member m of_rule max_member_agents whole.few)
+    (omega (arith, many, ends, one, other, few, also), few_agents t r.member m of_rule most_member_agents whole.few)

@@ -7,7 +7,7 @@ use Rattle.in_net.specs.Renewing.{Rejoins}
 use Rattle.in_interaction.specs.Following.{SiteParts, IsSite, IsPartnerAfter}
 use Rattle.in_interaction.specs.Interacting.{unused, numbers_after}
 use Rattle.in_interaction.specs.Listing.{AreEndsOf}
-use Rattle.in_net.specs.NetFaults.{max_member_agents}
+use Rattle.in_syntax.specs.TextLimits.{most_member_agents}
 use Rattle.in_net.specs.Nets as nets
 use Rattle.in_net.specs.Parts.{cell_in}
 use Rattle.in_net.specs.declared.nets.Cell.{Cell}
@@ -102,7 +102,7 @@ old_below cs (suc n) = omega arith
 pub numbers_fit : (s : SiteParts) → IsSite s → numbers_after s.net.cells (length s.rule.member.cells) < 2 ^ 32
 numbers_fit s site = go (length s.rule.member.cells) site.few
   where
-    go : (k : ℕ) → k ≤ max_member_agents → numbers_after s.net.cells k < 2 ^ 32
+    go : (k : ℕ) → k ≤ most_member_agents → numbers_after s.net.cells k < 2 ^ 32
     go zero h = site.whole.agents
     go (suc k) h = let few = few_unused s.net.cells k in let room = site.room in let all = site.whole.agents in omega (arith, few, room, all, h)
 

@@ -4,7 +4,7 @@ use Rattle.std.specs.Prelude.{option_map}
 use Rattle.std.proofs.lemmas.Option.{none-some}
 use Rattle.in_base.specs.Lists.{IsAmong}
 use Rattle.in_symbols.specs.Tables.{Tables}
-use Rattle.in_symbols.specs.declared.symbols.SymbolNo.{SymbolNo}
+use Rattle.in_syntax.specs.declared.symbol_no.SymbolNo.{SymbolNo}
 use Rattle.in_net.specs.ActivePairs.{AreActive, IsActivePair}
 use Rattle.in_interaction.specs.Interacting.{unused, CanInteract, Interacts, InteractsAs}
 use Rattle.in_net.specs.Interactions.{Redex, Side, Outer, Inner, PairPath, stands_for, InnerWire, IsOfPair, IsNaming, IsRedex, AreJoined, IsStep, end_agent, end_place, redex_at}

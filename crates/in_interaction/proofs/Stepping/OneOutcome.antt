@@ -5,7 +5,7 @@ use Rattle.std.proofs.lemmas.Option.{same_Some}
 use Rattle.in_syntax.specs.declared.places.Place.{Place}
 use Rattle.in_symbols.specs.Tables.{Tables}
 use Rattle.in_symbols.specs.declared.symbols.PortType.{PortType}
-use Rattle.in_symbols.specs.declared.symbols.SymbolNo.{SymbolNo}
+use Rattle.in_syntax.specs.declared.symbol_no.SymbolNo.{SymbolNo}
 use Rattle.in_net.specs.ActivePairs.{ArePairsOf, lower_of}
 use Rattle.in_interaction.specs.After.{cell_at}
 use Rattle.in_interaction.specs.Interacting.{MayInteract, CanInteract, Interacts}

@@ -6,7 +6,7 @@ use native.Mathlib.Decide.{ℕ_discrete}
 use Rattle.std.proofs.lemmas.Option.{slice_get_within}
 use Rattle.in_syntax.specs.Grammar.{max_ports}
 use Rattle.in_symbols.specs.Tables.{Tables, arity_of}
-use Rattle.in_symbols.specs.declared.symbols.SymbolNo.{SymbolNo}
+use Rattle.in_syntax.specs.declared.symbol_no.SymbolNo.{SymbolNo}
 use Rattle.in_interaction.specs.After.{AreCellsAfter, IsAgentAfter, StaysAt, IsNewAt, AreFreeAfter, cell_at}
 use Rattle.in_net.specs.Built.{IsOver, IsCellOver}
 use Rattle.in_interaction.specs.Following.{SiteParts, IsSite}

@@ -4,7 +4,7 @@ use Rattle.std.specs.Prelude.{option_map, option_and_then}
 use Rattle.std.specs.List.{AllByRecursion}
 use Rattle.std.proofs.lemmas.Option.{slice_get_within}
 use Rattle.in_symbols.specs.Tables.{Tables, IsSymbol, is_constructor}
-use Rattle.in_symbols.specs.declared.symbols.SymbolNo.{SymbolNo}
+use Rattle.in_syntax.specs.declared.symbol_no.SymbolNo.{SymbolNo}
 use Rattle.in_net.specs.ActivePairs.{AreActive, StandsFirst, IsOrdered, IsActivePair, lower_of, RiseByLower, ArePairsOf}
 use Rattle.in_net.specs.Built.{IsOver, IsCellOver}
 use Rattle.in_net.specs.declared.nets.AgentNo.{AgentNo}

@@ -1,11 +1,10 @@
 -- If no agent and no name of a rule is refused, its wires can be followed; and the symbols of its heads.
 use Rattle.std.proofs.Common.{◌≡◌, ◌∙◌, ℕ, ◌+◌, Bool, true, false, cond, ap, sym, refl, None, arith}
 use Rattle.in_syntax.specs.declared.tree.SourceRule.{SourceRule}
-use Rattle.in_symbols.specs.declared.symbols.SymbolNo.{SymbolNo}
+use Rattle.in_syntax.specs.declared.symbol_no.SymbolNo.{SymbolNo}
 use Rattle.in_symbols.specs.Tables.{Tables, IsSymbol, arity_of}
 use Rattle.in_net.specs.declared.reading.Reading.{Reading}
 use Rattle.in_net.specs.Built.{IsReadFrom}
-use Rattle.in_net.specs.NetFaults.{max_member_agents}
 use Rattle.in_net.specs.Reading.{reading_of}
 use Rattle.in_net.specs.Rules.{symbol_of, is_turned, body_of_rule, written_of, heads_of, IsReadable}
 use Rattle.in_net.specs.Searching.{first_fault}
@@ -14,17 +13,19 @@ use Rattle.in_net.proofs.Refusals.FirstFault.{none_misfit, none_miscounted}
 use Rattle.in_net.proofs.Texts.NetRead.{ends_in}
 use Rattle.in_net.proofs.Texts.ReadFrom as read_from
 use Rattle.in_net.proofs.Wiring.TextWires.{IsGood, read}
+use Rattle.in_syntax.specs.TextLimits.{max_member_agents}
+use Rattle.in_syntax.specs.declared.text_limits.TextLimits.{TextLimits}
 
-pub good : (t : Tables) (r : SourceRule) (q : Reading) → IsReadable t r → q ≡ reading_of t (body_of_rule t r) → None ≡ first_fault max_member_agents t (body_of_rule t r) q → IsGood t (body_of_rule t r)
-good t r q readable is clear =
+pub good : (limits : TextLimits) (t : Tables) (r : SourceRule) (q : Reading) → IsReadable t r → q ≡ reading_of t (body_of_rule t r) → None ≡ first_fault (max_member_agents limits) t (body_of_rule t r) q → IsGood t (body_of_rule t r)
+good limits t r q readable is clear =
     let ready = rule_ready t r readable.known readable.order in
-    let fits = none_misfit max_member_agents t (body_of_rule t r) q clear in
+    let fits = none_misfit (max_member_agents limits) t (body_of_rule t r) q clear in
     record {
       ready = ready;
       small = readable.small;
       heads = rule_heads t r readable.known fits;
       fits = fits;
-      twice = none_miscounted max_member_agents t (body_of_rule t r) ready (clear ∙ ap (first_fault max_member_agents t (body_of_rule t r)) is);
+      twice = none_miscounted (max_member_agents limits) t (body_of_rule t r) ready (clear ∙ ap (first_fault (max_member_agents limits) t (body_of_rule t r)) is);
     }
 
 pub from : (t : Tables) (r : SourceRule) (readable : IsReadable t r) → IsGood t (body_of_rule t r) → IsReadFrom t (ends_in t (body_of_rule t r)) (reading_of t (body_of_rule t r))

@@ -18,6 +18,7 @@ use Rattle.in_net.proofs.Texts.NetRead.{AreHeadsOf}
 use Rattle.in_net.proofs.Texts.Order.{net_rises, rule_rises, rule_order}
 use Rattle.in_net.proofs.Texts.ReadFrom.{IsFew}
 use Rattle.in_base.proofs.Each.{all_at}
+use Rattle.in_syntax.proofs.Public.{free_few, text_few}
 
 -- ---- a net
 
@@ -25,7 +26,7 @@ pub net_ready : (source : Source) (t : Tables) → IsTabled source t → IsFault
 net_ready source t tabled faultless order = record { known = net_known source t tabled; rises = net_rises source.net order.net; order = order.net; differ = free_differ source faultless }
 
 pub net_few : (source : Source) (t : Tables) → IsSized source → IsFew t (body_of source.net)
-net_few source t sized = (let f = sized.free in omega (arith, f), let n = sized.names in omega (arith, n))
+net_few source t sized = (let f = sized.free in omega (arith, f, free_few source.limits), let n = sized.names in omega (arith, n, text_few source.limits))
 
 pub net_heads : (t : Tables) (source : Source) → AreHeadsOf t (body_of source.net)
 net_heads t source = record { apart = tt; inside = λ i w. omega (arith, w); covered = λ i lt. omega (arith, lt) }
@@ -131,6 +132,6 @@ pub readable : (source : Source) (t : Tables) (r : SourceRule) (i : ℕ) → IsS
 readable source t r i sized order tabled is = record {
   known = all_at (IsRuleKnown t.names) source.rules i r tabled.rules is;
   order = all_at IsRuleInOrder source.rules i r order.rules is;
-  few = let less = rule_names source.rules r i is in let few = sized.heads in omega (arith, less, few);
+  few = let less = rule_names source.rules r i is in let few = sized.heads in omega (arith, less, few, text_few source.limits);
   small = are_small source t sized tabled;
 }

@@ -4,7 +4,7 @@ use Rattle.std.proofs.lemmas.Bool.{eqb-true, and_parts}
 use Rattle.std.proofs.lemmas.List.{length-map}
 use Rattle.in_syntax.specs.declared.tree.Term.{Term, out-Term}
 use Rattle.in_syntax.specs.declared.tree.Term.TheFolds.{fold_out-Term}
-use Rattle.in_symbols.specs.declared.symbols.SymbolNo.{SymbolNo}
+use Rattle.in_syntax.specs.declared.symbol_no.SymbolNo.{SymbolNo}
 use Rattle.in_symbols.specs.Names.{number_in}
 use Rattle.in_symbols.specs.Tables.{Tables, arity_of, all_true}
 use Rattle.in_net.specs.Arities.{fits_arity, arities_fit}

@@ -5,7 +5,7 @@ use Rattle.in_syntax.specs.declared.places.Place.{Place}
 use Rattle.in_syntax.specs.declared.tree.Term.{Term, out-Term}
 use Rattle.in_syntax.specs.declared.tree.Equation.{Equation}
 use Rattle.in_syntax.specs.declared.tree.SourceFree.{SourceFree}
-use Rattle.in_symbols.specs.declared.symbols.SymbolNo.{SymbolNo}
+use Rattle.in_syntax.specs.declared.symbol_no.SymbolNo.{SymbolNo}
 use Rattle.in_symbols.specs.Names.{number_in, name_in}
 use Rattle.in_symbols.specs.Tables.{Tables, arity_of}
 use Rattle.in_net.specs.declared.reading.TextSpot.{TextSpot}

@@ -7,7 +7,7 @@ use Rattle.std.proofs.lemmas.Slice.Eq.{bytes_eq-Decides}
 use Rattle.in_syntax.specs.declared.places.Place.{Place}
 use Rattle.in_syntax.specs.declared.tree.Term.{Term, out-Term}
 use Rattle.in_syntax.specs.declared.tree.SourceFree.{SourceFree}
-use Rattle.in_symbols.specs.declared.symbols.SymbolNo.{SymbolNo}
+use Rattle.in_syntax.specs.declared.symbol_no.SymbolNo.{SymbolNo}
 use Rattle.in_net.specs.declared.reading.TextSpot.{TextSpot}
 use Rattle.in_net.specs.declared.reading.TextSpot.TheVariants.{Port, Free, End, Occurrence}
 use Rattle.in_net.specs.declared.reading.Agent.{Agent}

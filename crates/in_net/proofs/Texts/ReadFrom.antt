@@ -1,7 +1,6 @@
 -- The reading of a net is in range, and not too large.
 use Rattle.std.proofs.Common.{◌≡◌, ℕ, suc, ◌+◌, ◌<◌, ◌≤◌, List, [], ◌∷◌, length, refl, sym, subst, arith, get_or}
 use Rattle.std.specs.List.{AllByRecursion}
-use Rattle.in_syntax.specs.Grammar.{max_free}
 use Rattle.in_symbols.specs.Tables.{Tables, arity_of}
 use Rattle.in_net.specs.declared.reading.TextSpot.{TextSpot}
 use Rattle.in_net.specs.declared.reading.TextSpot.TheVariants.{Port, Free, End, Occurrence}
@@ -13,7 +12,7 @@ use Rattle.in_net.specs.Built.{HaveFewPorts, ArePointsAt, IsEnd, IsReadFrom}
 use Rattle.in_net.specs.TextNet.{Body}
 use Rattle.in_net.proofs.Wiring.Links.{all_at}
 use Rattle.in_net.proofs.Texts.NetRead.{IsBodyRead, ends_in, names_in_body}
-use Rattle.in_syntax.specs.Tokens.{text_limit}
+use Rattle.in_syntax.specs.TextLimits.{most_free, most_bytes}
 
 -- a property of each element, one by one
 pub from_each : {X : Type 0} (P : X → Type 0) (xs : List X) (d : X) → ((i : ℕ) → i < length xs → P (get_or xs i d)) → AllByRecursion P xs
@@ -21,7 +20,7 @@ from_each P [] d h = tt
 from_each P (x ∷ xs) d h = (h 0 (omega arith), from_each P xs d (λ i lt. h (suc i) (omega (arith, lt))))
 
 abbrev pub IsFew : Tables → Body → Type 0
-IsFew t b = (ends_in t b ≤ max_free) × (names_in_body b ≤ text_limit)
+IsFew t b = (ends_in t b ≤ most_free) × (names_in_body b ≤ most_bytes)
 
 -- the reading of a body whose numbers of arguments fit
 module _ (t : Tables) (b : Body) (read : IsBodyRead t b (reading_of t b)) where

@@ -26,7 +26,7 @@ use Rattle.in_net.specs.declared.reading.TextSpot.TheVariants as spot
 use Rattle.in_syntax.specs.Answers.{IsOne}
 use Rattle.in_net.specs.Built.{Builds}
 use Rattle.in_net.specs.Building.{nth_agent, nth_spot}
-use Rattle.in_net.specs.NetFaults.{max_agents, max_member_agents, IsNetFaultAt, too_many, misfit, miscounted, HasNoNetFault, HasNoClosedWire, IsFirstNameFault, IsFirstNetFault, of_names, of_wires, IsMiscountedAt, only, third, missing, second, IsAgentMisfitAt, IsHeadMisfitAt}
+use Rattle.in_net.specs.NetFaults.{IsNetFaultAt, too_many, misfit, miscounted, HasNoNetFault, HasNoClosedWire, IsFirstNameFault, IsFirstNetFault, of_names, of_wires, IsMiscountedAt, only, third, missing, second, IsAgentMisfitAt, IsHeadMisfitAt}
 use Rattle.in_net.specs.Reading.{reading_of}
 use Rattle.in_net.specs.Rules.{RuleParts, BuildsRule, BuildsRuleOf, body_of_rule, IsReadable, IsRuleOf}
 use Rattle.in_net.specs.Searching.{first_fault}
@@ -42,6 +42,8 @@ use Rattle.in_net.proofs.Texts.Small.{are_small}
 use Rattle.in_net.proofs.Wiring.Sound.{named}
 use Rattle.in_net.proofs.Texts.TextPlaces.{all_places, text_places, equation_place, term_place, chain_place}
 use Rattle.in_net.proofs.Wiring.TextWires.{IsGood, read, read_whole}
+use Rattle.in_syntax.specs.TextLimits.{max_agents, max_member_agents}
+use Rattle.in_syntax.specs.declared.text_limits.TextLimits.{TextLimits}
 
 -- places that rise begin apart
 pub rising_apart : (ps : List Place) → Rises ps → BeginApart ps
@@ -178,24 +180,24 @@ no_first most t b ready none = by_fault (first_fault most t b (reading_of t b)) 
     by_fault None e = sym e
     by_fault (Some r) e = absurd (none r.code r.place (is_first most t b (reading_of t b) r ready refl (sym e)).0.stands)
 
-good_net : (s : Source) (t : Tables) → IsSized s → IsWrittenInOrder s → Tabulates s (Ok t) → HasNoNetFault max_agents t (body_of s.net) → IsGood t (body_of s.net)
+good_net : (s : Source) (t : Tables) → IsSized s → IsWrittenInOrder s → Tabulates s (Ok t) → HasNoNetFault (max_agents s.limits) t (body_of s.net) → IsGood t (body_of s.net)
 good_net s t sized order tabled none =
     let ready = net_ready s t tabled.0 tabled.1 order in
-    let clear = no_first max_agents t (body_of s.net) ready none in
+    let clear = no_first (max_agents s.limits) t (body_of s.net) ready none in
     record {
       ready = ready;
       small = are_small s t sized tabled.0;
       heads = net_heads t s;
-      fits = none_misfit max_agents t (body_of s.net) (reading_of t (body_of s.net)) clear;
-      twice = none_miscounted max_agents t (body_of s.net) ready clear;
+      fits = none_misfit (max_agents s.limits) t (body_of s.net) (reading_of t (body_of s.net)) clear;
+      twice = none_miscounted (max_agents s.limits) t (body_of s.net) ready clear;
     }
 
-good_rule : (t : Tables) (r : SourceRule) → IsReadable t r → HasNoNetFault max_member_agents t (body_of_rule t r) → IsGood t (body_of_rule t r)
-good_rule t r read none =
+good_rule : (limits : TextLimits) (t : Tables) (r : SourceRule) → IsReadable t r → HasNoNetFault (max_member_agents limits) t (body_of_rule t r) → IsGood t (body_of_rule t r)
+good_rule limits t r read none =
     let ready = rule_ready t r read.known read.order in
-    let clear = no_first max_member_agents t (body_of_rule t r) ready none in
-    let fits = none_misfit max_member_agents t (body_of_rule t r) (reading_of t (body_of_rule t r)) clear in
-    record { ready = ready; small = read.small; heads = rule_heads t r read.known fits; fits = fits; twice = none_miscounted max_member_agents t (body_of_rule t r) ready clear }
+    let clear = no_first (max_member_agents limits) t (body_of_rule t r) ready none in
+    let fits = none_misfit (max_member_agents limits) t (body_of_rule t r) (reading_of t (body_of_rule t r)) clear in
+    record { ready = ready; small = read.small; heads = rule_heads t r read.known fits; fits = fits; twice = none_miscounted (max_member_agents limits) t (body_of_rule t r) ready clear }
 
 -- ---- the net
 
@@ -220,11 +222,11 @@ pub one_built : (s : Source) (t : Tables) → IsSized s → IsWrittenInOrder s �
 one_built s t sized order apart tabled (Ok n) (Ok m) h k =
     let good = good_net s t sized order tabled h.2 in
     same_net t s.net n m (single_wires t (body_of s.net) good (text_apart (body_of s.net) apart)) (agents_apart t (body_of s.net) good) h.1 k.1
-one_built s t sized order apart tabled (Ok n) (Err (Refused r)) h k = not_both max_agents t (body_of s.net) r.code r.place h.2 h.3 k.0
+one_built s t sized order apart tabled (Ok n) (Err (Refused r)) h k = not_both (max_agents s.limits) t (body_of s.net) r.code r.place h.2 h.3 k.0
 one_built s t sized order apart tabled (Ok n) (Err (Memory e)) h k = tt
-one_built s t sized order apart tabled (Err (Refused q)) (Ok m) h k = not_both max_agents t (body_of s.net) q.code q.place k.2 k.3 h.0
+one_built s t sized order apart tabled (Err (Refused q)) (Ok m) h k = not_both (max_agents s.limits) t (body_of s.net) q.code q.place k.2 k.3 h.0
 one_built s t sized order apart tabled (Err (Refused q)) (Err (Refused r)) h k =
-    let same = one_net_fault max_agents t (body_of s.net) q.code r.code q.place r.place apart h.0 k.0 in same_refusal q r same.0 same.1 (h.1 ∙ sym k.1)
+    let same = one_net_fault (max_agents s.limits) t (body_of s.net) q.code r.code q.place r.place apart h.0 k.0 in same_refusal q r same.0 same.1 (h.1 ∙ sym k.1)
 one_built s t sized order apart tabled (Err (Refused q)) (Err (Memory e)) h k = tt
 one_built s t sized order apart tabled (Err (Memory e)) b h k = tt
 
@@ -261,22 +263,22 @@ rule_is t r p q h k e =
     ∙ ap (λ z. let x : RuleParts = record { written = q.written; heads = q.heads; head_places = z; member = p.member } in x) (h.head_places ∙ sym k.head_places)
     ∙ ap (λ z. let x : RuleParts = record { written = q.written; heads = q.heads; head_places = q.head_places; member = z } in x) e
 
-one_rule_of : (t : Tables) (r : SourceRule) → IsReadable t r → IsOne (BuildsRuleOf t r)
-one_rule_of t r ready (Ok p) (Ok q) h k =
-    let good = good_rule t r ready h.2 in
+one_rule_of : (limits : TextLimits) (t : Tables) (r : SourceRule) → IsReadable t r → IsOne (BuildsRuleOf limits t r)
+one_rule_of limits t r ready (Ok p) (Ok q) h k =
+    let good = good_rule limits t r ready h.2 in
     rule_is t r p q h.1 k.1 (same_member t r p.member q.member (single_wires t (body_of_rule t r) good (text_apart (body_of_rule t r) (rule_apart t r ready.order))) (agents_apart t (body_of_rule t r) good) h.1.member k.1.member)
-one_rule_of t r ready (Ok p) (Err (Refused f)) h k = not_both max_member_agents t (body_of_rule t r) f.code f.place h.2 h.3 k.0
-one_rule_of t r ready (Ok p) (Err (Memory e)) h k = tt
-one_rule_of t r ready (Err (Refused f)) (Ok q) h k = not_both max_member_agents t (body_of_rule t r) f.code f.place k.2 k.3 h.0
-one_rule_of t r ready (Err (Refused f)) (Err (Refused g)) h k =
-    let same = one_net_fault max_member_agents t (body_of_rule t r) f.code g.code f.place g.place (rule_apart t r ready.order) h.0 k.0 in same_refusal f g same.0 same.1 (h.1 ∙ sym k.1)
-one_rule_of t r ready (Err (Refused f)) (Err (Memory e)) h k = tt
-one_rule_of t r ready (Err (Memory e)) b h k = tt
+one_rule_of limits t r ready (Ok p) (Err (Refused f)) h k = not_both (max_member_agents limits) t (body_of_rule t r) f.code f.place h.2 h.3 k.0
+one_rule_of limits t r ready (Ok p) (Err (Memory e)) h k = tt
+one_rule_of limits t r ready (Err (Refused f)) (Ok q) h k = not_both (max_member_agents limits) t (body_of_rule t r) f.code f.place k.2 k.3 h.0
+one_rule_of limits t r ready (Err (Refused f)) (Err (Refused g)) h k =
+    let same = one_net_fault (max_member_agents limits) t (body_of_rule t r) f.code g.code f.place g.place (rule_apart t r ready.order) h.0 k.0 in same_refusal f g same.0 same.1 (h.1 ∙ sym k.1)
+one_rule_of limits t r ready (Err (Refused f)) (Err (Memory e)) h k = tt
+one_rule_of limits t r ready (Err (Memory e)) b h k = tt
 
 pub one_rule_built : (s : Source) (t : Tables) (i : ℕ) → IsSized s → IsWrittenInOrder s → Tabulates s (Ok t) → IsOne (BuildsRule s t i)
 one_rule_built s t i sized order tabled a b h k =
     let same : h.0 ≡ k.0 = same_Some h.0 k.0 (sym h.1 ∙ k.1) in
-    one_rule_of t k.0 (readable s t k.0 i sized order tabled.0 k.1) a b (subst (λ r. BuildsRuleOf t r a) same h.2) k.2
+    one_rule_of s.limits t k.0 (readable s t k.0 i sized order tabled.0 k.1) a b (subst (λ r. BuildsRuleOf s.limits t r a) same h.2) k.2
 
 -- ---- of the program of a text
 
@@ -292,7 +294,7 @@ net_apart s apart p q h k e = apart p q (there p h) (there q k) e
     there p h = by_side p (among_either p (map (λ (f : SourceFree). f.name.place) s.net.free) (flat_map equation_places s.net.equations) h)
 
 pub nets_once : NetsAreBuiltOnce
-nets_once s t of_text tabled = one_built s t (tree_sized of_text.text s of_text.tree) (tree_in_order of_text.text s of_text.tree) (net_apart s (texts_begin_apart of_text.text s of_text.tree)) tabled
+nets_once s t of_text tabled = one_built s t (tree_sized s.limits of_text.text s of_text.tree) (tree_in_order s.limits of_text.text s of_text.tree) (net_apart s (texts_begin_apart s.limits of_text.text s of_text.tree)) tabled
 
 pub rules_once : RulesAreBuiltOnce
-rules_once s t i of_text tabled = one_rule_built s t i (tree_sized of_text.text s of_text.tree) (tree_in_order of_text.text s of_text.tree) tabled
+rules_once s t i of_text tabled = one_rule_built s t i (tree_sized s.limits of_text.text s of_text.tree) (tree_in_order s.limits of_text.text s of_text.tree) tabled

@@ -1,5 +1,5 @@
 -- A part's class graph, node by node and wire by wire.
-use Rattle.std.proofs.Common.{◌≡◌, ◌⊎◌, ◌↔◌, ◌<◌, ◌≤◌, ◌+◌, ◌-◌, ◌^◌, ℕ, Bool, false, List, [], ◌∷◌, ◌++◌, Some, length, length-append, refl, sym, subst, ap, inl, inr, ◌∙◌, arith}
+use Rattle.std.proofs.Common.{◌≡◌, ◌⊎◌, ◌↔◌, ◌<◌, ◌≤◌, ◌+◌, ◌-◌, ◌^◌, ℕ, Bool, false, List, [], ◌∷◌, ◌++◌, Some, length, refl, sym, subst, ap, inl, inr, ◌∙◌, arith}
 use Rattle.std.specs.Prelude.{slice_get, slice_index_or}
 use Rattle.std.proofs.Math.ListN.{set}
 use Rattle.std.proofs.lemmas.Bool.{cases_eq, cases_lt, cases_order, false≢true, false_from_ne_true}
@@ -18,11 +18,8 @@ use Rattle.in_open_nets.specs.OpenNets.{OpenNet, IsOpenNet, IsWire, class_in, op
 use Rattle.in_open_nets.specs.Members.{nodes_in}
 use Rattle.in_open_nets.specs.ClassGraphs.{Vertex, Hub, Class, HasClass, IsVertex, IsClassGraph, HubEdgesAreOffCycles, width_of}
 use Rattle.in_open_nets.specs.ClassEdges.{no_hub, vertex_in, hub_edge_in, HaveNumbers, AreHubEdges, AddsHubEdges, ComesFirst, IsEdgeOf, IsPast, ListsNone, AreEdges}
-use Rattle.in_open_nets.specs.Stuck.{ports_of}
 use Rattle.in_open_nets.proofs.Built.Balance.{wire_turn}
 use Rattle.in_open_nets.proofs.Graphs.ClassWalks.{has_class, port_class}
-use Rattle.in_open_nets.proofs.Splits.Search.{in_ports}
-use Rattle.in_open_nets.proofs.PartsOf.Sums.{point_node}
 use Rattle.in_open_nets.proofs.Reached.Reaching.{in_length}
 use Rattle.in_open_nets.proofs.Built.Sound.{port_place}
 use Rattle.in_open_nets.proofs.PartsOf.Places.{at_other, at_set}

@@ -1,7 +1,6 @@
 -- How many numbers below its count are no members of a set.
-use Rattle.std.proofs.Common.{◌≡◌, ◌≤◌, ◌+◌, ◌++◌, ℕ, zero, suc, Bool, true, false, true≢false, List, [], ◌∷◌, length, replicate, refl, sym, subst, ap, arith}
+use Rattle.std.proofs.Common.{◌≡◌, ◌≤◌, ◌+◌, ◌++◌, ℕ, zero, suc, Bool, true, false, true≢false, List, [], ◌∷◌, length, replicate, refl, sym, ap, arith}
 use Rattle.std.proofs.Math.ListN.{set, take}
-use Rattle.std.proofs.lemmas.List.{set-get_or}
 use Rattle.in_open_nets.specs.Constructions.{IsIn}
 use Rattle.in_open_nets.specs.Members.{nodes_in, missing}
 

@@ -56,6 +56,10 @@ pub link_map : (g : Graph) (P R : g.Node → Type 0) → ((k : g.Node) → P k �
 link_map g P R f u v (alone _ h) = alone u (f u h)
 link_map g P R f u v (onward _ m _ i j h w k) = onward u m v i j (f u h) w (link_map g P R f m v k)
 
+-- some wire in the list joins a port of l and one of m
+abbrev pub NextIn : List (OpenPoint × OpenPoint) → ℕ → ℕ → Type 0
+NextIn ws l m = (i : ℕ) × (j : ℕ) × (w : ℕ) × ((slice_get ws w ≡ Some (Port l i, Port m j)) ⊎ (slice_get ws w ≡ Some (Port m j, Port l i)))
+
 module _ (o : OpenNet) where
   pub link_snoc : (P : ℕ → Type 0) (u l m : ℕ) (i j w : ℕ) → Linked (open_graph o) P u l → IsWire o w (Port l i) (Port m j) → P m → Linked (open_graph o) P u m
   link_snoc P u l m i j w (alone _ h) g k = onward u m m i j h (w, g) (alone m k)
@@ -74,9 +78,6 @@ module _ (o : OpenNet) where
   ]
   is_pair (Port a i) (Free k) l m = inr (λ r. let b' : ◌≡◌ {A = OpenPoint} (Free k) (Port m r.1) = r.3 in cc)
   is_pair (Free k) q l m = inr (λ r. let b' : ◌≡◌ {A = OpenPoint} (Free k) (Port l r.0) = r.2 in cc)
-
-  abbrev NextIn : List (OpenPoint × OpenPoint) → ℕ → ℕ → Type 0
-  NextIn ws l m = (i : ℕ) × (j : ℕ) × (w : ℕ) × ((slice_get ws w ≡ Some (Port l i, Port m j)) ⊎ (slice_get ws w ≡ Some (Port m j, Port l i)))
 
   next_in : (ws : List (OpenPoint × OpenPoint)) (l m : ℕ) → Decided (NextIn ws l m)
   next_in [] l m = inr (λ r. elim r.3 [ inl h ↦ cc | inr h ↦ cc ])

@@ -1,7 +1,7 @@
 -- The calls on sets of nodes have one result.
 use Rattle.std.proofs.Common.{◌≡◌, ◌⊎◌, ◌≤◌, ◌∙◌, inl, inr, ℕ, suc, Bool, false, List, [], ◌∷◌, length, Some, None, refl, sym, subst, ap, arith}
 use Rattle.std.proofs.lemmas.List.{ext_get_or}
-use Rattle.in_open_nets.specs.Laws.{ComponentIsOne, FirstSplittingIsOne, MembersAreListedOnce, RestIsOne, SetIsItsMembers, UnionIsOne}
+use Rattle.in_open_nets.specs.Laws.{FirstSplittingIsOne, MembersAreListedOnce, RestIsOne, SetIsItsMembers}
 use Rattle.in_open_nets.specs.Members.{nodes_in}
 use Rattle.in_open_nets.specs.OpenNets.{OpenNet}
 use Rattle.in_open_nets.specs.Parts.{IsFirst, NoneSplits}
@@ -16,14 +16,8 @@ use Rattle.in_open_nets.proofs.PartsOf.Sums.{same_test}
 pub same_members : SetIsItsMembers
 same_members a b size same = ext_get_or false a b size (λ k l. same_test (nodes_in a k) (nodes_in b k) (same k).0 (same k).1)
 
-pub one_component : ComponentIsOne
-one_component o within from a b size size' h g = same_members a b (size ∙ sym size') (λ k. ((λ x. (g k).1 ((h k).0 x)), λ x. (h k).1 ((g k).0 x)))
-
 pub one_rest : RestIsOne
 one_rest n part a b size size' h g = same_members a b (size ∙ sym size') (λ k. ((λ x. (g k).1 ((h k).0 x)), λ x. (h k).1 ((g k).0 x)))
-
-pub one_union : UnionIsOne
-one_union more old a b size size' h g = ext_get_or false a b (size ∙ sym size') (λ k l. h k ∙ sym (g k))
 
 -- ---- the first node that splits a set
 

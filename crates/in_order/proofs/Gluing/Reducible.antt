@@ -12,9 +12,9 @@ use Rattle.in_order.specs.Reducible.{PlainIsReducible, ReducibleSteps, Reducible
 use Rattle.in_order.proofs.Gluing.Sound.{sound_is_promised, sound_steps}
 
 pub reducible_steps_under_names : ReducibleStepsUnderNames
-reducible_steps_under_names text p q a b name accepted h at to =
+reducible_steps_under_names limits text p q a b name accepted h at to =
     let act = acts_of p q a b name at to in
-    let sound : IsSound (system_of p.program) (net_of q.net) = sound_steps (system_of p.program) (net_of p.net) (redex_at to.rule a.0 b.0) name (net_of q.net) (is_sound text p.program accepted) h.sound act in (
+    let sound : IsSound (system_of p.program) (net_of q.net) = sound_steps (system_of p.program) (net_of p.net) (redex_at to.rule a.0 b.0) name (net_of q.net) (is_sound limits text p.program accepted) h.sound act in (
       record {
         sound = subst (λ z. IsSound (system_of z) (net_of q.net)) (sym to.program) sound;
         over = subst (λ z. IsOver z.tables q.net) (sym to.program) to.acts.over;
@@ -23,18 +23,18 @@ reducible_steps_under_names text p q a b name accepted h at to =
     )
 
 pub reducible_steps : ReducibleSteps
-reducible_steps text p q a b accepted h at to = reducible_steps_under_names text p q a b (unused p.net.cells) accepted h at (as_least p q a b h.over at to)
+reducible_steps limits text p q a b accepted h at to = reducible_steps_under_names limits text p q a b (unused p.net.cells) accepted h at (as_least p q a b h.over at to)
 
 pub reducible_as_promised : ReducibleAsPromised
-reducible_as_promised text p accepted h = sound_is_promised (system_of p.program) (net_of p.net) (is_sound text p.program accepted) h.sound
+reducible_as_promised limits text p accepted h = sound_is_promised (system_of p.program) (net_of p.net) (is_sound limits text p.program accepted) h.sound
 
 pub reducible_steps_are_one : ReducibleStepsAreOne
-reducible_steps_are_one text p q r a b accepted h at few whole other x y = one_step text p a b accepted h.sound (reducible_as_promised text p accepted h) h.over at q r few whole other x y
+reducible_steps_are_one limits text p q r a b accepted h at few whole other x y = one_step limits text p a b accepted h.sound (reducible_as_promised limits text p accepted h) h.over at q r few whole other x y
 
 pub reducible_pairs_have_their_rule : ReduciblePairsHaveTheirRule
-reducible_pairs_have_their_rule text p a b accepted h at =
-    let z = reducible_as_promised text p accepted h in
-    (is_pair text p a b accepted h.sound z h.over at, λ i r e for. rule_at text p a b accepted h.sound z h.over at i r e for)
+reducible_pairs_have_their_rule limits text p a b accepted h at =
+    let z = reducible_as_promised limits text p accepted h in
+    (is_pair limits text p a b accepted h.sound z h.over at, λ i r e for. rule_at limits text p a b accepted h.sound z h.over at i r e for)
 
 pub plain_is_reducible : PlainIsReducible
-plain_is_reducible text p accepted h = record { sound = plain_is_sound text p accepted h; over = h.over }
+plain_is_reducible limits text p accepted h = record { sound = plain_is_sound limits text p accepted h; over = h.over }

@@ -104,7 +104,7 @@ module _ (m rest part rest_after part_after after : MachineParts) (agents : List
   open given use {reducer, reducer_rest, reducer_part, off, first, second, glued}
 
   good : IsSoundSystem (system_of m.program)
-  good = is_sound reducer.accepted.0 m.program reducer.accepted.1
+  good = is_sound reducer.accepted.0 reducer.accepted.1 m.program reducer.accepted.2
 
   whole_program : after.program ≡ m.program
   whole_program = sym glued.two.program_rest ∙ first.program ∙ off.two.program_rest

@@ -10,7 +10,7 @@ use Rattle.in_arena.specs.States.{word_of}
 use Rattle.in_arena.specs.declared.content.End.{End}
 use Rattle.in_reducer.specs.Limiting.{AreAllowed}
 use Rattle.in_symbols.specs.declared.symbols.PortType.{PortType}
-use Rattle.in_symbols.specs.declared.symbols.SymbolNo.{SymbolNo}
+use Rattle.in_syntax.specs.declared.symbol_no.SymbolNo.{SymbolNo}
 use Rattle.in_symbols.specs.Tables.{Tables, IsSymbol}
 use Rattle.in_net.specs.declared.nets.AgentNo.{AgentNo}
 use Rattle.in_net.specs.declared.nets.FreeEnd.{FreeEnd}

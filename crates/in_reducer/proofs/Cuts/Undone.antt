@@ -24,7 +24,7 @@ joints_undo_cuts m n o c i k h cut program lead = (
 )
   where
     good : IsSoundSystem (system_of m.program)
-    good = is_sound h.accepted.0 m.program h.accepted.1
+    good = is_sound h.accepted.0 h.accepted.1 m.program h.accepted.2
 
     leads : (w : Net ℕ) → IsJoinedOnce (net_in o) w → Leads (system_of m.program) k (net_in m) w
     leads w joined = cut_leads_are_joined (system_of m.program) k (net_in m) (net_in n) (net_in o) w good h.net.sound cut.cut lead joined

@@ -144,7 +144,7 @@ module _ (m n : MachineParts) (h : IsReducer m) (f : ℕ → ℕ) (same : IsSame
 
   pub reducer_same : IsReducer n
   reducer_same = record {
-    accepted = (h.accepted.0, subst (λ (z : Program). IsAccepted h.accepted.0 z) (sym same.program) h.accepted.1);
+    accepted = (h.accepted.0, h.accepted.1, subst (λ (z : Program). IsAccepted h.accepted.0 h.accepted.1 z) (sym same.program) h.accepted.2);
     net = record {
       sound = subst (λ (z : Program). IsSound (system_of z) (net_of (parts_of n))) (sym same.program) sound;
       over = subst (λ (z : Program). IsOver z.tables (parts_of n)) (sym same.program) (over_under m.program.tables f (parts_of m) (parts_of n) same.net h.net.over);

@@ -3,7 +3,7 @@ use Rattle.std.proofs.Common.{◌≡◌, ◌≤◌, ◌<◌, ◌+◌, ℕ, zero,
 use native.Mathlib.Decide.{ℕ_discrete}
 use Rattle.std.proofs.lemmas.Option.{same_Some}
 use Rattle.in_symbols.specs.declared.symbols.PortType.{PortType}
-use Rattle.in_symbols.specs.declared.symbols.SymbolNo.{SymbolNo}
+use Rattle.in_syntax.specs.declared.symbol_no.SymbolNo.{SymbolNo}
 use Rattle.in_net.specs.declared.nets.Cell.{Cell}
 use Rattle.in_net.specs.declared.nets.FreeEnd.{FreeEnd}
 use Rattle.in_net.specs.declared.nets.Point as points

@@ -283,7 +283,7 @@ module _ (f : ℕ → ℕ) (m n o u : MachineParts) (i : ℕ) (reducer : IsReduc
 
   rule_is : z.step.rule ≡ s.step.rule
   rule_is =
-      one_rule reducer.accepted.0 m.program reducer.accepted.1 (plain_of n) (agents_at (both f s.pair)).0 (agents_at (both f s.pair)).1 z.step.number s.step.number z.step.rule s.step.rule same.program
+      one_rule reducer.accepted.0 reducer.accepted.1 m.program reducer.accepted.2 (plain_of n) (agents_at (both f s.pair)).0 (agents_at (both f s.pair)).1 z.step.number s.step.number z.step.rule s.step.rule same.program
       (subst (λ (q : ℕ × ℕ). IsRuleAt (plain_of n) (agents_at q).0 (agents_at q).1 z.step.number z.step.rule) pair_is z.step.is_rule) (rule_moved f m n same s.pair s.step.number s.step.rule s.step.is_rule)
 
   x : Acts m.program m s.pair s.step.rule o

@@ -10,7 +10,7 @@ use Rattle.in_arena.specs.Classes.{all_of, classes, holds}
 use Rattle.in_arena.specs.declared.content.CellClass.{CellClass}
 use Rattle.in_syntax.specs.Grammar.{max_ports}
 use Rattle.in_symbols.specs.Tables.{Tables, arity_of, is_constructor}
-use Rattle.in_symbols.specs.declared.symbols.SymbolNo.{SymbolNo}
+use Rattle.in_syntax.specs.declared.symbol_no.SymbolNo.{SymbolNo}
 use Rattle.in_net.specs.declared.nets.AgentNo.{AgentNo}
 use Rattle.in_net.specs.declared.nets.Cell.{Cell}
 use Rattle.in_net.specs.declared.nets.Point as coded
@@ -215,14 +215,14 @@ module _ (p : Program) (n : Parts) (promised : IsAsPromised (system_of p) (net_o
 
 module _ (m : MachineParts) (h : IsReducer m) where
   pub reducer_promised : IsAsPromised (system_of m.program) (net_of (parts_of m))
-  reducer_promised = reducible_as_promised h.accepted.0 (plain_of m) h.accepted.1 h.net
+  reducer_promised = reducible_as_promised h.accepted.0 h.accepted.1 (plain_of m) h.accepted.2 h.net
 
   pub reducer_queue : IsQueue (net_of (parts_of m)) m.queue
   reducer_queue = is_queue m.program (parts_of m) reducer_promised m.queue h.queue
 
   pub few_agents : count_by is_some m.agents ≤ all_of h.cells.0
   few_agents =
-      let a = all_classes m.program.tables (few_ports h.accepted.0 m.program h.accepted.1) m.agents in
+      let a = all_classes m.program.tables (few_ports h.accepted.0 h.accepted.1 m.program h.accepted.2) m.agents in
       let each = sum_at_most (λ c. machines.agents_of m.program.tables c m.agents) h.cells.0 (λ c. (let all = h.cells.2 c in omega (arith, all))) in
       omega (arith, a, each)
 

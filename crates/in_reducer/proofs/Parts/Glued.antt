@@ -22,7 +22,7 @@ use Rattle.in_reducer.specs.declared.body.Body.{Body}
 use Rattle.in_reducer.specs.declared.body.OwnEnd.{OwnEnd}
 use Rattle.in_reducer.specs.Gluing.{CanAppend, glued}
 use Rattle.in_reducer.specs.Cutting.{net_in}
-use Rattle.in_reducer.specs.Inside.{IsOwnEnd, KeepsNet, declared_as, most_ends, most_free, own_free, reducer_view}
+use Rattle.in_reducer.specs.Inside.{IsOwnEnd, KeepsNet, declared_as, most_ends, most_free_ends, own_free, reducer_view}
 use Rattle.in_reducer.specs.Machines.{MachineParts}
 use Rattle.in_reducer.specs.Parting.{IsGluedOn, ends_of_two, names_of, names_of_two, place_of_two}
 use Rattle.in_reducer.specs.Reducers.{IsReducer}
@@ -184,7 +184,7 @@ module _ (r o : Body) (k : KeepsNet r) (l : KeepsNet o) (can : CanAppend (reduce
       pub few_pairs : length r.queue.items + length o.queue.items ≤ r.queue.room
       few_pairs = together.few_pairs r o k l can agents live (number_in rest_numbers) a anew part_numbers names b copied (ends_of_two own cuts) new list queue is_queue stand
 
-      pub few_free : own + cuts + cuts ≤ most_free → length new ≤ most_free
+      pub few_free : own + cuts + cuts ≤ most_free_ends → length new ≤ most_free_ends
       few_free low = let e = many_new in omega (arith, e, low)
 
       -- there is room after the free ends

@@ -13,7 +13,7 @@ use Rattle.in_arena.specs.declared.content.End.{End}
 use Rattle.in_arena.specs.declared.content.End.TheVariants as end
 use Rattle.in_arena.proofs.Public.{state_inside, word_live}
 use Rattle.in_symbols.specs.Tables.{Tables, arity_of}
-use Rattle.in_symbols.specs.declared.symbols.SymbolNo.{SymbolNo}
+use Rattle.in_syntax.specs.declared.symbol_no.SymbolNo.{SymbolNo}
 use Rattle.in_net.specs.declared.nets.FreeEnd.{FreeEnd}
 use Rattle.in_net.specs.Nets.{Port, Free, Net, signature_of}
 use Rattle.in_net.specs.Parts.{symbol_in}

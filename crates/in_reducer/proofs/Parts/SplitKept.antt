@@ -23,7 +23,7 @@ use Rattle.in_reducer.specs.declared.body.Body.{Body}
 use Rattle.in_reducer.specs.declared.body.OwnEnd.{OwnEnd}
 use Rattle.in_reducer.specs.declared.tools.Tools.{Tools}
 use Rattle.in_reducer.specs.Cutting.{net_in}
-use Rattle.in_reducer.specs.Inside.{AreTools, IsOwnEnd, KeepsNet, declared_as, most_free, own_free, reducer_view}
+use Rattle.in_reducer.specs.Inside.{AreTools, IsOwnEnd, KeepsNet, declared_as, most_free_ends, own_free, reducer_view}
 use Rattle.in_reducer.specs.Limiting.{AreAllowed, most_cells}
 use Rattle.in_reducer.specs.Machines.{parts_of}
 use Rattle.in_reducer.specs.Parting.{CanSplit, IsSplitButQueues, IsSplitOff, ends_of_two}
@@ -227,11 +227,11 @@ module _ (r : Body) (k : KeepsNet r) (agents : List CellNo) (own cuts : ℕ) (ca
 
   -- ---- both are kept
 
-  few_free : own + (cuts + cuts) ≤ most_free
+  few_free : own + (cuts + cuts) ≤ most_free_ends
   few_free = let a = before.whole r k agents own cuts can in let b = before.many r k in let c = k.few_free in omega (arith, a, b, c)
 
-  pub rest_few : length x.rest_free ≤ most_free
+  pub rest_few : length x.rest_free ≤ most_free_ends
   rest_few = let a = few_free in let b = h.rest_free.count in omega (arith, a, b)
 
-  pub part_few : length x.part_free ≤ most_free
+  pub part_few : length x.part_free ≤ most_free_ends
   part_few = let a = few_free in let b = h.part_free.count in omega (arith, a, b)

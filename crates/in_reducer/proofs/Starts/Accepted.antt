@@ -4,7 +4,7 @@ use Rattle.std.proofs.Common.{◌≡◌, ℕ, List, Option, Some, slice_get, ref
 use Rattle.std.specs.Prelude.{option_map}
 use Rattle.std.proofs.lemmas.Option.{same_Some}
 use Rattle.in_symbols.specs.Tables.{Tables, IsSymbol}
-use Rattle.in_symbols.specs.declared.symbols.SymbolNo.{SymbolNo}
+use Rattle.in_syntax.specs.declared.symbol_no.SymbolNo.{SymbolNo}
 use Rattle.in_net.specs.declared.nets.AgentNo.{AgentNo}
 use Rattle.in_net.specs.Built.{IsOver, HaveFewPorts}
 use Rattle.in_net.specs.Nets.{net_of}
@@ -22,10 +22,11 @@ use Rattle.in_check.specs.Promises.{IsAsPromised}
 use Rattle.in_check.specs.Systems.{system_of}
 use Rattle.in_check.proofs.Public.{program_of, is_sound, starts, promised}
 use Rattle.in_compile.proofs.Public.Accepted as rules
+use Rattle.in_syntax.specs.declared.text_limits.TextLimits.{TextLimits}
 
-module _ (text : List ℕ) (p : Program) (accepted : IsAccepted text p) where
-  of : IsProgramOf text p
-  of = program_of text p accepted
+module _ (limits : TextLimits) (text : List ℕ) (p : Program) (accepted : IsAccepted limits text p) where
+  of : IsProgramOf limits text p
+  of = program_of limits text p accepted
 
   pub net_over : IsOver p.tables p.net
   net_over = of.builds.0
@@ -37,7 +38,7 @@ module _ (text : List ℕ) (p : Program) (accepted : IsAccepted text p) where
   net_whole = of.builds.1.whole
 
   pub few_ports : HaveFewPorts p.tables
-  few_ports = are_small of.source p.tables (tree_sized text of.source of.parses) of.tabulates.0
+  few_ports = are_small of.source p.tables (tree_sized limits text of.source of.parses) of.tabulates.0
 
   pub net_over_at : (t : Tables) (n : Parts) → t ≡ p.tables → n ≡ p.net → IsOver t n
   net_over_at t n e f = subst (λ (t : Tables). IsOver t n) (sym e) (subst (λ (n : Parts). IsOver p.tables n) (sym f) net_over)
@@ -46,23 +47,23 @@ module _ (text : List ℕ) (p : Program) (accepted : IsAccepted text p) where
   net_there_at n f = subst (λ (n : Parts). AreAllThere n) (sym f) net_there
 
   pub net_promised : IsAsPromised (system_of p) (net_of p.net)
-  net_promised = promised text (record { program = p; net = p.net }) accepted (starts p net_over).0
+  net_promised = promised limits text (record { program = p; net = p.net }) accepted (starts p net_over).0
 
   pub known_in_net : (x : ℕ) (s : SymbolNo) → symbol_in p.net x ≡ Some s → IsSymbol p.tables s.0
-  known_in_net x s e = (is_sound text p accepted).start.within x s.0 (ap (λ (o : Option SymbolNo). option_map (λ (s : SymbolNo). s.0) o) e)
+  known_in_net x s e = (is_sound limits text p accepted).start.within x s.0 (ap (λ (o : Option SymbolNo). option_map (λ (s : SymbolNo). s.0) o) e)
 
   module _ (k : ℕ) (r : RuleParts) (stands : slice_get p.rules k ≡ Some r) where
     rule_over : IsRuleOver p.tables r
-    rule_over = rules.rule_over text p accepted k r stands
+    rule_over = rules.rule_over limits text p accepted k r stands
 
     pub member_over : IsOver p.tables r.member
     member_over = rule_over.member
 
     pub member_there : AreAllThere r.member
-    member_there = (rules.whole_rule text p accepted k r stands).there
+    member_there = (rules.whole_rule limits text p accepted k r stands).there
 
     pub member_whole : IsWhole r.member
-    member_whole = rules.member_whole text p accepted k r stands
+    member_whole = rules.member_whole limits text p accepted k r stands
 
     -- the same of equal tables and parts
     pub over_at : (t : Tables) (n : Parts) → t ≡ p.tables → n ≡ r.member → IsOver t n

@@ -8,7 +8,7 @@ use Rattle.in_arena.specs.declared.content.CellNo.{CellNo}
 use Rattle.in_arena.specs.declared.content.End.{End}
 use Rattle.in_arena.proofs.Public.{empty_is_of}
 use Rattle.in_net.specs.declared.nets.FreeEnd.{FreeEnd}
-use Rattle.in_net.specs.NetFaults.{max_member_agents}
+use Rattle.in_syntax.specs.TextLimits.{most_member_agents}
 use Rattle.in_check.specs.Programs.{Program}
 use Rattle.in_compile.specs.declared.joints.Joint.{Joint}
 use Rattle.in_compile.specs.Placing.{PlacedParts}
@@ -24,11 +24,11 @@ none_of : (b a : ArenaView) → b ≡ empty_bag a → IsNoneOf b a
 none_of b a e = subst (λ (v : ArenaView). IsNoneOf v a) (sym e) ((empty_is_of a).0, none_in_empty a)
 
 -- tools of an arena that hold nothing
-pub are_tools : (x : Tools) (a : ArenaView) (room : ℕ) → x.placed ≡ record { cells = []; bag = empty_bag a; room = room } → max_member_agents ≤ room → x.made.items ≡ [] → most_ends ≤ vec_capacity x.made
+pub are_tools : (x : Tools) (a : ArenaView) (room : ℕ) → x.placed ≡ record { cells = []; bag = empty_bag a; room = room } → most_member_agents ≤ room → x.made.items ≡ [] → most_ends ≤ vec_capacity x.made
     → most_points ≤ length x.points.items → AreTools x a
 are_tools x a room placed fits none made points = record {
   placed = none_of x.placed.bag a (ap (λ (p : PlacedParts). p.bag) placed);
-  room = subst (λ (n : ℕ). max_member_agents ≤ n) (sym (ap (λ (p : PlacedParts). p.room) placed)) fits;
+  room = subst (λ (n : ℕ). most_member_agents ≤ n) (sym (ap (λ (p : PlacedParts). p.room) placed)) fits;
   made = none;
   made_room = made;
   points = points;

@@ -24,15 +24,16 @@ use Rattle.in_reducer.specs.Standing.{agents_in, at_rest, leading_to, vacant_in}
 use Rattle.in_reducer.specs.Starts.{IsStart}
 use Rattle.in_reducer.proofs.Starts.StartNet.{cells_after, few_joints, is_start, net_in_cells, none_after, own_many}
 use Rattle.in_reducer.proofs.Starts.Started.{start_reducer}
+use Rattle.in_syntax.specs.declared.text_limits.TextLimits.{TextLimits}
 
 -- the start that is read is the member of the program's net
 pub member_is : (p : Program) (ts : TemplatesParts) (m : MemberParts) → AreTemplatesOf p ts → m ≡ ts.start → IsMemberOf p.tables p.net m
 member_is p ts m of e = subst (IsMemberOf p.tables p.net) (sym e) of.start
 
 -- the net of an accepted program is put into cells that were all free, and the reducer's lists are those of this net
-pub record HoldsStart (text : List ℕ) (x : Body) (ts : TemplatesParts) (m : MemberParts) (cells : CellCounts) (a : ArenaView) (ns : List CellNo) : Type 0 where
+pub record HoldsStart (limits : TextLimits) (text : List ℕ) (x : Body) (ts : TemplatesParts) (m : MemberParts) (cells : CellCounts) (a : ArenaView) (ns : List CellNo) : Type 0 where
   -- the check accepts the program's text
-  pub accepted : IsAccepted text x.checked.now.program
+  pub accepted : IsAccepted limits text x.checked.now.program
   -- these are the program's templates
   pub templates : AreTemplatesOf x.checked.now.program ts
   -- this is the member for its net
@@ -54,7 +55,7 @@ pub record HoldsStart (text : List ℕ) (x : Body) (ts : TemplatesParts) (m : Me
   -- the free ends are those of the program's net
   pub free : own_free x ≡ x.checked.now.program.net.free
 
-module _ (text : List ℕ) (x : Body) (ts : TemplatesParts) (m : MemberParts) (cells : CellCounts) (a : ArenaView) (ns : List CellNo) (given : HoldsStart text x ts m cells a ns) where
+module _ (limits : TextLimits) (text : List ℕ) (x : Body) (ts : TemplatesParts) (m : MemberParts) (cells : CellCounts) (a : ArenaView) (ns : List CellNo) (given : HoldsStart limits text x ts m cells a ns) where
   open given use {accepted, templates, start, few, same, empty, put, first, long, queue, free}
 
   member : IsMemberOf x.checked.now.program.tables x.checked.now.program.net m
@@ -62,7 +63,7 @@ module _ (text : List ℕ) (x : Body) (ts : TemplatesParts) (m : MemberParts) (c
 
   pub starts : IsStart x.checked.now.program cells (reducer_view x)
   starts = subst (λ (fs : List FreeEnd). IsStart x.checked.now.program cells (record { program = x.checked.now.program; agents = agents_in x.arena; free = leading_to fs x.ends.items; queue = x.queue.items; vacant = vacant_in (at_rest x.arena) })) (sym free)
-      (is_start text x.checked.now.program accepted m member ns a x.arena cells same empty put x.ends.items first long x.queue.items queue)
+      (is_start limits text x.checked.now.program accepted m member ns a x.arena cells same empty put x.ends.items first long x.queue.items queue)
 
   module _ (room : all_of cells + 2 * most_ends ≤ 2 * x.queue.room + 1) (tools : AreTools x.tools a) where
     still_none : (b : ArenaView) → IsNoneOf b a → IsNoneOf b x.arena
@@ -85,25 +86,25 @@ module _ (text : List ℕ) (x : Body) (ts : TemplatesParts) (m : MemberParts) (c
     }
 
     cells_there : x.arena.cells ≡ cells
-    cells_there = cells_after text x.checked.now.program accepted m member ns a x.arena cells same empty put
+    cells_there = cells_after limits text x.checked.now.program accepted m member ns a x.arena cells same empty put
 
     -- as many free ends as the program has
     free_many : length x.free.items ≡ length m.joints
-    free_many = sym (length-map x.free.items (declared_as x.checked.now.program)) ∙ ap length free ∙ sym (own_many text x.checked.now.program accepted m member)
+    free_many = sym (length-map x.free.items (declared_as x.checked.now.program)) ∙ ap length free ∙ sym (own_many limits text x.checked.now.program accepted m member)
 
     pub is_kept : ((k : ℕ) (e : OwnEnd) → slice_get x.free.items k ≡ Some e → IsOwnEnd x.checked.now.program e) → IsKept x
     is_kept own = record {
       all = record {
         net = record {
-          reducer = start_reducer text x.checked.now.program accepted cells few (reducer_view x) starts;
-          net = net_in_cells text x.checked.now.program accepted m member ns a x.arena cells same empty put;
+          reducer = start_reducer limits text x.checked.now.program accepted cells few (reducer_view x) starts;
+          net = net_in_cells limits text x.checked.now.program accepted m member ns a x.arena cells same empty put;
           few = subst AreAllowed (sym cells_there) few;
-          few_free = (let e = free_many in let l = few_joints text x.checked.now.program accepted m member in omega (arith, e, l));
+          few_free = (let e = free_many in let l = few_joints limits text x.checked.now.program accepted m member in omega (arith, e, l));
           free = own;
           ends = (let e = free_many in omega (arith, e, long));
           queue = (let e = ap all_of cells_there in omega (arith, e, room));
         };
         tools = tools_there;
       };
-      none = none_after text x.checked.now.program accepted m member ns a x.arena cells same empty put;
+      none = none_after limits text x.checked.now.program accepted m member ns a x.arena cells same empty put;
     }

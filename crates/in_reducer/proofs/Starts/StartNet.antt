@@ -13,7 +13,7 @@ use Rattle.in_arena.specs.declared.content.CellCounts.{CellCounts}
 use Rattle.in_arena.specs.declared.content.CellNo.{CellNo}
 use Rattle.in_arena.specs.declared.content.End.{End}
 use Rattle.in_arena.specs.declared.content.End.TheVariants as end
-use Rattle.in_syntax.specs.Grammar.{max_free}
+use Rattle.in_syntax.specs.TextLimits.{most_free}
 use Rattle.in_symbols.specs.Tables.{Tables, arity_of}
 use Rattle.in_net.specs.declared.nets.FreeEnd.{FreeEnd}
 use Rattle.in_net.specs.Built.{IsOver}
@@ -50,6 +50,7 @@ use Rattle.in_reducer.proofs.Pairs.Queues.{all_classes, half_of}
 use Rattle.in_reducer.proofs.Cells.Shown.{is_over, partner_seen, same_kinds, same_names, seen, symbol_seen}
 use Rattle.in_reducer.proofs.Starts.Started.{net_at, sound_at}
 use Rattle.in_reducer.proofs.Steps.StillNet.{begun_good, begun_unleased, net_in}
+use Rattle.in_syntax.specs.declared.text_limits.TextLimits.{TextLimits}
 
 -- ---- an empty arena
 
@@ -112,24 +113,24 @@ was_some f (Some w) v h = (w, refl)
 
 -- ---- the program's net
 
-module _ (text : List ℕ) (p : Program) (accepted : IsAccepted text p) (m : MemberParts) (of : IsMemberOf p.tables p.net m) where
+module _ (limits : TextLimits) (text : List ℕ) (p : Program) (accepted : IsAccepted limits text p) (m : MemberParts) (of : IsMemberOf p.tables p.net m) where
   over : IsOver p.tables p.net
-  over = net_over text p accepted
+  over = net_over limits text p accepted
 
   net : IsNet (signature_of p.tables) (net_of p.net)
-  net = net_at text p accepted
+  net = net_at limits text p accepted
 
   pub own_many : length m.joints ≡ length p.net.free
   own_many = joints_many p.tables p.net m of
 
-  pub few_joints : length m.joints ≤ max_free
-  few_joints = let l = (net_whole text p accepted).ends in let e = own_many in omega (arith, l, e)
+  pub few_joints : length m.joints ≤ most_free
+  few_joints = let l = (net_whole limits text p accepted).ends in let e = own_many in omega (arith, l, e)
 
   -- it has no more active pairs than half of the cells
   pub few_pairs : (cells : CellCounts) → ((c : CellClass) → agents_of p.tables c p.net.cells ≤ amount cells c) → 2 * length m.pairs ≤ all_of cells
   few_pairs cells fits =
-      let h = half_of p p.net (net_promised text p accepted) m.pairs of.pairs.pairs in
-      let a = all_classes p.tables (few_ports text p accepted) p.net.cells in
+      let h = half_of p p.net (net_promised limits text p accepted) m.pairs of.pairs.pairs in
+      let a = all_classes p.tables (few_ports limits text p accepted) p.net.cells in
       let each = sum_at_most (λ c. agents_of p.tables c p.net.cells) cells fits in
       omega (arith, h, a, each)
 
@@ -140,7 +141,7 @@ module _ (text : List ℕ) (p : Program) (accepted : IsAccepted text p) (m : Mem
   module _ (ns : List CellNo) (count : length ns ≡ length m.agents) where
     pub has_joint : (e : ℕ) (j : Joint) → slice_get m.joints e ≡ Some j → HasJoint ns j
     has_joint e (ToAgent k i) h =
-        let s : IsSoundMember m = sound p.tables p.net m (net_whole text p accepted) over (accepting.net_there text p accepted) (accepting.net_few text p accepted) of in
+        let s : IsSoundMember m = sound p.tables p.net m (net_whole limits text p accepted) over (accepting.net_there limits text p accepted) (accepting.net_few limits text p accepted) of in
         let l = inside_of m s (ToBoundary e) (ToAgent k i) h in
         let z : k < length ns = omega (arith, l, count) in
         z
@@ -271,7 +272,7 @@ module _ (text : List ℕ) (p : Program) (accepted : IsAccepted text p) (m : Mem
       }
 
       over_start : IsOver p.tables start
-      over_start = let s = sound_at text p accepted (named ns) start renamed_start in is_over p.tables b p.net.free es s.net s.within
+      over_start = let s = sound_at limits text p accepted (named ns) start renamed_start in is_over p.tables b p.net.free es s.net s.within
 
       pub is_start : (queue : List (ℕ × ℕ)) → queue ≡ map (both (named ns)) m.pairs
           → IsStart p cells (record { program = p; agents = agents_in b; free = leading_to p.net.free es; queue = queue; vacant = vacant_in (at_rest b) })

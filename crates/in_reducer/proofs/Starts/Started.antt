@@ -4,7 +4,7 @@ use Rattle.std.proofs.lemmas.Option.{same_Some}
 use native.Mathlib.Decide.{ℕ_discrete}
 use Rattle.in_arena.specs.declared.content.CellCounts.{CellCounts}
 use Rattle.in_symbols.specs.Tables.{Tables}
-use Rattle.in_symbols.specs.declared.symbols.SymbolNo.{SymbolNo}
+use Rattle.in_syntax.specs.declared.symbol_no.SymbolNo.{SymbolNo}
 use Rattle.in_net.specs.declared.nets.AgentNo.{AgentNo}
 use Rattle.in_net.specs.declared.nets.Point.TheVariants as code
 use Rattle.in_net.specs.ActivePairs.{AreActive, IsActivePair}
@@ -27,6 +27,7 @@ use Rattle.in_reducer.specs.Machines.{MachineParts, parts_of}
 use Rattle.in_reducer.specs.Reducers.{IsReducer}
 use Rattle.in_reducer.specs.Starts.{IsStart}
 use Rattle.in_reducer.proofs.Pairs.Requeued.{StandOnce}
+use Rattle.in_syntax.specs.declared.text_limits.TextLimits.{TextLimits}
 
 -- ---- a symbol under other numbers
 
@@ -95,16 +96,16 @@ module _ (t : Tables) (f : ℕ → ℕ) (n m : Parts) (net : IsNet (signature_of
 
 -- ---- starts
 
-module _ (text : List ℕ) (p : Program) (accepted : IsAccepted text p) where
+module _ (limits : TextLimits) (text : List ℕ) (p : Program) (accepted : IsAccepted limits text p) where
   pub net_at : IsNet (signature_of p.tables) (net_of p.net)
-  net_at = (is_sound text p accepted).start.net
+  net_at = (is_sound limits text p accepted).start.net
 
   pub opposed_at : AreOpposed p.tables p.net
-  opposed_at = opposed_in p.tables p.net (is_sound text p accepted).start.typed
+  opposed_at = opposed_in p.tables p.net (is_sound limits text p accepted).start.typed
 
   -- the program's net is sound under any names
   pub sound_at : (f : ℕ → ℕ) (n : Parts) → IsRenamed f (net_of p.net) (net_of n) → IsSound (system_of p) (net_of n)
-  sound_at f n named = sound_reached (system_of p) (is_sound text p accepted) ℕ_discrete 0 (net_of n) (at_start f (net_of n) named)
+  sound_at f n named = sound_reached (system_of p) (is_sound limits text p accepted) ℕ_discrete 0 (net_of n) (at_start f (net_of n) named)
 
   module _ (cells : CellCounts) (few : AreAllowed cells) (m : MachineParts) (h : IsStart p cells m) where
     start_queue : IsQueueOf p.tables (parts_of m) m.queue
@@ -112,7 +113,7 @@ module _ (text : List ℕ) (p : Program) (accepted : IsAccepted text p) where
 
     pub start_reducer : IsReducer m
     start_reducer = record {
-      accepted = (text, subst (λ (z : Program). IsAccepted text z) (sym h.program) accepted);
+      accepted = (limits, text, subst (λ (z : Program). IsAccepted limits text z) (sym h.program) accepted);
       net = record {
         sound = subst (λ (z : Program). IsSound (system_of z) (net_of (parts_of m))) (sym h.program) (sound_at h.name (parts_of m) h.net);
         over = subst (λ (z : Program). IsOver z.tables (parts_of m)) (sym h.program) h.over;
@@ -122,4 +123,4 @@ module _ (text : List ℕ) (p : Program) (accepted : IsAccepted text p) where
     }
 
 pub starts_are_reducers : StartsAreReducers
-starts_are_reducers text p cells m accepted few h = start_reducer text p accepted cells few m h
+starts_are_reducers limits text p cells m accepted few h = start_reducer limits text p accepted cells few m h

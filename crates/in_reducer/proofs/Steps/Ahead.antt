@@ -4,7 +4,7 @@ use Rattle.std.proofs.lemmas.Bool.{cases_eq}
 use Rattle.std.proofs.lemmas.List.{length-set}
 use Rattle.std.proofs.lemmas.Option.{same_Some, slice_get_within}
 use Rattle.in_base.proofs.Places.{kept_at, set_here, set_there}
-use Rattle.in_symbols.specs.declared.symbols.SymbolNo.{SymbolNo}
+use Rattle.in_syntax.specs.declared.symbol_no.SymbolNo.{SymbolNo}
 use Rattle.in_net.specs.Parts.{symbol_in}
 use Rattle.in_interaction.specs.Queues.{agents_at, both, numbers_of}
 use Rattle.in_interaction.proofs.Public.{has_symbol}

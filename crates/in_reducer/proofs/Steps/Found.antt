@@ -2,7 +2,7 @@
 use Rattle.std.proofs.Common.{◌≡◌, ◌≤◌, ℕ, Some, IsSome, slice_get, sym, ap, subst, ◌∙◌}
 use Rattle.std.proofs.lemmas.Option.{same_Some}
 use Rattle.in_arena.specs.declared.content.CellClass.{CellClass}
-use Rattle.in_symbols.specs.declared.symbols.SymbolNo.{SymbolNo}
+use Rattle.in_syntax.specs.declared.symbol_no.SymbolNo.{SymbolNo}
 use Rattle.in_net.specs.Parts.{symbol_in}
 use Rattle.in_cover.specs.Cover.{IsPair, IsRuleOfSymbols}
 use Rattle.in_net.specs.Rules.{RuleParts}
@@ -34,10 +34,10 @@ module _ (m : MachineParts) (h : IsReducer m) (i : ℕ) (q : ℕ × ℕ) (stands
     second = same_Some at_pair.second d (sym at_pair.two ∙ two)
 
     its : IsPair m.program.tables at_pair.first.0 at_pair.second.0 × ((k : ℕ) (r : RuleParts) → slice_get m.program.rules k ≡ Some r → IsRuleOfSymbols r at_pair.first.0 at_pair.second.0 → IsRuleAt (plain_of m) (agents_at q).0 (agents_at q).1 k r)
-    its = reducible_pairs_have_their_rule h.accepted.0 (plain_of m) (agents_at q).0 (agents_at q).1 h.accepted.1 h.net at_pair
+    its = reducible_pairs_have_their_rule h.accepted.0 h.accepted.1 (plain_of m) (agents_at q).0 (agents_at q).1 h.accepted.2 h.net at_pair
 
     its_template : HasOneTemplate m.program ts at_pair.first.0 at_pair.second.0
-    its_template = one_for m.program ts are (complete h.accepted.0 m.program h.accepted.1) at_pair.first.0 at_pair.second.0 its.0
+    its_template = one_for m.program ts are (complete h.accepted.0 h.accepted.1 m.program h.accepted.2) at_pair.first.0 at_pair.second.0 its.0
 
     found : template_at ts c.0 d.0 ≡ Some its_template.template
     found = ap (λ (z : SymbolNo × SymbolNo). template_at ts z.0.0 z.1.0) (λ j. (sym first j, sym second j)) ∙ its_template.found

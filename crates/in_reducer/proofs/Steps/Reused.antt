@@ -13,7 +13,7 @@ use Rattle.in_arena.specs.declared.content.CellClass.{CellClass}
 use Rattle.in_arena.specs.declared.content.CellNo.{CellNo}
 use Rattle.in_arena.specs.declared.content.End.{End}
 use Rattle.in_arena.proofs.Public.{class_of_number, counts_alike, live_inside, word_live}
-use Rattle.in_symbols.specs.declared.symbols.SymbolNo.{SymbolNo}
+use Rattle.in_syntax.specs.declared.symbol_no.SymbolNo.{SymbolNo}
 use Rattle.in_symbols.specs.Tables.{Tables}
 use Rattle.in_net.specs.declared.nets.AgentNo.{AgentNo}
 use Rattle.in_net.specs.declared.nets.FreeEnd.{FreeEnd}
@@ -264,7 +264,7 @@ module _ (r : Body) (k : KeepsNet r) (i : ℕ) (p : TemplateParts) (at : IsTempl
       sound : IsSound (system_of r.checked.now.program) (net_of (seen c (own_free r) es))
       sound =
           sound_steps (system_of r.checked.now.program) (net_of (parts_of s)) (redex_at at.rule (f a) (f b)) (named ns) (net_of (seen c (own_free r) es))
-          (is_sound k.reducer.accepted.0 r.checked.now.program k.reducer.accepted.1) s_reducer.net.sound act
+          (is_sound k.reducer.accepted.0 k.reducer.accepted.1 r.checked.now.program k.reducer.accepted.2) s_reducer.net.sound act
         where
           act : IsInteraction (system_of r.checked.now.program) (net_of (parts_of s)) (redex_at at.rule (f a) (f b)) (named ns) (net_of (seen c (own_free r) es))
           act = record {

@@ -10,12 +10,12 @@ use Rattle.in_arena.specs.declared.content.CellClass.{CellClass}
 use Rattle.in_arena.specs.declared.content.CellCounts.{CellCounts}
 use Rattle.in_arena.specs.declared.content.CellNo.{CellNo}
 use Rattle.in_arena.specs.declared.content.End.{End}
-use Rattle.in_symbols.specs.declared.symbols.SymbolNo.{SymbolNo}
+use Rattle.in_syntax.specs.declared.symbol_no.SymbolNo.{SymbolNo}
 use Rattle.in_symbols.specs.Tables.{Tables}
 use Rattle.in_net.specs.declared.nets.AgentNo.{AgentNo}
 use Rattle.in_net.specs.declared.nets.FreeEnd.{FreeEnd}
 use Rattle.in_net.specs.Interactions.{IsStep, redex_at}
-use Rattle.in_net.specs.NetFaults.{max_member_agents}
+use Rattle.in_syntax.specs.TextLimits.{most_member_agents}
 use Rattle.in_net.specs.Nets.{net_of, point_of, signature_of}
 use Rattle.in_net.specs.Rules.{RuleParts}
 use Rattle.in_interaction.specs.Interacting.{InteractsAs}
@@ -90,15 +90,15 @@ module _ (r : Body) (k : KeepsNet r) (i : ℕ) (p : TemplateParts) (at : IsTempl
   fits_ends : length (own_free r) ≤ length r.ends.items
   fits_ends = let e = k.ends in let m = own_many in omega (arith, e, m)
 
-  pub few_agents : length p.member.agents ≤ max_member_agents
-  few_agents = members.few_agents t at.rule.member p.member at.template.member max_member_agents (rules.whole_rule k.reducer.accepted.0 r.checked.now.program k.reducer.accepted.1 at.number at.rule at.is_rule.stands).few
+  pub few_agents : length p.member.agents ≤ most_member_agents
+  few_agents = members.few_agents t at.rule.member p.member at.template.member most_member_agents (rules.whole_rule k.reducer.accepted.0 k.reducer.accepted.1 r.checked.now.program k.reducer.accepted.2 at.number at.rule at.is_rule.stands).few
 
   pub few_joints : length p.member.joints ≤ most_ends
   few_joints =
       let many = members.joints_many t at.rule.member p.member at.template.member in
-      let ends = (rules.whole_rule k.reducer.accepted.0 r.checked.now.program k.reducer.accepted.1 at.number at.rule at.is_rule.stands).ends in
-      let a = few_ports k.reducer.accepted.0 r.checked.now.program k.reducer.accepted.1 at.rule.heads.0.0 in
-      let b = few_ports k.reducer.accepted.0 r.checked.now.program k.reducer.accepted.1 at.rule.heads.1.0 in
+      let ends = (rules.whole_rule k.reducer.accepted.0 k.reducer.accepted.1 r.checked.now.program k.reducer.accepted.2 at.number at.rule at.is_rule.stands).ends in
+      let a = few_ports k.reducer.accepted.0 k.reducer.accepted.1 r.checked.now.program k.reducer.accepted.2 at.rule.heads.0.0 in
+      let b = few_ports k.reducer.accepted.0 k.reducer.accepted.1 r.checked.now.program k.reducer.accepted.2 at.rule.heads.1.0 in
       omega (arith, many, ends, a, b)
 
   -- there is room for the sides of the boundary ends
@@ -108,7 +108,7 @@ module _ (r : Body) (k : KeepsNet r) (i : ℕ) (p : TemplateParts) (at : IsTempl
   -- a sound net is typed and without crossing circle
   calm : IsCalm (signature_of t) (net_of (parts_of (reducer_view r)))
   calm = record {
-    classes = (is_sound k.reducer.accepted.0 r.checked.now.program k.reducer.accepted.1).classes;
+    classes = (is_sound k.reducer.accepted.0 k.reducer.accepted.1 r.checked.now.program k.reducer.accepted.2).classes;
     net = k.reducer.net.sound.net;
     typed = k.reducer.net.sound.typed;
     no_circle = k.reducer.net.sound.no_circle;
@@ -197,7 +197,7 @@ module _ (r : Body) (k : KeepsNet r) (i : ℕ) (p : TemplateParts) (at : IsTempl
     sound : IsSound (system_of r.checked.now.program) (net_of (seen a (own_free r) es))
     sound =
         sound_steps (system_of r.checked.now.program) (net_of (parts_of (reducer_view r))) (redex_at at.rule one.0 two.0) (named ns) (net_of (seen a (own_free r) es))
-        (is_sound k.reducer.accepted.0 r.checked.now.program k.reducer.accepted.1) k.reducer.net.sound act
+        (is_sound k.reducer.accepted.0 k.reducer.accepted.1 r.checked.now.program k.reducer.accepted.2) k.reducer.net.sound act
 
     acts : InteractsAs t (parts_of (reducer_view r)) at.rule one two (named ns) (seen a (own_free r) es)
     acts = record {

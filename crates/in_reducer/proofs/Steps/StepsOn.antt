@@ -25,6 +25,7 @@ use Rattle.in_reducer.specs.Reducers.{IsReducer}
 use Rattle.in_reducer.specs.Steps.{StepsAt}
 use Rattle.in_reducer.proofs.Starts.Accepted.{one_rule}
 use Rattle.in_reducer.proofs.Pairs.Requeued.{is_queue_after}
+use Rattle.in_syntax.specs.declared.text_limits.TextLimits.{TextLimits}
 
 -- ---- a reducer and a rule of its program
 
@@ -37,7 +38,7 @@ module _ (m : MachineParts) (h : IsReducer m) where
 
   module _ (k : ℕ) (r : RuleParts) (stands : slice_get m.program.rules k ≡ Some r) where
     sound_rule : IsSoundRule (system_of m.program) (rule_in r)
-    sound_rule = (is_sound h.accepted.0 m.program h.accepted.1).rule k (rule_in r) (to_mapped rule_in m.program.rules k r stands)
+    sound_rule = (is_sound h.accepted.0 h.accepted.1 m.program h.accepted.2).rule k (rule_in r) (to_mapped rule_in m.program.rules k r stands)
 
     pub member_net : IsNet (signature_of m.program.tables) (net_of r.member)
     member_net = sound_rule.net
@@ -56,7 +57,7 @@ module _ (m : MachineParts) (h : IsReducer m) where
     redex = redex_in m.program.tables (parts_of m) r a b net_at can_interact
 
 pub reducers_as_promised : ReducersAsPromised
-reducers_as_promised m h = reducible_as_promised h.accepted.0 (plain_of m) h.accepted.1 h.net
+reducers_as_promised m h = reducible_as_promised h.accepted.0 h.accepted.1 (plain_of m) h.accepted.2 h.net
 
 -- ---- one interaction
 
@@ -77,7 +78,7 @@ module _ (m o : MachineParts) (i : ℕ) (h : IsReducer m) (s : StepsAt m i o) wh
   redex_of_step = redex m h one two s.active s.step.number s.step.rule s.step.is_rule
 
   steps_on : IsReducible (plain_of o) × ((k : ℕ) (n : Net ℕ) → Run (system_of m.program) k n (net_of (parts_of m)) → Run (system_of m.program) (suc k) n (net_of (parts_of o)))
-  steps_on = reducible_steps_under_names h.accepted.0 (plain_of m) (plain_of o) one two s.name h.accepted.1 h.net s.active s.step
+  steps_on = reducible_steps_under_names h.accepted.0 h.accepted.1 (plain_of m) (plain_of o) one two s.name h.accepted.2 h.net s.active s.step
 
   queue_on : IsQueueOf m.program.tables (parts_of o) (remove m.queue i ++ (map numbers_of s.new.over ++ map (both s.name) s.new.own))
   queue_on =
@@ -103,12 +104,12 @@ module _ (m o : MachineParts) (i : ℕ) (h : IsReducer m) (s : StepsAt m i o) wh
   pub counted_after : (cells : CellCounts) → HasCells cells m → HasCells cells o
   counted_after cells counted c = ap (λ (z : Program). count_of o.vacant c + agents_of z.tables c o.agents) s.step.program ∙ s.cells c ∙ counted c
 
-  pub accepted_after : (text : List ℕ) → IsAccepted text m.program → IsAccepted text o.program
-  accepted_after text accepted = subst (λ (z : Program). IsAccepted text z) (sym s.step.program) accepted
+  pub accepted_after : (limits : TextLimits) (text : List ℕ) → IsAccepted limits text m.program → IsAccepted limits text o.program
+  accepted_after limits text accepted = subst (λ (z : Program). IsAccepted limits text z) (sym s.step.program) accepted
 
   pub reducer_on : IsReducer o
   reducer_on = record {
-    accepted = (h.accepted.0, accepted_after h.accepted.0 h.accepted.1);
+    accepted = (h.accepted.0, h.accepted.1, accepted_after h.accepted.0 h.accepted.1 h.accepted.2);
     net = steps_on.0;
     queue = queue_after;
     cells = (h.cells.0, h.cells.1, counted_after h.cells.0 h.cells.2);
@@ -120,4 +121,4 @@ steps_keep_reducers m o i h s = (reducer_on m o i h s, (steps_on m o i h s).1)
 -- a pair has one rule
 pub same_rule : (m : MachineParts) → IsReducer m → (p q : ℕ × ℕ) (j k : ℕ) (r s : RuleParts) → p ≡ q → IsRuleAt (plain_of m) (agents_at p).0 (agents_at p).1 j r → IsRuleAt (plain_of m) (agents_at q).0 (agents_at q).1 k s → r ≡ s
 same_rule m h p q j k r s e x y =
-    one_rule h.accepted.0 m.program h.accepted.1 (plain_of m) (agents_at q).0 (agents_at q).1 j k r s refl (subst (λ (z : ℕ × ℕ). IsRuleAt (plain_of m) (agents_at z).0 (agents_at z).1 j r) e x) y
+    one_rule h.accepted.0 h.accepted.1 m.program h.accepted.2 (plain_of m) (agents_at q).0 (agents_at q).1 j k r s refl (subst (λ (z : ℕ × ℕ). IsRuleAt (plain_of m) (agents_at z).0 (agents_at z).1 j r) e x) y

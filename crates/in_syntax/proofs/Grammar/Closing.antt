@@ -24,7 +24,8 @@ use Rattle.in_syntax.specs.declared.states.TermOf.TheVariants.{Left, Right, Insi
 use Rattle.in_syntax.specs.declared.states.Nest.{Nest}
 use Rattle.in_syntax.specs.declared.states.EquationsOf.{EquationsOf}
 use Rattle.in_syntax.specs.declared.states.EquationsOf.TheVariants as body
-use Rattle.in_syntax.specs.Grammar.{Spelling, marked, max_types, max_symbols, max_free, max_ports, max_depth}
+use Rattle.in_syntax.specs.TextLimits.{max_symbols, max_free}
+use Rattle.in_syntax.specs.Grammar.{Spelling, marked, max_types, max_ports, max_depth}
 use Rattle.in_syntax.specs.Steps.{at_term_end, after_port, body_with, step, at_state, with_types, with_symbol, with_rule, counts_of}
 use Rattle.in_syntax.specs.Trees.{bare, bare_head, bare_rule, with_argument, with_class, with_term}
 use Rattle.in_syntax.proofs.Grammar.Paths.{turns, turn_of, turn, Path}
@@ -100,14 +101,14 @@ at_symbol_colon r n = by_sign (at_state r (state.SymbolColon n)) (at_state r (st
 
 at_symbol_name : (r : Reader) → CanEnd (at_state r state.SymbolName)
 at_symbol_name r =
-    by_sign (at_state r state.SymbolName) (at_state r (state.SymbolColon some_name)) (nat_lt max_symbols (length r.symbols + 1)) (Named some_name) refl (at_symbol_colon r some_name)
+    by_sign (at_state r state.SymbolName) (at_state r (state.SymbolColon some_name)) (nat_lt (max_symbols r.limits) (length r.symbols + 1)) (Named some_name) refl (at_symbol_colon r some_name)
 
 at_free_colon : (r : Reader) (fs : List SourceFree) (n : Name) → CanEnd (at_state r (state.FreeColon fs n))
 at_free_colon r fs n = by_sign (at_state r (state.FreeColon fs n)) (at_state r (state.PortKind (Free fs n))) false (Plain kind.Colon) refl (at_port_kind r (Free fs n))
 
 at_free_name : (r : Reader) (fs : List SourceFree) → CanEnd (at_state r (state.FreeName fs))
 at_free_name r fs =
-    by_sign (at_state r (state.FreeName fs)) (at_state r (state.FreeColon fs some_name)) (nat_lt max_free (1 + length fs)) (Named some_name) refl (at_free_colon r fs some_name)
+    by_sign (at_state r (state.FreeName fs)) (at_state r (state.FreeColon fs some_name)) (nat_lt (max_free r.limits) (1 + length fs)) (Named some_name) refl (at_free_colon r fs some_name)
 
 at_type_end : (r : Reader) (names : List Name) → CanEnd (at_state r (state.TypeEnd names))
 at_type_end r names = by_sign (at_state r (state.TypeEnd names)) (with_types r names) false (Plain kind.Semicolon) refl (at_item (with_types r names))

@@ -34,7 +34,8 @@ use Rattle.in_syntax.specs.Steps.{at_term_open, at_term_end, after_port, body_wi
 use Rattle.in_syntax.specs.Trees.{bare, bare_head, bare_rule, with_argument, with_class, with_term}
 use Rattle.in_syntax.proofs.Grammar.Separated.{ports_after, after}
 use Rattle.in_syntax.proofs.Grammar.Paths.{turns, turn_of, turn, Path, join}
-use Rattle.in_syntax.proofs.Grammar.Sound.{arguments_at, spell_out, counts_types, counts_symbol, counts_rule}
+use Rattle.in_syntax.proofs.Grammar.Sound.{free_one, arguments_at, spell_out, counts_types, counts_symbol, counts_rule}
+use Rattle.in_syntax.specs.declared.text_limits.TextLimits.{TextLimits}
 
 -- a path to a state that is another way to write the same
 to_state : (a r : Reader) (m : Spelling) (p q : State) → p ≡ q → Path a m (at_state r p) → Path a m (at_state r q)
@@ -139,7 +140,7 @@ path_classes r (c ∷ cs) s number each =
 abbrev no_classes : SourceSymbol → SourceSymbol
 no_classes s = record { name = s.name; port = s.port; classes = [] }
 
-path_symbol : (r : Reader) (s : SourceSymbol) → AllByRecursion (λ c. 0 < length c) s.classes → Path (at_state r state.Item) (spell_symbol (length r.symbols + 1) s) (with_symbol r s)
+path_symbol : (r : Reader) (s : SourceSymbol) → AllByRecursion (λ c. 0 < length c) s.classes → Path (at_state r state.Item) (spell_symbol r.limits (length r.symbols + 1) s) (with_symbol r s)
 path_symbol r s each = (
   at_state r state.SymbolName,
   refl,
@@ -393,7 +394,7 @@ path_with r y (Some p) some = (
   ),
 )
 
-path_rule : (r : Reader) (w : Option Place) (y : SourceRule) → StandAfterWord w y.equations → Path (at_state r state.Item) (spell_rule (length r.rules + 1) w y) (with_rule r y)
+path_rule : (r : Reader) (w : Option Place) (y : SourceRule) → StandAfterWord w y.equations → Path (at_state r state.Item) (spell_rule r.limits (length r.rules + 1) w y) (with_rule r y)
 path_rule r w y is = (
   at_state r (state.HeadName First),
   refl,
@@ -407,6 +408,7 @@ path_rule r w y is = (
 
 abbrev pub with_items : Reader → List Item → Reader
 with_items r items = record {
+  limits = r.limits;
   types = r.types ++ flat_map types_in items;
   symbols = r.symbols ++ flat_map symbols_in items;
   rules = r.rules ++ flat_map rules_in items;
@@ -415,31 +417,31 @@ with_items r items = record {
 
 path_items : (items : List Item) (r : Reader) → AllByRecursion IsItem items → Path (at_state r state.Item) (spell_items (counts_of r) items) (with_items r items)
 path_items [] r each =
-    ap (λ z. between_items z r.symbols r.rules) (sym (append-nil r.types))
-    ∙ ap (λ z. between_items (r.types ++ []) z r.rules) (sym (append-nil r.symbols))
-    ∙ ap (λ z. between_items (r.types ++ []) (r.symbols ++ []) z) (sym (append-nil r.rules))
+    ap (λ z. between_items r.limits z r.symbols r.rules) (sym (append-nil r.types))
+    ∙ ap (λ z. between_items r.limits (r.types ++ []) z r.rules) (sym (append-nil r.symbols))
+    ∙ ap (λ z. between_items r.limits (r.types ++ []) (r.symbols ++ []) z) (sym (append-nil r.rules))
 path_items (types names ∷ items) r each =
     join (spell_types (length r.types + 1) names) (spell_items (counted (counts_of r) (types names)) items) (at_state r state.Item) (with_types r names) (with_items r (types names ∷ items))
     (path_types r names each.0)
     (subst (λ c. Path (with_types r names) (spell_items c items) (with_items r (types names ∷ items))) (counts_types r names)
-    (subst (λ z. Path (with_types r names) (spell_items (counts_of (with_types r names)) items) (between_items z (r.symbols ++ flat_map symbols_in items) (r.rules ++ flat_map rules_in items)))
+    (subst (λ z. Path (with_types r names) (spell_items (counts_of (with_types r names)) items) (between_items r.limits z (r.symbols ++ flat_map symbols_in items) (r.rules ++ flat_map rules_in items)))
     (append_assoc r.types names (flat_map types_in items)) (path_items items (with_types r names) each.1)))
 path_items (symbol s ∷ items) r each =
-    join (spell_symbol (length r.symbols + 1) s) (spell_items (counted (counts_of r) (symbol s)) items) (at_state r state.Item) (with_symbol r s) (with_items r (symbol s ∷ items))
+    join (spell_symbol r.limits (length r.symbols + 1) s) (spell_items (counted (counts_of r) (symbol s)) items) (at_state r state.Item) (with_symbol r s) (with_items r (symbol s ∷ items))
     (path_symbol r s each.0)
     (subst (λ c. Path (with_symbol r s) (spell_items c items) (with_items r (symbol s ∷ items))) (counts_symbol r s)
-    (subst (λ z. Path (with_symbol r s) (spell_items (counts_of (with_symbol r s)) items) (between_items (r.types ++ flat_map types_in items) z (r.rules ++ flat_map rules_in items)))
+    (subst (λ z. Path (with_symbol r s) (spell_items (counts_of (with_symbol r s)) items) (between_items r.limits (r.types ++ flat_map types_in items) z (r.rules ++ flat_map rules_in items)))
     (append_assoc r.symbols (s ∷ []) (flat_map symbols_in items)) (path_items items (with_symbol r s) each.1)))
 path_items (rule w y ∷ items) r each =
-    join (spell_rule (length r.rules + 1) w y) (spell_items (counted (counts_of r) (rule w y)) items) (at_state r state.Item) (with_rule r y) (with_items r (rule w y ∷ items))
+    join (spell_rule r.limits (length r.rules + 1) w y) (spell_items (counted (counts_of r) (rule w y)) items) (at_state r state.Item) (with_rule r y) (with_items r (rule w y ∷ items))
     (path_rule r w y each.0)
     (subst (λ c. Path (with_rule r y) (spell_items c items) (with_items r (rule w y ∷ items))) (counts_rule r w y)
-    (subst (λ z. Path (with_rule r y) (spell_items (counts_of (with_rule r y)) items) (between_items (r.types ++ flat_map types_in items) (r.symbols ++ flat_map symbols_in items) z))
+    (subst (λ z. Path (with_rule r y) (spell_items (counts_of (with_rule r y)) items) (between_items r.limits (r.types ++ flat_map types_in items) (r.symbols ++ flat_map symbols_in items) z))
     (append_assoc r.rules (y ∷ []) (flat_map rules_in items)) (path_items items (with_rule r y) each.1)))
 
 -- ---- the net
 
-path_free : (f : SourceFree) (r : Reader) (fs : List SourceFree) → Path (at_state r (state.FreeName fs)) (spell_free (1 + length fs) f) (at_state r (state.FreeEnd (fs ++ f ∷ [])))
+path_free : (f : SourceFree) (r : Reader) (fs : List SourceFree) → Path (at_state r (state.FreeName fs)) (spell_free r.limits (1 + length fs) f) (at_state r (state.FreeEnd (fs ++ f ∷ [])))
 path_free f r fs = (
   at_state r (state.FreeColon fs f.name),
   refl,
@@ -450,27 +452,27 @@ path_free f r fs = (
   ),
 )
 
-path_frees : (more : List SourceFree) (r : Reader) (fs : List SourceFree) → Path (at_state r (state.FreeEnd fs)) (after (numbered spell_free (1 + length fs) more)) (at_state r (state.FreeEnd (fs ++ more)))
+path_frees : (more : List SourceFree) (r : Reader) (fs : List SourceFree) → Path (at_state r (state.FreeEnd fs)) (after (numbered (spell_free r.limits) (1 + length fs) more)) (at_state r (state.FreeEnd (fs ++ more)))
 path_frees [] r fs = ap (λ z. at_state r (state.FreeEnd z)) (sym (append-nil fs))
 path_frees (f ∷ more) r fs =
     let e : 1 + length (fs ++ f ∷ []) ≡ (1 + length fs) + 1 = omega (arith, length-append fs (f ∷ [])) in (
       at_state r (state.FreeName fs),
       refl,
-      join (spell_free (1 + length fs) f) (after (numbered spell_free ((1 + length fs) + 1) more)) (at_state r (state.FreeName fs)) (at_state r (state.FreeEnd (fs ++ f ∷ []))) (at_state r (state.FreeEnd (fs ++ f ∷ more)))
+      join (spell_free r.limits (1 + length fs) f) (after (numbered (spell_free r.limits) ((1 + length fs) + 1) more)) (at_state r (state.FreeName fs)) (at_state r (state.FreeEnd (fs ++ f ∷ []))) (at_state r (state.FreeEnd (fs ++ f ∷ more)))
           (path_free f r fs)
-          (subst (λ k. Path (at_state r (state.FreeEnd (fs ++ f ∷ []))) (after (numbered spell_free k more)) (at_state r (state.FreeEnd (fs ++ f ∷ more)))) e
-          (to_state (at_state r (state.FreeEnd (fs ++ f ∷ []))) r (after (numbered spell_free (1 + length (fs ++ f ∷ [])) more)) (state.FreeEnd ((fs ++ f ∷ []) ++ more)) (state.FreeEnd (fs ++ f ∷ more))
+          (subst (λ k. Path (at_state r (state.FreeEnd (fs ++ f ∷ []))) (after (numbered (spell_free r.limits) k more)) (at_state r (state.FreeEnd (fs ++ f ∷ more)))) e
+          (to_state (at_state r (state.FreeEnd (fs ++ f ∷ []))) r (after (numbered (spell_free r.limits) (1 + length (fs ++ f ∷ [])) more)) (state.FreeEnd ((fs ++ f ∷ []) ++ more)) (state.FreeEnd (fs ++ f ∷ more))
           (ap (λ z. state.FreeEnd z) (append_assoc fs (f ∷ []) more)) (path_frees more r (fs ++ f ∷ [])))),
     )
 
 -- the free names with their closing sign
-path_all_frees : (fs : List SourceFree) (r : Reader) → Path (at_state r state.FreeFirst) (separated (numbered spell_free 1 fs) ++ plain kind.CloseParenthesis ∷ []) (at_state r (state.BodyOpen fs))
+path_all_frees : (fs : List SourceFree) (r : Reader) → Path (at_state r state.FreeFirst) (separated (numbered (spell_free r.limits) 1 fs) ++ plain kind.CloseParenthesis ∷ []) (at_state r (state.BodyOpen fs))
 path_all_frees [] r = (at_state r (state.BodyOpen []), refl, refl)
 path_all_frees (f ∷ more) r =
     let p = path_free f r [] in
-    join (spell_free 1 f ++ after (numbered spell_free 2 more)) (plain kind.CloseParenthesis ∷ []) (at_state r state.FreeFirst) (at_state r (state.FreeEnd (f ∷ more))) (at_state r (state.BodyOpen (f ∷ more)))
-    (join (spell_free 1 f) (after (numbered spell_free 2 more)) (at_state r state.FreeFirst) (at_state r (state.FreeEnd (f ∷ []))) (at_state r (state.FreeEnd (f ∷ more)))
-    (p.0, p.1, p.2) (path_frees more r (f ∷ [])))
+    join (spell_free r.limits 1 f ++ after (numbered (spell_free r.limits) 2 more)) (plain kind.CloseParenthesis ∷ []) (at_state r state.FreeFirst) (at_state r (state.FreeEnd (f ∷ more))) (at_state r (state.BodyOpen (f ∷ more)))
+    (join (spell_free r.limits 1 f) (after (numbered (spell_free r.limits) 2 more)) (at_state r state.FreeFirst) (at_state r (state.FreeEnd (f ∷ []))) (at_state r (state.FreeEnd (f ∷ more)))
+    (p.0, ap (λ past. turns past (at_state (at_state r state.FreeFirst) (state.FreeColon [] f.name))) (sym (free_one r.limits)) ∙ p.1, p.2) (path_frees more r (f ∷ [])))
     (at_state r (state.BodyOpen (f ∷ more)), refl, refl)
 
 abbrev no_equations : SourceNet → SourceNet
@@ -479,7 +481,7 @@ no_equations n = record { free = n.free; equations = [] }
 net_again : (f c o e d : Spelling) → (f ++ c) ++ (o ++ (e ++ d)) ≡ (f ++ (c ++ (o ++ e))) ++ d
 net_again f c o e d = simp append_assoc
 
-path_net : (n : SourceNet) (r : Reader) → Path (at_state r state.Item) (spell_net n) (at_state r (state.Done n))
+path_net : (n : SourceNet) (r : Reader) → Path (at_state r state.Item) (spell_net r.limits n) (at_state r (state.Done n))
 path_net n r = (
   at_state r state.NetOpen,
   refl,
@@ -487,8 +489,8 @@ path_net n r = (
     at_state r state.FreeFirst,
     refl,
     subst (λ z. Path (at_state r state.FreeFirst) z (at_state r (state.Done n)))
-        (net_again (separated (numbered spell_free 1 n.free)) (plain kind.CloseParenthesis ∷ []) (plain kind.OpenBrace ∷ []) (flat_map spell_equation n.equations) (plain kind.CloseBrace ∷ []))
-        (join (separated (numbered spell_free 1 n.free) ++ plain kind.CloseParenthesis ∷ []) (plain kind.OpenBrace ∷ (flat_map spell_equation n.equations ++ plain kind.CloseBrace ∷ []))
+        (net_again (separated (numbered (spell_free r.limits) 1 n.free)) (plain kind.CloseParenthesis ∷ []) (plain kind.OpenBrace ∷ []) (flat_map spell_equation n.equations) (plain kind.CloseBrace ∷ []))
+        (join (separated (numbered (spell_free r.limits) 1 n.free) ++ plain kind.CloseParenthesis ∷ []) (plain kind.OpenBrace ∷ (flat_map spell_equation n.equations ++ plain kind.CloseBrace ∷ []))
         (at_state r state.FreeFirst) (at_state r (state.BodyOpen n.free)) (at_state r (state.Done n))
         (path_all_frees n.free r) (
           at_state r (state.Equation (body.Net (no_equations n))),
@@ -499,8 +501,9 @@ path_net n r = (
   ),
 )
 
-abbrev pub done_with : GrammarProgram → Reader
-done_with p = record {
+abbrev pub done_with : TextLimits → GrammarProgram → Reader
+done_with limits p = record {
+  limits = limits;
   types = flat_map types_in p.items;
   symbols = flat_map symbols_in p.items;
   rules = flat_map rules_in p.items;
@@ -508,5 +511,7 @@ done_with p = record {
 }
 
 -- a program's signs, with their marks, lead to its tree
-pub program_path : (p : GrammarProgram) → Path start (spelling p) (done_with p)
-program_path p = join (spell_items none_yet p.items) (spell_net p.net) start (with_items start p.items) (done_with p) (path_items p.items start p.each) (path_net p.net (with_items start p.items))
+pub program_path : (limits : TextLimits) (p : GrammarProgram) → Path (start limits) (spelling limits p) (done_with limits p)
+program_path limits p =
+    join (spell_items (none_yet limits) p.items) (spell_net limits p.net) (start limits) (with_items (start limits) p.items) (done_with limits p)
+    (path_items p.items (start limits) p.each) (path_net p.net (with_items (start limits) p.items))

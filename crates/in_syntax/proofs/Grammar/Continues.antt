@@ -34,6 +34,7 @@ use Rattle.in_syntax.specs.Trees.{bare}
 use Rattle.in_syntax.proofs.Grammar.Paths.{turns, turn_of, turn, Path}
 use Rattle.in_syntax.proofs.Grammar.Outcomes.{signs_unmarked, begins_on, no_beginning, refused_outcome}
 use Rattle.in_syntax.proofs.Lexing.Reading.{led_path}
+use Rattle.in_syntax.specs.declared.text_limits.TextLimits.{TextLimits}
 
 -- ---- tokens
 
@@ -128,17 +129,6 @@ tells c (state.TermOpen b n) text place k = tells_term_open c b n text place k
 tells c (state.TermEnd b t) text place k = tells_after_term b.of b.around t text place k
 tells c (state.Done n) text place kind.Name = refl
 tells c (state.Done n) text place _ = refl
-
-begins_when : (front : List Sign) (x : Sign) (last : Reader) → Path start (unmarked front) last → (m : Step) → turn last x ≡ turn_of last m → IsTrue (leads_on m) → Begins (front ++ x ∷ [])
-begins_when front x last path (goes past q) e leads = begins_on front x last (at_state last q) past path e
-begins_when front x last path (adds_types names) e leads = begins_on front x last (with_types last names) false path e
-begins_when front x last path (adds_symbol y) e leads = begins_on front x last (with_symbol last y) false path e
-begins_when front x last path (adds_rule y) e leads = begins_on front x last (with_rule last y) false path e
-begins_when front x last path stuck e leads = cc
-
-when_begins : (front : List Sign) (x : Sign) (last : Reader) → Path start (unmarked front) last → (m : Step) → turn last x ≡ turn_of last m → Begins (front ++ x ∷ []) → IsTrue (leads_on m)
-when_begins front x last path stuck e begins = absurd (no_beginning front x last path e begins)
-when_begins front x last path _ e begins = refl
 
 -- ---- sections
 
@@ -339,9 +329,6 @@ section_along (x ∷ m) r last path =
     turned_section r path.0 x.sign x.past (step (counts_of r) r.state x.sign) (follows (counts_of r) r.state x.sign) path.1 in
     ap (λ z. section_from z (signs m)) (sym here) ∙ section_along m path.0 last path.2
 
-section_after : (front : List Sign) (last : Reader) → Path start (unmarked front) last → section front ≡ section_of last.state
-section_after front last path = ap (λ z. section z) (sym (signs_unmarked front)) ∙ section_along (unmarked front) start last path
-
 -- the tokens expected in a state can be expected in its section
 at_port : (o : PortOf) → (port_section o ≡ ports) ⊎ (port_section o ≡ free_port)
 at_port (Principal n) = inl refl
@@ -378,33 +365,48 @@ stands _ = tt
 
 -- ---- the expected tokens
 
--- if signs lead to a state, the tokens expected in it are expected after them
-pub expected_after : (text : List ℕ) (front : List Sign) (last : Reader) → Path start (unmarked front) last → IsExpected text front (expected_in last.state)
-expected_after text front last path = record {
-  tokens = λ t. (
-    λ yes. begins_when front (sign_of text t) last path (here t) refl (sym (told t) ∙ yes),
-    λ begins. told t ∙ when_begins front (sign_of text t) last path (here t) refl begins,
-  );
-  sort = subst (IsAt (expected_in last.state)) (sym (section_after front last path)) (stands last.state);
-}
-  where
-    here : Token → Step
-    here t = step (counts_of last) last.state (sign_of text t)
-
-    told : (t : Token) → takes (expected_in last.state) (sign_of text t) ≡ leads_on (here t)
-    told t = tells (counts_of last) last.state text t.place t.kind
-
 take_signs : (text : List ℕ) (i : ℕ) (tokens : List Token) → signs_of text (take i tokens) ≡ take i (signs_of text tokens)
 take_signs text zero tokens = refl
 take_signs text (suc i) [] = refl
 take_signs text (suc i) (t ∷ tokens) = ap (λ z. sign_of text t ∷ z) (take_signs text i tokens)
 
--- the run notes the right expectation
-pub noted : (text : List ℕ) (tokens : List Token) (r : Result Source Fault) (e : Expected) → Notes text tokens r e → IsNotedOf text tokens r e
-noted text tokens (Ok source) e is = is
-noted text tokens (Err (Refused r)) e (i, le, is, (last, leads, same)) =
-    let path : Path start (unmarked (signs_of text (take i tokens))) last = led_path (signs_of text (take i tokens)) start last leads in
-    let after : IsExpected text (take i (signs_of text tokens)) (expected_in last.state) =
-    subst (λ z. IsExpected text z (expected_in last.state)) (take_signs text i tokens) (expected_after text (signs_of text (take i tokens)) last path) in
-    (i, refused_outcome text i tokens r.code le is, subst (IsExpected text (take i (signs_of text tokens))) (sym same) after)
-noted text tokens (Err (Memory m)) e is = tt
+module _ (limits : TextLimits) where
+  begins_when : (front : List Sign) (x : Sign) (last : Reader) → Path (start limits) (unmarked front) last → (m : Step) → turn last x ≡ turn_of last m → IsTrue (leads_on m) → Begins limits (front ++ x ∷ [])
+  begins_when front x last path (goes past q) e leads = begins_on limits front x last (at_state last q) past path e
+  begins_when front x last path (adds_types names) e leads = begins_on limits front x last (with_types last names) false path e
+  begins_when front x last path (adds_symbol y) e leads = begins_on limits front x last (with_symbol last y) false path e
+  begins_when front x last path (adds_rule y) e leads = begins_on limits front x last (with_rule last y) false path e
+  begins_when front x last path stuck e leads = cc
+
+  when_begins : (front : List Sign) (x : Sign) (last : Reader) → Path (start limits) (unmarked front) last → (m : Step) → turn last x ≡ turn_of last m → Begins limits (front ++ x ∷ []) → IsTrue (leads_on m)
+  when_begins front x last path stuck e begins = absurd (no_beginning limits front x last path e begins)
+  when_begins front x last path _ e begins = refl
+
+  section_after : (front : List Sign) (last : Reader) → Path (start limits) (unmarked front) last → section front ≡ section_of last.state
+  section_after front last path = ap (λ z. section z) (sym (signs_unmarked front)) ∙ section_along (unmarked front) (start limits) last path
+
+  -- if signs lead to a state, the tokens expected in it are expected after them
+  pub expected_after : (text : List ℕ) (front : List Sign) (last : Reader) → Path (start limits) (unmarked front) last → IsExpected limits text front (expected_in last.state)
+  expected_after text front last path = record {
+    tokens = λ t. (
+      λ yes. begins_when front (sign_of text t) last path (here t) refl (sym (told t) ∙ yes),
+      λ begins. told t ∙ when_begins front (sign_of text t) last path (here t) refl begins,
+    );
+    sort = subst (IsAt (expected_in last.state)) (sym (section_after front last path)) (stands last.state);
+  }
+    where
+      here : Token → Step
+      here t = step (counts_of last) last.state (sign_of text t)
+
+      told : (t : Token) → takes (expected_in last.state) (sign_of text t) ≡ leads_on (here t)
+      told t = tells (counts_of last) last.state text t.place t.kind
+
+  -- the run notes the right expectation
+  pub noted : (text : List ℕ) (tokens : List Token) (r : Result Source Fault) (e : Expected) → Notes limits text tokens r e → IsNotedOf limits text tokens r e
+  noted text tokens (Ok source) e is = is
+  noted text tokens (Err (Refused r)) e (i, le, is, (last, leads, same)) =
+      let path : Path (start limits) (unmarked (signs_of text (take i tokens))) last = led_path (signs_of text (take i tokens)) (start limits) last leads in
+      let after : IsExpected limits text (take i (signs_of text tokens)) (expected_in last.state) =
+      subst (λ z. IsExpected limits text z (expected_in last.state)) (take_signs text i tokens) (expected_after text (signs_of text (take i tokens)) last path) in
+      (i, refused_outcome limits text i tokens r.code le is, subst (IsExpected limits text (take i (signs_of text tokens))) (sym same) after)
+  noted text tokens (Err (Memory m)) e is = tt

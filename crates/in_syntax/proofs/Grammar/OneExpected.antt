@@ -13,11 +13,11 @@ use Rattle.in_syntax.specs.declared.signs.Sign.{Sign}
 use Rattle.in_syntax.specs.declared.words.Token.{Token}
 use Rattle.in_syntax.specs.declared.words.TokenKind.{TokenKind}
 use Rattle.in_syntax.specs.declared.words.TokenKind.TheVariants as kind
-use Rattle.in_syntax.specs.Expecting.{takes, Section, between, types, symbol, ports, head, terms, free, free_port, body, after_body, section, IsAt, IsExpected, IsNotedOf}
-use Rattle.in_syntax.specs.Laws.{OneExpected, TextsAreNotedOnce}
+use Rattle.in_syntax.specs.Expecting.{takes, Section, between, types, symbol, ports, head, terms, free, free_port, body, after_body, section, IsAt, IsExpected, IsNoted, IsNotedOf}
 use Rattle.in_syntax.specs.Programs.{fault, IsOutcomeOfSigns, sign_at, signs_of}
 use Rattle.in_syntax.proofs.Grammar.Outcomes.{one_outcome}
 use Rattle.in_syntax.proofs.Lexing.TextLaws.{tokens_unique, not_both}
+use Rattle.in_syntax.specs.declared.text_limits.TextLimits.{TextLimits}
 
 -- ---- from the tokens that are expected, and the section
 
@@ -101,29 +101,31 @@ told text (expected.AfterName part.Head) s h = refl
 told text (expected.AfterName part.Agent) s h = refl
 told text _ s h = refl
 
-same_tokens : (text : List ℕ) (front : List Sign) (d e : Expected) → IsExpected text front d → IsExpected text front e → (k : TokenKind) → kinds text d k ≡ kinds text e k
-same_tokens text front d e g h k = one_answer (kinds text d k) (kinds text e k) (g.tokens (record { kind = k; place = some_place })) (h.tokens (record { kind = k; place = some_place }))
+module _ (limits : TextLimits) where
+  same_tokens : (text : List ℕ) (front : List Sign) (d e : Expected) → IsExpected limits text front d → IsExpected limits text front e → (k : TokenKind) → kinds text d k ≡ kinds text e k
+  same_tokens text front d e g h k = one_answer (kinds text d k) (kinds text e k) (g.tokens (record { kind = k; place = some_place })) (h.tokens (record { kind = k; place = some_place }))
 
-pub one_expected : OneExpected
-one_expected text front d e g h =
-    sym (told text d (section front) g.sort) ∙ ap (λ f. by_tokens f (section front)) (fun_ext (same_tokens text front d e g h)) ∙ told text e (section front) h.sort
+  pub one_expected : (text : List ℕ) (front : List Sign) (d e : Expected) → IsExpected limits text front d → IsExpected limits text front e → d ≡ e
+  one_expected text front d e g h =
+      sym (told text d (section front) g.sort) ∙ ap (λ f. by_tokens f (section front)) (fun_ext (same_tokens text front d e g h)) ∙ told text e (section front) h.sort
 
--- ---- the noted expectation
+  -- ---- the noted expectation
 
-same_at : (s : List Sign) (c d : Code) (i j : ℕ) → IsOutcomeOfSigns s (fault c i) → IsOutcomeOfSigns s (fault d j) → i ≡ j
-same_at s c d i j p q =
-    let o = one_outcome s in
-    let same : fault c i ≡ fault d j = o.2 (fault c i) p ∙ sym (o.2 (fault d j) q) in
-    cc
+  same_at : (s : List Sign) (c d : Code) (i j : ℕ) → IsOutcomeOfSigns limits s (fault c i) → IsOutcomeOfSigns limits s (fault d j) → i ≡ j
+  same_at s c d i j p q =
+      let o = one_outcome limits s in
+      let same : fault c i ≡ fault d j = o.2 (fault c i) p ∙ sym (o.2 (fault d j) q) in
+      cc
 
-noted_of : (text : List ℕ) (ts us : List Token) (q r : Refusal) (d e : Expected) → ts ≡ us → IsNotedOf text ts (Err (Refused q)) d → IsNotedOf text us (Err (Refused r)) e → d ≡ e
-noted_of text ts us q r d e same g h =
-    let f : IsNotedOf text us (Err (Refused q)) d = subst (λ z. IsNotedOf text z (Err (Refused q)) d) same g in
-    let at : f.0 ≡ h.0 = same_at (signs_of text us) q.code r.code f.0 h.0 f.1 h.1 in
-    one_expected text (take h.0 (signs_of text us)) d e (subst (λ i. IsExpected text (take i (signs_of text us)) d) at f.2) h.2
+  noted_of : (text : List ℕ) (ts us : List Token) (q r : Refusal) (d e : Expected) → ts ≡ us → IsNotedOf limits text ts (Err (Refused q)) d → IsNotedOf limits text us (Err (Refused r)) e → d ≡ e
+  noted_of text ts us q r d e same g h =
+      let f : IsNotedOf limits text us (Err (Refused q)) d = subst (λ z. IsNotedOf limits text z (Err (Refused q)) d) same g in
+      let at : f.0 ≡ h.0 = same_at (signs_of text us) q.code r.code f.0 h.0 f.1 h.1 in
+      one_expected text (take h.0 (signs_of text us)) d e (subst (λ i. IsExpected limits text (take i (signs_of text us)) d) at f.2) h.2
 
-pub texts_are_noted_once : TextsAreNotedOnce
-texts_are_noted_once text before d e q r (inl g) (inl h) = g.1 ∙ sym h.1
-texts_are_noted_once text before d e q r (inl g) (inr h) = absurd (not_both text h.0 q h.1 g.0)
-texts_are_noted_once text before d e q r (inr g) (inl h) = absurd (not_both text g.0 r g.1 h.0)
-texts_are_noted_once text before d e q r (inr g) (inr h) = noted_of text g.0 h.0 q r d e (tokens_unique text g.0 h.0 g.1 h.1) g.2 h.2
+  pub texts_are_noted_once :
+      (text : List ℕ) (before d e : Expected) (q r : Refusal) → IsNoted limits text before d (Err (Refused q)) → IsNoted limits text before e (Err (Refused r)) → d ≡ e
+  texts_are_noted_once text before d e q r (inl g) (inl h) = g.1 ∙ sym h.1
+  texts_are_noted_once text before d e q r (inl g) (inr h) = absurd (not_both limits text h.0 q h.1 g.0)
+  texts_are_noted_once text before d e q r (inr g) (inl h) = absurd (not_both limits text g.0 r g.1 h.0)
+  texts_are_noted_once text before d e q r (inr g) (inr h) = noted_of text g.0 h.0 q r d e (tokens_unique limits text g.0 h.0 g.1 h.1) g.2 h.2

@@ -31,7 +31,10 @@ use Rattle.in_syntax.specs.declared.states.TermOf.TheVariants.{Left, Right, Insi
 use Rattle.in_syntax.specs.declared.states.Nest.{Nest}
 use Rattle.in_syntax.specs.declared.states.EquationsOf.{EquationsOf}
 use Rattle.in_syntax.specs.declared.states.EquationsOf.TheVariants as body
-use Rattle.in_syntax.specs.Grammar.{Marked, Spelling, marked, within, named, plain, separated, numbered, spell_port, spell_auxiliary, spell_classes, spell_symbol, spell_type, spell_types, spell_arguments, spell_level, spell_term, spell_outermost, spell_head, with_word, is_with, word_at, spell_with, StandAfterWord, spell_rule, spell_equation, spell_free, spell_net, max_symbols, max_rules, max_free, max_ports, max_depth, Item, types, symbol, rule, none_yet, counted, spell_item, spell_items, IsItem, types_in, symbols_in, rules_in}
+use Rattle.in_syntax.specs.declared.text_limits.TextLimits.{TextLimits}
+use Rattle.in_syntax.specs.declared.text_limits.TextLimits.TheVariants.{Usual, Large}
+use Rattle.in_syntax.specs.TextLimits.{max_symbols, max_rules, max_free}
+use Rattle.in_syntax.specs.Grammar.{Marked, Spelling, marked, within, named, plain, separated, numbered, spell_port, spell_auxiliary, spell_classes, spell_symbol, spell_type, spell_types, spell_arguments, spell_level, spell_term, spell_outermost, spell_head, with_word, is_with, word_at, spell_with, StandAfterWord, spell_rule, spell_equation, spell_free, spell_net, max_ports, max_depth, Item, types, symbol, rule, none_yet, counted, spell_item, spell_items, IsItem, types_in, symbols_in, rules_in}
 use Rattle.in_syntax.specs.Steps.{Step, goes, adds_types, adds_symbol, adds_rule, stuck, at_item, at_type_name, at_type_end, at_symbol_name, at_symbol_colon, at_port_kind, after_port, at_port_sign, at_symbol_end, at_class_end, at_head_name, at_head_open, at_head_first, at_with, at_head_end, at_rule_open, at_rule_close, at_net_open, at_free_first, at_free_name, at_free_colon, at_free_end, at_body_open, at_equation, at_term_name, after_argument, after_left, after_right, after_head_term, after_outermost, after_term, at_term_end, at_term_open, step, at_state, with_types, with_symbol, with_rule, counts_of, start}
 use Rattle.in_syntax.specs.Trees.{bare, bare_head, with_argument}
 use Rattle.in_syntax.proofs.Grammar.Separated.{comma, before, separated_snoc, before_is, nonempty_snoc, flat_snoc, numbered_snoc, nonempty_numbered, ports_after, ports_after_snoc, classes_snoc, counted_all, counted_snoc, items_snoc}
@@ -56,36 +59,36 @@ types_front c names = plain kind.Type ∷ separated (numbered spell_type (c.type
 
 abbrev pub symbol_front : Counts → SourceSymbol → Spelling
 symbol_front c s =
-    plain kind.Symbol ∷ marked (nat_lt max_symbols (c.symbols + 1)) (Named s.name) ∷ plain kind.Colon ∷ spell_port false s.port ++ spell_classes 1 s.classes
+    plain kind.Symbol ∷ marked (nat_lt (max_symbols c.limits) (c.symbols + 1)) (Named s.name) ∷ plain kind.Colon ∷ spell_port false s.port ++ spell_classes 1 s.classes
 
 abbrev pub head_of_front : Counts → HeadOf → Spelling
-head_of_front c First = marked (nat_lt max_rules (c.rules + 1)) (Plain kind.Rule) ∷ []
-head_of_front c (Second h) = marked (nat_lt max_rules (c.rules + 1)) (Plain kind.Rule) ∷ spell_head h ++ plain kind.Meets ∷ []
+head_of_front c First = marked (nat_lt (max_rules c.limits) (c.rules + 1)) (Plain kind.Rule) ∷ []
+head_of_front c (Second h) = marked (nat_lt (max_rules c.limits) (c.rules + 1)) (Plain kind.Rule) ∷ spell_head h ++ plain kind.Meets ∷ []
 
 -- a head up to where its next term begins
 abbrev pub head_before : Counts → HeadOf → Head → Spelling
 head_before c o h = head_of_front c o ++ named h.name ∷ plain kind.OpenBracket ∷ before (map spell_outermost h.terms)
 
-abbrev pub frees_front : List SourceFree → Spelling
-frees_front fs = plain kind.Net ∷ plain kind.OpenParenthesis ∷ separated (numbered spell_free 1 fs)
+abbrev pub frees_front : Counts → List SourceFree → Spelling
+frees_front c fs = plain kind.Net ∷ plain kind.OpenParenthesis ∷ separated (numbered (spell_free c.limits) 1 fs)
 
-abbrev pub frees_before : List SourceFree → Spelling
-frees_before fs = plain kind.Net ∷ plain kind.OpenParenthesis ∷ before (numbered spell_free 1 fs)
+abbrev pub frees_before : Counts → List SourceFree → Spelling
+frees_before c fs = plain kind.Net ∷ plain kind.OpenParenthesis ∷ before (numbered (spell_free c.limits) 1 fs)
 
 -- a free name after those before it
-abbrev pub free_name : List SourceFree → Name → Marked
-free_name fs n = marked (nat_lt max_free (1 + length fs)) (Named n)
+abbrev pub free_name : Counts → List SourceFree → Name → Marked
+free_name c fs n = marked (nat_lt (max_free c.limits) (1 + length fs)) (Named n)
 
-abbrev pub net_front : SourceNet → Spelling
-net_front n = frees_front n.free ++ plain kind.CloseParenthesis ∷ plain kind.OpenBrace ∷ flat_map spell_equation n.equations
+abbrev pub net_front : Counts → SourceNet → Spelling
+net_front c n = frees_front c n.free ++ plain kind.CloseParenthesis ∷ plain kind.OpenBrace ∷ flat_map spell_equation n.equations
 
 -- a rule's heads
 abbrev pub heads_front : Counts → Head → Head → Spelling
-heads_front c f h = marked (nat_lt max_rules (c.rules + 1)) (Plain kind.Rule) ∷ (spell_head f ++ plain kind.Meets ∷ spell_head h)
+heads_front c f h = marked (nat_lt (max_rules c.limits) (c.rules + 1)) (Plain kind.Rule) ∷ (spell_head f ++ plain kind.Meets ∷ spell_head h)
 
 -- up to the beginning of the next equation
 abbrev pub body_front : Counts → EquationsOf → Spelling
-body_front c (body.Net n) = net_front n
+body_front c (body.Net n) = net_front c n
 body_front c (body.Rule y p) = heads_front c y.first y.second ++ named (word_at p) ∷ plain kind.OpenBrace ∷ flat_map spell_equation y.equations
 
 -- the signs before a term and the terms that are open around it
@@ -105,9 +108,9 @@ abbrev pub class_before : Counts → SourceSymbol → List SourcePort → Spelli
 class_before k s c = symbol_front k s ++ plain kind.OpenBrace ∷ before (numbered spell_auxiliary (ports_after 1 s.classes) c)
 
 abbrev pub port_front : Counts → PortOf → Spelling
-port_front k (Principal n) = plain kind.Symbol ∷ marked (nat_lt max_symbols (k.symbols + 1)) (Named n) ∷ plain kind.Colon ∷ []
+port_front k (Principal n) = plain kind.Symbol ∷ marked (nat_lt (max_symbols k.limits) (k.symbols + 1)) (Named n) ∷ plain kind.Colon ∷ []
 port_front k (Auxiliary s c number) = class_before k s c
-port_front k (Free fs n) = frees_before fs ++ free_name fs n ∷ plain kind.Colon ∷ []
+port_front k (Free fs n) = frees_before k fs ++ free_name k fs n ∷ plain kind.Colon ∷ []
 
 -- whether the port that is written passes the limit
 abbrev pub port_past : PortOf → Bool
@@ -120,7 +123,7 @@ spelled k state.Item = []
 spelled k (state.TypeName names) = plain kind.Type ∷ before (numbered spell_type (k.types + 1) names)
 spelled k (state.TypeEnd names) = types_front k names
 spelled k state.SymbolName = plain kind.Symbol ∷ []
-spelled k (state.SymbolColon n) = plain kind.Symbol ∷ marked (nat_lt max_symbols (k.symbols + 1)) (Named n) ∷ []
+spelled k (state.SymbolColon n) = plain kind.Symbol ∷ marked (nat_lt (max_symbols k.limits) (k.symbols + 1)) (Named n) ∷ []
 spelled k (state.PortKind o) = port_front k o
 spelled k (state.PortSign o n) = port_front k o ++ marked (port_past o) (Named n) ∷ []
 spelled k (state.SymbolEnd s number) = symbol_front k s
@@ -133,15 +136,15 @@ spelled k (state.RuleOpen f h p) = heads_front k f h ++ named (word_at p) ∷ []
 spelled k (state.RuleClose y p) = heads_front k y.first y.second ++ spell_with (Some p) y.equations
 spelled k state.NetOpen = plain kind.Net ∷ []
 spelled k state.FreeFirst = plain kind.Net ∷ plain kind.OpenParenthesis ∷ []
-spelled k (state.FreeName fs) = frees_before fs
-spelled k (state.FreeColon fs n) = frees_before fs ++ free_name fs n ∷ []
-spelled k (state.FreeEnd fs) = frees_front fs
-spelled k (state.BodyOpen fs) = frees_front fs ++ plain kind.CloseParenthesis ∷ []
+spelled k (state.FreeName fs) = frees_before k fs
+spelled k (state.FreeColon fs n) = frees_before k fs ++ free_name k fs n ∷ []
+spelled k (state.FreeEnd fs) = frees_front k fs
+spelled k (state.BodyOpen fs) = frees_front k fs ++ plain kind.CloseParenthesis ∷ []
 spelled k (state.Equation b) = body_front k b
 spelled k (state.TermName b) = nest_front k b
 spelled k (state.TermOpen b n) = nest_front k b ++ marked (nat_lt max_depth (length b.around + 1)) (Named n) ∷ []
 spelled k (state.TermEnd b t) = nest_front k b ++ spell_term t (length b.around + 1)
-spelled k (state.Done n) = spell_net n
+spelled k (state.Done n) = spell_net k.limits n
 
 -- lists that have an element, and the numbers of ports
 abbrev pub IsFullPort : PortOf → Type 0
@@ -167,8 +170,8 @@ IsFull _ = Unit {0}
 abbrev pub KeepsAll : Counts → Spelling → Sign → Step → Type 0
 KeepsAll k l x (goes past q) = IsFull q × (spelled k q ≡ l ++ marked past x ∷ [])
 KeepsAll k l x (adds_types names) = (0 < length names) × (spell_types (k.types + 1) names ≡ l ++ within x ∷ [])
-KeepsAll k l x (adds_symbol s) = AllByRecursion (λ c. 0 < length c) s.classes × (spell_symbol (k.symbols + 1) s ≡ l ++ within x ∷ [])
-KeepsAll k l x (adds_rule y) = (w : Option Place) × StandAfterWord w y.equations × (spell_rule (k.rules + 1) w y ≡ l ++ within x ∷ [])
+KeepsAll k l x (adds_symbol s) = AllByRecursion (λ c. 0 < length c) s.classes × (spell_symbol k.limits (k.symbols + 1) s ≡ l ++ within x ∷ [])
+KeepsAll k l x (adds_rule y) = (w : Option Place) × StandAfterWord w y.equations × (spell_rule k.limits (k.rules + 1) w y ≡ l ++ within x ∷ [])
 KeepsAll k l x stuck = Unit {0}
 
 abbrev pub Keeps : Counts → State → Sign → Step → Type 0
@@ -232,8 +235,8 @@ keeps_after_port k (Auxiliary s c number) p full = (
 keeps_after_port k (Free fs n) p full = (
   nonempty_snoc fs (record { name = n; port = p }),
   ap (λ z. plain kind.Net ∷ plain kind.OpenParenthesis ∷ z)
-      (ap separated (numbered_snoc spell_free 1 fs (record { name = n; port = p }))
-      ∙ separated_snoc (numbered spell_free 1 fs) (spell_free (1 + length fs) (record { name = n; port = p })))
+      (ap separated (numbered_snoc (spell_free k.limits) 1 fs (record { name = n; port = p }))
+      ∙ separated_snoc (numbered (spell_free k.limits) 1 fs) (spell_free k.limits (1 + length fs) (record { name = n; port = p })))
       ∙ simp append_assoc,
 )
 
@@ -261,7 +264,7 @@ keeps_class_end k s c number (Plain kind.Comma) full = (
 )
 keeps_class_end k s c number (Plain kind.CloseBrace) full = (
   (all_append (λ c. 0 < length c) s.classes (c ∷ []) full.0 (full.1, tt), full.2 ∙ sym (ports_after_snoc 1 s.classes c)),
-  ap (λ z. plain kind.Symbol ∷ marked (nat_lt max_symbols (k.symbols + 1)) (Named s.name) ∷ plain kind.Colon ∷ spell_port false s.port ++ z) (classes_snoc 1 s.classes c)
+  ap (λ z. plain kind.Symbol ∷ marked (nat_lt (max_symbols k.limits) (k.symbols + 1)) (Named s.name) ∷ plain kind.Colon ∷ spell_port false s.port ++ z) (classes_snoc 1 s.classes c)
       ∙ simp append_assoc,
 )
 keeps_class_end k s c number _ full = tt
@@ -285,7 +288,7 @@ keeps_head_first k o n _ = tt
 
 -- the heads, read one after the other
 heads_are : (k : Counts) (f h : Head) → heads_front k f h ≡ spelled k (state.HeadEnd (Second f) h)
-heads_are k f h = ap (λ z. marked (nat_lt max_rules (k.rules + 1)) (Plain kind.Rule) ∷ z) (sym (append_assoc (spell_head f) (plain kind.Meets ∷ []) (spell_head h)))
+heads_are k f h = ap (λ z. marked (nat_lt (max_rules k.limits) (k.rules + 1)) (Plain kind.Rule) ∷ z) (sym (append_assoc (spell_head f) (plain kind.Meets ∷ []) (spell_head h)))
 
 -- a name that is the word `with` is spelled as that word
 is_word : (n : Name) → is_with n ≡ true → word_at n.place ≡ n
@@ -317,12 +320,17 @@ keeps_net_open : (k : Counts) (x : Sign) → Keeps k state.NetOpen x (at_net_ope
 keeps_net_open k (Plain kind.OpenParenthesis) = (tt, refl)
 keeps_net_open k _ = tt
 
+-- the first free name passes no limit
+pub free_one : (limits : TextLimits) → nat_lt (max_free limits) 1 ≡ false
+free_one Usual = refl
+free_one Large = refl
+
 keeps_free_first : (k : Counts) (x : Sign) → Keeps k state.FreeFirst x (at_free_first x)
-keeps_free_first k (Named n) = (tt, refl)
+keeps_free_first k (Named n) = (tt, ap (λ z. plain kind.Net ∷ plain kind.OpenParenthesis ∷ marked z (Named n) ∷ []) (free_one k.limits))
 keeps_free_first k (Plain kind.CloseParenthesis) = (tt, refl)
 keeps_free_first k _ = tt
 
-keeps_free_name : (k : Counts) (fs : List SourceFree) (x : Sign) → Keeps k (state.FreeName fs) x (at_free_name fs x)
+keeps_free_name : (k : Counts) (fs : List SourceFree) (x : Sign) → Keeps k (state.FreeName fs) x (at_free_name k fs x)
 keeps_free_name k fs (Named n) = (tt, refl)
 keeps_free_name k fs _ = tt
 
@@ -332,7 +340,7 @@ keeps_free_colon k fs n _ = tt
 
 keeps_free_end : (k : Counts) (fs : List SourceFree) (x : Sign) → 0 < length fs → Keeps k (state.FreeEnd fs) x (at_free_end fs x)
 keeps_free_end k fs (Plain kind.Comma) full =
-    (tt, ap (λ z. plain kind.Net ∷ plain kind.OpenParenthesis ∷ z) (before_is (numbered spell_free 1 fs) (nonempty_numbered spell_free 1 fs full)))
+    (tt, ap (λ z. plain kind.Net ∷ plain kind.OpenParenthesis ∷ z) (before_is (numbered (spell_free k.limits) 1 fs) (nonempty_numbered (spell_free k.limits) 1 fs full)))
 keeps_free_end k fs (Plain kind.CloseParenthesis) full = (tt, refl)
 keeps_free_end k fs _ full = tt
 
@@ -439,10 +447,10 @@ keeps_after_right : (k : Counts) (b : EquationsOf) (l : Term) (p : Place) (t : T
     Keeps k (state.TermEnd (record { of = Right b l p; around = [] }) t) x (after_right b l p t x)
 keeps_after_right k (body.Net n) l p t (Plain kind.Semicolon) = (
   tt,
-  ap (λ z. frees_front n.free ++ plain kind.CloseParenthesis ∷ plain kind.OpenBrace ∷ z)
+  ap (λ z. frees_front k n.free ++ plain kind.CloseParenthesis ∷ plain kind.OpenBrace ∷ z)
       (flat_snoc spell_equation n.equations (record { left = l; tilde = p; right = t }))
-      ∙ regroup_equation (frees_front n.free) (plain kind.CloseParenthesis ∷ plain kind.OpenBrace ∷ []) (flat_map spell_equation n.equations) (spell_term l 1) (within (Tilde p) ∷ []) (spell_term t 1) (plain kind.Semicolon ∷ [])
-      ∙ ap (λ z. (z ++ spell_term t 1) ++ plain kind.Semicolon ∷ []) (sym (append-nil ((net_front n ++ spell_term l 1) ++ within (Tilde p) ∷ []))),
+      ∙ regroup_equation (frees_front k n.free) (plain kind.CloseParenthesis ∷ plain kind.OpenBrace ∷ []) (flat_map spell_equation n.equations) (spell_term l 1) (within (Tilde p) ∷ []) (spell_term t 1) (plain kind.Semicolon ∷ [])
+      ∙ ap (λ z. (z ++ spell_term t 1) ++ plain kind.Semicolon ∷ []) (sym (append-nil ((net_front k n ++ spell_term l 1) ++ within (Tilde p) ∷ []))),
 )
 keeps_after_right k (body.Rule y w) l p t (Plain kind.Semicolon) = (
   tt,
@@ -530,38 +538,39 @@ keeps k (state.Done n) x full = tt
 -- ---- the signs read by a reader
 
 pub counts_types : (r : Reader) (names : List Name) → counts_of (with_types r names) ≡ counted (counts_of r) (types names)
-counts_types r names = ap (λ z. record { types = z; symbols = length r.symbols; rules = length r.rules }) (length-append r.types names)
+counts_types r names = ap (λ z. record { limits = r.limits; types = z; symbols = length r.symbols; rules = length r.rules }) (length-append r.types names)
 
 pub counts_symbol : (r : Reader) (s : SourceSymbol) → counts_of (with_symbol r s) ≡ counted (counts_of r) (symbol s)
-counts_symbol r s = ap (λ z. record { types = length r.types; symbols = z; rules = length r.rules }) (length-append r.symbols (s ∷ []))
+counts_symbol r s = ap (λ z. record { limits = r.limits; types = length r.types; symbols = z; rules = length r.rules }) (length-append r.symbols (s ∷ []))
 
 pub counts_rule : (r : Reader) (w : Option Place) (y : SourceRule) → counts_of (with_rule r y) ≡ counted (counts_of r) (rule w y)
-counts_rule r w y = ap (λ z. record { types = length r.types; symbols = length r.symbols; rules = z }) (length-append r.rules (y ∷ []))
+counts_rule r w y = ap (λ z. record { limits = r.limits; types = length r.types; symbols = length r.symbols; rules = z }) (length-append r.rules (y ∷ []))
 
-pub record HasRead (r : Reader) (m : Spelling) : Type 0 where
+pub record HasRead (limits : TextLimits) (r : Reader) (m : Spelling) : Type 0 where
+  pub by : r.limits ≡ limits
   pub items : List Item
   pub each : AllByRecursion IsItem items
   pub types : r.types ≡ flat_map types_in items
   pub symbols : r.symbols ≡ flat_map symbols_in items
   pub rules : r.rules ≡ flat_map rules_in items
-  pub counts : counts_of r ≡ counted_all none_yet items
+  pub counts : counts_of r ≡ counted_all (none_yet limits) items
   pub full : IsFull r.state
-  pub spells : m ≡ spell_items none_yet items ++ spelled (counts_of r) r.state
+  pub spells : m ≡ spell_items (none_yet limits) items ++ spelled (counts_of r) r.state
 
-pub read_nothing : HasRead start []
-read_nothing = record { items = []; each = tt; types = refl; symbols = refl; rules = refl; counts = refl; full = tt; spells = refl }
+pub read_nothing : (limits : TextLimits) → HasRead limits (start limits) []
+read_nothing limits = record { by = refl; items = []; each = tt; types = refl; symbols = refl; rules = refl; counts = refl; full = tt; spells = refl }
 
 -- an item more
-with_item : (l : Spelling) (k : Counts) (items : List Item) (i : Item) (p : Spelling) (x : Marked) → l ≡ spell_items none_yet items ++ p → k ≡ counted_all none_yet items → spell_item k i ≡ p ++ x ∷ [] →
-    l ++ x ∷ [] ≡ spell_items none_yet (items ++ i ∷ []) ++ []
-with_item l k items i p x e n f =
-    ap (λ z. z ++ x ∷ []) e ∙ append_assoc (spell_items none_yet items) p (x ∷ []) ∙ ap (λ z. spell_items none_yet items ++ z) (sym f)
-    ∙ ap (λ z. spell_items none_yet items ++ spell_item z i) n
-    ∙ sym (items_snoc none_yet items i) ∙ sym (append-nil (spell_items none_yet (items ++ i ∷ [])))
+with_item : (none : Counts) (l : Spelling) (k : Counts) (items : List Item) (i : Item) (p : Spelling) (x : Marked) → l ≡ spell_items none items ++ p → k ≡ counted_all none items → spell_item k i ≡ p ++ x ∷ [] →
+    l ++ x ∷ [] ≡ spell_items none (items ++ i ∷ []) ++ []
+with_item none l k items i p x e n f =
+    ap (λ z. z ++ x ∷ []) e ∙ append_assoc (spell_items none items) p (x ∷ []) ∙ ap (λ z. spell_items none items ++ z) (sym f)
+    ∙ ap (λ z. spell_items none items ++ spell_item z i) n
+    ∙ sym (items_snoc none items i) ∙ sym (append-nil (spell_items none (items ++ i ∷ [])))
 
 -- the numbers of declarations with an item more
-count_item : (k next : Counts) (items : List Item) (i : Item) → k ≡ counted_all none_yet items → next ≡ counted k i → next ≡ counted_all none_yet (items ++ i ∷ [])
-count_item k next items i n e = e ∙ ap (λ z. counted z i) n ∙ sym (counted_snoc none_yet items i)
+count_item : (none : Counts) (k next : Counts) (items : List Item) (i : Item) → k ≡ counted_all none items → next ≡ counted k i → next ≡ counted_all none (items ++ i ∷ [])
+count_item none k next items i n e = e ∙ ap (λ z. counted z i) n ∙ sym (counted_snoc none items i)
 
 -- a list of the tree, by an item that adds nothing to it
 none_more : {A : Type 0} (f : Item → List A) (l : List A) (items : List Item) (i : Item) → l ≡ flat_map f items → f i ≡ [] → l ≡ flat_map f (items ++ i ∷ [])
@@ -571,64 +580,69 @@ none_more f l items i e n = e ∙ sym (append-nil (flat_map f items)) ∙ ap (λ
 some_more : {A : Type 0} (f : Item → List A) (l more : List A) (items : List Item) (i : Item) → l ≡ flat_map f items → f i ≡ more → l ++ more ≡ flat_map f (items ++ i ∷ [])
 some_more f l more items i e n = ap (λ z. z ++ more) e ∙ ap (λ z. flat_map f items ++ z) (sym n) ∙ sym (flat_snoc f items i)
 
-reads_step : (r next : Reader) (m : Spelling) (x : Sign) (past : Bool) (s : Step) → HasRead r m → Keeps (counts_of r) r.state x s → turn_of r s ≡ turns past next → HasRead next (m ++ marked past x ∷ [])
-reads_step r next m x past (goes b q) h k e =
-    let is : at_state r q ≡ next = cc in
-    let same : b ≡ past = cc in
-    subst (λ z. HasRead z (m ++ marked past x ∷ [])) is (record {
-      items = h.items;
-      each = h.each;
-      types = h.types;
-      symbols = h.symbols;
-      rules = h.rules;
-      counts = h.counts;
-      full = k.0;
-      spells = ap (λ z. z ++ marked past x ∷ []) h.spells ∙ append_assoc (spell_items none_yet h.items) (spelled (counts_of r) r.state) (marked past x ∷ [])
-          ∙ ap (λ z. spell_items none_yet h.items ++ z) (ap (λ z. spelled (counts_of r) r.state ++ marked z x ∷ []) (sym same) ∙ sym k.1);
-    })
-reads_step r next m x past (adds_types names) h k e =
-    let is : with_types r names ≡ next = cc in
-    let same : false ≡ past = cc in
-    subst (λ z. HasRead z (m ++ marked past x ∷ [])) is (subst (λ z. HasRead (with_types r names) (m ++ marked z x ∷ [])) same (record {
-      items = h.items ++ types names ∷ [];
-      each = all_append IsItem h.items (types names ∷ []) h.each (k.0, tt);
-      types = some_more types_in r.types names h.items (types names) h.types refl;
-      symbols = none_more symbols_in r.symbols h.items (types names) h.symbols refl;
-      rules = none_more rules_in r.rules h.items (types names) h.rules refl;
-      counts = count_item (counts_of r) (counts_of (with_types r names)) h.items (types names) h.counts (counts_types r names);
-      full = tt;
-      spells = with_item m (counts_of r) h.items (types names) (spelled (counts_of r) r.state) (within x) h.spells h.counts k.1;
-    }))
-reads_step r next m x past (adds_symbol s) h k e =
-    let is : with_symbol r s ≡ next = cc in
-    let same : false ≡ past = cc in
-    subst (λ z. HasRead z (m ++ marked past x ∷ [])) is (subst (λ z. HasRead (with_symbol r s) (m ++ marked z x ∷ [])) same (record {
-      items = h.items ++ symbol s ∷ [];
-      each = all_append IsItem h.items (symbol s ∷ []) h.each (k.0, tt);
-      types = none_more types_in r.types h.items (symbol s) h.types refl;
-      symbols = some_more symbols_in r.symbols (s ∷ []) h.items (symbol s) h.symbols refl;
-      rules = none_more rules_in r.rules h.items (symbol s) h.rules refl;
-      counts = count_item (counts_of r) (counts_of (with_symbol r s)) h.items (symbol s) h.counts (counts_symbol r s);
-      full = tt;
-      spells = with_item m (counts_of r) h.items (symbol s) (spelled (counts_of r) r.state) (within x) h.spells h.counts k.1;
-    }))
-reads_step r next m x past (adds_rule y) h (w, is_with, spells) e =
-    let is : with_rule r y ≡ next = cc in
-    let same : false ≡ past = cc in
-    subst (λ z. HasRead z (m ++ marked past x ∷ [])) is (subst (λ z. HasRead (with_rule r y) (m ++ marked z x ∷ [])) same (record {
-      items = h.items ++ rule w y ∷ [];
-      each = all_append IsItem h.items (rule w y ∷ []) h.each (is_with, tt);
-      types = none_more types_in r.types h.items (rule w y) h.types refl;
-      symbols = none_more symbols_in r.symbols h.items (rule w y) h.symbols refl;
-      rules = some_more rules_in r.rules (y ∷ []) h.items (rule w y) h.rules refl;
-      counts = count_item (counts_of r) (counts_of (with_rule r y)) h.items (rule w y) h.counts (counts_rule r w y);
-      full = tt;
-      spells = with_item m (counts_of r) h.items (rule w y) (spelled (counts_of r) r.state) (within x) h.spells h.counts spells;
-    }))
-reads_step r next m x past stuck h k e = cc
+module _ (limits : TextLimits) where
+  reads_step : (r next : Reader) (m : Spelling) (x : Sign) (past : Bool) (s : Step) → HasRead limits r m → Keeps (counts_of r) r.state x s → turn_of r s ≡ turns past next → HasRead limits next (m ++ marked past x ∷ [])
+  reads_step r next m x past (goes b q) h k e =
+      let is : at_state r q ≡ next = cc in
+      let same : b ≡ past = cc in
+      subst (λ z. HasRead limits z (m ++ marked past x ∷ [])) is (record {
+        by = h.by;
+        items = h.items;
+        each = h.each;
+        types = h.types;
+        symbols = h.symbols;
+        rules = h.rules;
+        counts = h.counts;
+        full = k.0;
+        spells = ap (λ z. z ++ marked past x ∷ []) h.spells ∙ append_assoc (spell_items (none_yet limits) h.items) (spelled (counts_of r) r.state) (marked past x ∷ [])
+            ∙ ap (λ z. spell_items (none_yet limits) h.items ++ z) (ap (λ z. spelled (counts_of r) r.state ++ marked z x ∷ []) (sym same) ∙ sym k.1);
+      })
+  reads_step r next m x past (adds_types names) h k e =
+      let is : with_types r names ≡ next = cc in
+      let same : false ≡ past = cc in
+      subst (λ z. HasRead limits z (m ++ marked past x ∷ [])) is (subst (λ z. HasRead limits (with_types r names) (m ++ marked z x ∷ [])) same (record {
+        by = h.by;
+        items = h.items ++ types names ∷ [];
+        each = all_append IsItem h.items (types names ∷ []) h.each (k.0, tt);
+        types = some_more types_in r.types names h.items (types names) h.types refl;
+        symbols = none_more symbols_in r.symbols h.items (types names) h.symbols refl;
+        rules = none_more rules_in r.rules h.items (types names) h.rules refl;
+        counts = count_item (none_yet limits) (counts_of r) (counts_of (with_types r names)) h.items (types names) h.counts (counts_types r names);
+        full = tt;
+        spells = with_item (none_yet limits) m (counts_of r) h.items (types names) (spelled (counts_of r) r.state) (within x) h.spells h.counts k.1;
+      }))
+  reads_step r next m x past (adds_symbol s) h k e =
+      let is : with_symbol r s ≡ next = cc in
+      let same : false ≡ past = cc in
+      subst (λ z. HasRead limits z (m ++ marked past x ∷ [])) is (subst (λ z. HasRead limits (with_symbol r s) (m ++ marked z x ∷ [])) same (record {
+        by = h.by;
+        items = h.items ++ symbol s ∷ [];
+        each = all_append IsItem h.items (symbol s ∷ []) h.each (k.0, tt);
+        types = none_more types_in r.types h.items (symbol s) h.types refl;
+        symbols = some_more symbols_in r.symbols (s ∷ []) h.items (symbol s) h.symbols refl;
+        rules = none_more rules_in r.rules h.items (symbol s) h.rules refl;
+        counts = count_item (none_yet limits) (counts_of r) (counts_of (with_symbol r s)) h.items (symbol s) h.counts (counts_symbol r s);
+        full = tt;
+        spells = with_item (none_yet limits) m (counts_of r) h.items (symbol s) (spelled (counts_of r) r.state) (within x) h.spells h.counts k.1;
+      }))
+  reads_step r next m x past (adds_rule y) h (w, is_with, spells) e =
+      let is : with_rule r y ≡ next = cc in
+      let same : false ≡ past = cc in
+      subst (λ z. HasRead limits z (m ++ marked past x ∷ [])) is (subst (λ z. HasRead limits (with_rule r y) (m ++ marked z x ∷ [])) same (record {
+        by = h.by;
+        items = h.items ++ rule w y ∷ [];
+        each = all_append IsItem h.items (rule w y ∷ []) h.each (is_with, tt);
+        types = none_more types_in r.types h.items (rule w y) h.types refl;
+        symbols = none_more symbols_in r.symbols h.items (rule w y) h.symbols refl;
+        rules = some_more rules_in r.rules (y ∷ []) h.items (rule w y) h.rules refl;
+        counts = count_item (none_yet limits) (counts_of r) (counts_of (with_rule r y)) h.items (rule w y) h.counts (counts_rule r w y);
+        full = tt;
+        spells = with_item (none_yet limits) m (counts_of r) h.items (rule w y) (spelled (counts_of r) r.state) (within x) h.spells h.counts spells;
+      }))
+  reads_step r next m x past stuck h k e = cc
 
-pub has_read : (n m : Spelling) (r last : Reader) → HasRead r m → Path r n last → HasRead last (m ++ n)
-has_read [] m r last h p = subst (λ z. HasRead z (m ++ [])) p (subst (λ z. HasRead r z) (sym (append-nil m)) h)
-has_read (x ∷ n) m r last h p =
-    let next : HasRead p.0 (m ++ x ∷ []) = reads_step r p.0 m x.sign x.past (step (counts_of r) r.state x.sign) h (keeps (counts_of r) r.state x.sign h.full) p.1 in
-    subst (λ z. HasRead last z) (append_assoc m (x ∷ []) n) (has_read n (m ++ x ∷ []) p.0 last next p.2)
+  pub has_read : (n m : Spelling) (r last : Reader) → HasRead limits r m → Path r n last → HasRead limits last (m ++ n)
+  has_read [] m r last h p = subst (λ z. HasRead limits z (m ++ [])) p (subst (λ z. HasRead limits r z) (sym (append-nil m)) h)
+  has_read (x ∷ n) m r last h p =
+      let next : HasRead limits p.0 (m ++ x ∷ []) = reads_step r p.0 m x.sign x.past (step (counts_of r) r.state x.sign) h (keeps (counts_of r) r.state x.sign h.full) p.1 in
+      subst (λ z. HasRead limits last z) (append_assoc m (x ∷ []) n) (has_read n (m ++ x ∷ []) p.0 last next p.2)

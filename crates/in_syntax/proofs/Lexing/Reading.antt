@@ -47,11 +47,11 @@ lead_on : (s : List Sign) (x : Sign) (r mid next : Reader) → SignsLead r s mid
 lead_on [] x r mid next p e = (next, ap (λ z. taken z x) p ∙ e, refl)
 lead_on (y ∷ s) x r mid next p e = (p.0, p.1, lead_on s x p.0 mid next p.2 e)
 
-pub leads_after : (text : List ℕ) (i : ℕ) (tokens : List Token) (reader next : Reader) → i < length tokens → taken reader (sign_of text (get_or tokens i no_token)) ≡ Some next →
-    SignsLead start (signs_of text (take i tokens)) reader → SignsLead start (signs_of text (take (i + 1) tokens)) next
-leads_after text i tokens reader next lt takes h =
-    rw (add-one i) (subst (λ z. SignsLead start z next) (sym (ap (signs_of text) (take-suc tokens i no_token lt) ∙ map-append (sign_of text) (take i tokens) (get_or tokens i no_token ∷ [])))
-    (lead_on (signs_of text (take i tokens)) (sign_of text (get_or tokens i no_token)) start reader next h takes))
+pub leads_after : (first : Reader) (text : List ℕ) (i : ℕ) (tokens : List Token) (reader next : Reader) → i < length tokens → taken reader (sign_of text (get_or tokens i no_token)) ≡ Some next →
+    SignsLead first (signs_of text (take i tokens)) reader → SignsLead first (signs_of text (take (i + 1) tokens)) next
+leads_after first text i tokens reader next lt takes h =
+    rw (add-one i) (subst (λ z. SignsLead first z next) (sym (ap (signs_of text) (take-suc tokens i no_token lt) ∙ map-append (sign_of text) (take i tokens) (get_or tokens i no_token ∷ [])))
+    (lead_on (signs_of text (take i tokens)) (sign_of text (get_or tokens i no_token)) first reader next h takes))
 
 turn_moved : (r next : Reader) (m : Step) → moved r (move_of m) ≡ Some next → turn_of r m ≡ turns false next
 turn_moved r next (goes false p) e = let is : at_state r p ≡ next = cc in ap (turns false) is

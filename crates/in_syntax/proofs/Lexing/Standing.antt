@@ -14,6 +14,7 @@ use Rattle.in_syntax.specs.Tokens.{kind_of, Passes, blank, comment, token, Reads
 use Rattle.in_syntax.proofs.Lexing.PastCharacters.{past_all-at}
 use Rattle.in_syntax.proofs.Lexing.Moves.{scalars-front, scalars-rest}
 use Rattle.in_base.proofs.Each.{all_append}
+use Rattle.in_syntax.specs.declared.text_limits.TextLimits.{TextLimits}
 
 -- a spot of a text: `s.at` bytes are before it
 record IsSpotOf (text front cs : List ℕ) (s : Spot) : Type 0 where
@@ -72,9 +73,6 @@ reads_stand text front (goes_on {s = s} {t = t} {cs = cs} {rest = rest} vs ws p 
     let next = spot_on text front one.front rest s (subst (λ z. IsSpotOf text front z s) one.split h) in
     all_append (StandsIn text) vs ws one.stand (reads_stand text (front ++ one.front) r (subst (IsSpotOf text (front ++ one.front) rest) (sym one.end) next))
 
-pub tokens_stand : (text : List ℕ) (ts : List Token) → IsTokensOf text ts → AllByRecursion (StandsIn text) ts
-tokens_stand text ts h = reads_stand text [] h.reads (record { bytes = sym (encodes-chars text h.utf8); at = refl; scalars = scalars-chars text h.utf8 })
-
 in_order-weaker : (m n : ℕ) (ts : List Token) → m ≤ n → StandInOrder n ts → StandInOrder m ts
 in_order-weaker m n [] l h = tt
 in_order-weaker m n (t ∷ ts) l h = (omega (arith, l, h.0), h.1)
@@ -88,5 +86,9 @@ reads_in_order : {s : Spot} {cs : List ℕ} {ts : List Token} → Reads s cs ts 
 reads_in_order ends = tt
 reads_in_order (goes_on {s = s} {t = t} {cs = cs} {rest = rest} vs ws p r) = passed_in_order s t cs rest vs ws p (reads_in_order r)
 
-pub tokens_in_order : (text : List ℕ) (ts : List Token) → IsTokensOf text ts → StandInOrder 0 ts
-tokens_in_order text ts h = reads_in_order h.reads
+module _ (limits : TextLimits) where
+  pub tokens_stand : (text : List ℕ) (ts : List Token) → IsTokensOf limits text ts → AllByRecursion (StandsIn text) ts
+  tokens_stand text ts h = reads_stand text [] h.reads (record { bytes = sym (encodes-chars text h.utf8); at = refl; scalars = scalars-chars text h.utf8 })
+
+  pub tokens_in_order : (text : List ℕ) (ts : List Token) → IsTokensOf limits text ts → StandInOrder 0 ts
+  tokens_in_order text ts h = reads_in_order h.reads

@@ -14,33 +14,12 @@ use Rattle.in_syntax.specs.declared.faults.Code.TheVariants.{E01, E03}
 use Rattle.in_syntax.specs.declared.faults.Refusal.{Refusal}
 use Rattle.in_syntax.specs.Characters.{is_blank, begins_name, continues_name, stays_in_comment}
 use Rattle.in_syntax.specs.Places.{start, past_all}
-use Rattle.in_syntax.specs.Tokens.{signs, beside, is_word, EndsLine, name_limit, text_limit, Passes, blank, comment, token, Reads, ends, goes_on, Faults, stray, too_long, Stops, here, later, IsTokensOf, well_formed, refusal_at, IsTokenFault, long_text, first_fault, ill_formed}
+use Rattle.in_syntax.specs.Tokens.{signs, beside, is_word, EndsLine, name_limit, Passes, blank, comment, token, Reads, ends, goes_on, Faults, stray, too_long, Stops, here, later, IsTokensOf, well_formed, refusal_at, IsTokenFault, long_text, first_fault, ill_formed}
 use Rattle.in_syntax.specs.Cursors.{FirstIs, FirstFails}
 use Rattle.in_syntax.proofs.Lexing.Lexemes.{longest_word, longest_mark, longest_meets, begins_no_token, is_word-run, is_word-some}
 use Rattle.in_syntax.proofs.Lexing.TokenLaws.{reads_unique, reads_not_stops, stops_unique}
-
-pub tokens_unique : (text : List ℕ) (ts us : List Token) → IsTokensOf text ts → IsTokensOf text us → ts ≡ us
-tokens_unique text ts us p q = reads_unique (chars text) us p.reads q.reads refl
-
-pub fault_unique : (text : List ℕ) (q r : Refusal) → IsTokenFault text q → IsTokenFault text r → q ≡ r
-fault_unique text q r (long_text a) (long_text b) = refl
-fault_unique text q r (long_text a) (first_fault code at b s) = absurd (omega arith)
-fault_unique text q r (long_text a) (ill_formed b s l) = absurd (omega arith)
-fault_unique text q r (first_fault code at b s) (long_text a) = absurd (omega arith)
-fault_unique text q r (first_fault code at a s) (first_fault dode bt b z) =
-    let same = stops_unique (chars (well_formed text)) dode bt s z refl in
-    ap (λ x. refusal_at x at) same.0 ∙ ap (refusal_at dode) same.1
-fault_unique text q r (first_fault code at a s) (ill_formed b z l) = absurd (reads_not_stops (chars (well_formed text)) code at z s refl)
-fault_unique text q r (ill_formed b s l) (long_text a) = absurd (omega arith)
-fault_unique text q r (ill_formed b z l) (first_fault code at a s) = absurd (reads_not_stops (chars (well_formed text)) code at z s refl)
-fault_unique text q r (ill_formed a s l) (ill_formed b z m) = refl
-
-pub not_both : (text : List ℕ) (ts : List Token) (r : Refusal) → IsTokensOf text ts → IsTokenFault text r → ⊥
-not_both text ts r p (long_text a) = omega (arith, p.short)
-not_both text ts r p (first_fault code at a s) =
-    let whole : well_formed text ≡ text = take_all (utf8_valid_len text) text (omega (arith, utf8_valid_len-IsUtf8 text p.utf8)) in
-    reads_not_stops (chars (well_formed text)) code at p.reads s (ap chars (sym whole))
-not_both text ts r p (ill_formed a s l) = omega (arith, utf8_valid_len-IsUtf8 text p.utf8)
+use Rattle.in_syntax.specs.declared.text_limits.TextLimits.{TextLimits}
+use Rattle.in_syntax.specs.TextLimits.{text_limit}
 
 -- a spot and a text have nothing, a part that is passed, or a fault
 data Stand (s : Spot) (cs : List ℕ) : Type 0 where
@@ -157,19 +136,43 @@ well_formed-IsUtf8 : (text : List ℕ) → IsUtf8 (well_formed text)
 unfolding utf8_valid_len
 well_formed-IsUtf8 text = front_utf8 text (length text)
 
-pub tokens_or_fault : (text : List ℕ) → ((ts : List Token) × IsTokensOf text ts) ⊎ ((r : Refusal) × IsTokenFault text r)
-tokens_or_fault text = go (cases_lt text_limit (length text))
-  where
-    read : (ts : List Token) → length text ≤ text_limit → Reads start (chars (well_formed text)) ts → (utf8_valid_len text < length text) ⊎ (length text ≤ utf8_valid_len text) → ((us : List Token) × IsTokensOf text us) ⊎ ((r : Refusal) × IsTokenFault text r)
-    read ts short h (inl less) = inr (refusal_at E01 (past_all start (chars (well_formed text))), ill_formed short h less)
-    read ts short h (inr whole) =
-        let same : well_formed text ≡ text = take_all (utf8_valid_len text) text whole in
-        inl (ts, record { short = short; utf8 = subst IsUtf8 same (well_formed-IsUtf8 text); reads = subst (λ z. Reads start (chars z) ts) same h })
+module _ (limits : TextLimits) where
+  pub tokens_unique : (text : List ℕ) (ts us : List Token) → IsTokensOf limits text ts → IsTokensOf limits text us → ts ≡ us
+  tokens_unique text ts us p q = reads_unique (chars text) us p.reads q.reads refl
 
-    decide : length text ≤ text_limit → Outcome start (chars (well_formed text)) → ((ts : List Token) × IsTokensOf text ts) ⊎ ((r : Refusal) × IsTokenFault text r)
-    decide short (inl h) = read h.0 short h.1 (cases_lt (utf8_valid_len text) (length text))
-    decide short (inr h) = inr (refusal_at h.0 h.1, first_fault h.0 h.1 short h.2)
+  pub fault_unique : (text : List ℕ) (q r : Refusal) → IsTokenFault limits text q → IsTokenFault limits text r → q ≡ r
+  fault_unique text q r (long_text a) (long_text b) = refl
+  fault_unique text q r (long_text a) (first_fault code at b s) = absurd (omega arith)
+  fault_unique text q r (long_text a) (ill_formed b s l) = absurd (omega arith)
+  fault_unique text q r (first_fault code at b s) (long_text a) = absurd (omega arith)
+  fault_unique text q r (first_fault code at a s) (first_fault dode bt b z) =
+      let same = stops_unique (chars (well_formed text)) dode bt s z refl in
+      ap (λ x. refusal_at x at) same.0 ∙ ap (refusal_at dode) same.1
+  fault_unique text q r (first_fault code at a s) (ill_formed b z l) = absurd (reads_not_stops (chars (well_formed text)) code at z s refl)
+  fault_unique text q r (ill_formed b s l) (long_text a) = absurd (omega arith)
+  fault_unique text q r (ill_formed b z l) (first_fault code at a s) = absurd (reads_not_stops (chars (well_formed text)) code at z s refl)
+  fault_unique text q r (ill_formed a s l) (ill_formed b z m) = refl
 
-    go : (text_limit < length text) ⊎ (length text ≤ text_limit) → ((ts : List Token) × IsTokensOf text ts) ⊎ ((r : Refusal) × IsTokenFault text r)
-    go (inl long) = inr (refusal_at E03 start, long_text long)
-    go (inr short) = decide short (outcome (length (chars (well_formed text))) start (chars (well_formed text)) (omega arith))
+  pub not_both : (text : List ℕ) (ts : List Token) (r : Refusal) → IsTokensOf limits text ts → IsTokenFault limits text r → ⊥
+  not_both text ts r p (long_text a) = omega (arith, p.short)
+  not_both text ts r p (first_fault code at a s) =
+      let whole : well_formed text ≡ text = take_all (utf8_valid_len text) text (omega (arith, utf8_valid_len-IsUtf8 text p.utf8)) in
+      reads_not_stops (chars (well_formed text)) code at p.reads s (ap chars (sym whole))
+  not_both text ts r p (ill_formed a s l) = omega (arith, utf8_valid_len-IsUtf8 text p.utf8)
+
+  pub tokens_or_fault : (text : List ℕ) → ((ts : List Token) × IsTokensOf limits text ts) ⊎ ((r : Refusal) × IsTokenFault limits text r)
+  tokens_or_fault text = go (cases_lt (text_limit limits) (length text))
+    where
+      read : (ts : List Token) → length text ≤ text_limit limits → Reads start (chars (well_formed text)) ts → (utf8_valid_len text < length text) ⊎ (length text ≤ utf8_valid_len text) → ((us : List Token) × IsTokensOf limits text us) ⊎ ((r : Refusal) × IsTokenFault limits text r)
+      read ts short h (inl less) = inr (refusal_at E01 (past_all start (chars (well_formed text))), ill_formed short h less)
+      read ts short h (inr whole) =
+          let same : well_formed text ≡ text = take_all (utf8_valid_len text) text whole in
+          inl (ts, record { short = short; utf8 = subst IsUtf8 same (well_formed-IsUtf8 text); reads = subst (λ z. Reads start (chars z) ts) same h })
+
+      decide : length text ≤ text_limit limits → Outcome start (chars (well_formed text)) → ((ts : List Token) × IsTokensOf limits text ts) ⊎ ((r : Refusal) × IsTokenFault limits text r)
+      decide short (inl h) = read h.0 short h.1 (cases_lt (utf8_valid_len text) (length text))
+      decide short (inr h) = inr (refusal_at h.0 h.1, first_fault h.0 h.1 short h.2)
+
+      go : (text_limit limits < length text) ⊎ (length text ≤ text_limit limits) → ((ts : List Token) × IsTokensOf limits text ts) ⊎ ((r : Refusal) × IsTokenFault limits text r)
+      go (inl long) = inr (refusal_at E03 start, long_text long)
+      go (inr short) = decide short (outcome (length (chars (well_formed text))) start (chars (well_formed text)) (omega arith))

@@ -26,6 +26,7 @@ use Rattle.in_syntax.proofs.Lexing.Standing.{tokens_stand, tokens_in_order}
 use Rattle.in_base.proofs.Each.{all_left, all_right, all_append}
 use Rattle.in_syntax.proofs.Trees.Terms.{names_out, spell_out}
 use Rattle.in_syntax.proofs.Grammar.Separated.{after}
+use Rattle.in_syntax.specs.declared.text_limits.TextLimits.{TextLimits}
 
 -- ---- the places of signs
 
@@ -144,8 +145,8 @@ with_rising ps (Some p) es some up = without ps (subst (λ z. Rises (ps ++ p ∷
       without ps up.1,
     )
 
-rule_rising : (number : ℕ) (w : Option Place) (y : SourceRule) → StandAfterWord w y.equations → Rising (spell_rule number w y) → IsRuleInOrder y
-rule_rising number w y is up =
+rule_rising : (limits : TextLimits) (number : ℕ) (w : Option Place) (y : SourceRule) → StandAfterWord w y.equations → Rising (spell_rule limits number w y) → IsRuleInOrder y
+rule_rising limits number w y is up =
     let heads : Spelling = spell_head y.first ++ plain kind.Meets ∷ spell_head y.second in
     with_rising (head_places y.first ++ head_places y.second) w y.equations is
     (subst (λ z. Rises (z ++ places_of (spell_with w y.equations))) (heads_placed y.first y.second)
@@ -190,27 +191,27 @@ rules_in_order [] c each up = tt
 rules_in_order (types names ∷ is) c each up = rules_in_order is (counted c (types names)) each.1 (back_rising (spell_item c (types names)) (spell_items (counted c (types names)) is) up)
 rules_in_order (symbol s ∷ is) c each up = rules_in_order is (counted c (symbol s)) each.1 (back_rising (spell_item c (symbol s)) (spell_items (counted c (symbol s)) is) up)
 rules_in_order (rule w y ∷ is) c each up = (
-  rule_rising (c.rules + 1) w y each.0 (front_rising (spell_item c (rule w y)) (spell_items (counted c (rule w y)) is) up),
+  rule_rising c.limits (c.rules + 1) w y each.0 (front_rising (spell_item c (rule w y)) (spell_items (counted c (rule w y)) is) up),
   rules_in_order is (counted c (rule w y)) each.1 (back_rising (spell_item c (rule w y)) (spell_items (counted c (rule w y)) is) up),
 )
 
-net_in_order : (n : SourceNet) → Rising (spell_net n) → IsInOrder n
-net_in_order n up =
-    let free : Spelling = separated (numbered spell_free 1 n.free) in
+net_in_order : (limits : TextLimits) (n : SourceNet) → Rising (spell_net limits n) → IsInOrder n
+net_in_order limits n up =
+    let free : Spelling = separated (numbered (spell_free limits) 1 n.free) in
     let opened : Spelling = plain kind.CloseParenthesis ∷ plain kind.OpenBrace ∷ flat_map spell_equation n.equations in
     subst Rises (equations_placed n.equations) (back_rising free opened (front_rising (free ++ opened) (plain kind.CloseBrace ∷ []) up))
 
-program_in_order : (p : GrammarProgram) → Rising (spelling p) → IsWrittenInOrder (source_of p)
-program_in_order p up = record {
-  rules = rules_in_order p.items none_yet p.each (front_rising (spell_items none_yet p.items) (spell_net p.net) up);
-  net = net_in_order p.net (back_rising (spell_items none_yet p.items) (spell_net p.net) up);
+program_in_order : (limits : TextLimits) (p : GrammarProgram) → Rising (spelling limits p) → IsWrittenInOrder (source_of limits p)
+program_in_order limits p up = record {
+  rules = rules_in_order p.items (none_yet limits) p.each (front_rising (spell_items (none_yet limits) p.items) (spell_net limits p.net) up);
+  net = net_in_order limits p.net (back_rising (spell_items (none_yet limits) p.items) (spell_net limits p.net) up);
 }
 
-pub tree_in_order : (text : List ℕ) (source : Source) → IsTreeOf text source → IsWrittenInOrder source
-tree_in_order text source t =
-    let up = (tokens_rise text 0 t.tokens (tokens_in_order text t.tokens t.read) (tokens_stand text t.tokens t.read)).0 in
-    subst IsWrittenInOrder t.tree.2 (program_in_order t.tree.0 (subst Rising (sym t.tree.1) up))
+pub tree_in_order : (limits : TextLimits) (text : List ℕ) (source : Source) → IsTreeOf limits text source → IsWrittenInOrder source
+tree_in_order limits text source t =
+    let up = (tokens_rise text 0 t.tokens (tokens_in_order limits text t.tokens t.read) (tokens_stand limits text t.tokens t.read)).0 in
+    subst IsWrittenInOrder t.tree.2 (program_in_order limits t.tree.0 (subst Rising (sym t.tree.1) up))
 
-pub in_order_when : (text : List ℕ) (r : Result Source Fault) → Parses text r → IfOk r IsWrittenInOrder
-in_order_when text (Ok source) p = tree_in_order text source p
-in_order_when text (Err e) p = tt
+pub in_order_when : (limits : TextLimits) (text : List ℕ) (r : Result Source Fault) → Parses limits text r → IfOk r IsWrittenInOrder
+in_order_when limits text (Ok source) p = tree_in_order limits text source p
+in_order_when limits text (Err e) p = tt

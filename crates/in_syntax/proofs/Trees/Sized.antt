@@ -17,14 +17,16 @@ use Rattle.in_syntax.specs.declared.words.Token.{Token}
 use Rattle.in_syntax.specs.declared.words.TokenKind.TheVariants as kind
 use Rattle.in_syntax.specs.declared.signs.Sign.{Sign}
 use Rattle.in_syntax.specs.declared.signs.Sign.TheVariants.{Tilde}
-use Rattle.in_syntax.specs.Grammar.{Spelling, within, plain, max_types, max_symbols, max_rules, max_free, max_ports, separated, numbered, spell_port, spell_auxiliary, spell_class, spell_classes, spell_symbol, spell_type, spell_arguments, spell_term, spell_outermost, spell_head, spell_with, StandAfterWord, spell_rule, spell_equation, spell_free, spell_net, Item, types, symbol, rule, none_yet, counted, spell_item, spell_items, IsItem, GrammarProgram, spelling, types_in, symbols_in, rules_in, source_of}
+use Rattle.in_syntax.specs.Grammar.{Spelling, within, plain, max_types, max_ports, separated, numbered, spell_port, spell_auxiliary, spell_class, spell_classes, spell_symbol, spell_type, spell_arguments, spell_term, spell_outermost, spell_head, spell_with, StandAfterWord, spell_rule, spell_equation, spell_free, spell_net, Item, types, symbol, rule, none_yet, counted, spell_item, spell_items, IsItem, GrammarProgram, spelling, types_in, symbols_in, rules_in, source_of}
 use Rattle.in_syntax.specs.Programs.{sign_of, signs_of, unmarked}
 use Rattle.in_syntax.specs.Parsing.{IsTreeOf, Parses}
 use Rattle.in_syntax.specs.Sizes.{total, names_in, names_in_equation, names_in_equations, names_in_head, names_in_rule, names_in_rules, IsSizedSymbol, IsSized}
-use Rattle.in_syntax.specs.Tokens.{StandsIn, StandInOrder, text_limit}
+use Rattle.in_syntax.specs.Tokens.{StandsIn, StandInOrder}
 use Rattle.in_syntax.proofs.Grammar.Separated.{counted_all}
 use Rattle.in_syntax.proofs.Lexing.Standing.{tokens_stand, tokens_in_order}
 use Rattle.in_syntax.proofs.Trees.Terms.{names_out, spell_out}
+use Rattle.in_syntax.specs.declared.text_limits.TextLimits.{TextLimits}
+use Rattle.in_syntax.specs.TextLimits.{text_limit, max_symbols, max_rules, max_free}
 
 -- tokens that follow one another are no more than the bytes
 fits_text : (text : List ℕ) (n : ℕ) (ts : List Token) → n ≤ length text → StandInOrder n ts → AllByRecursion (StandsIn text) ts → n + length ts ≤ length text
@@ -100,8 +102,8 @@ with_sum : (w : Option Place) (es : List Equation) → StandAfterWord w es → n
 with_sum None es none = subst (λ z. names_in_equations z ≤ 0) (sym none) (omega arith)
 with_sum (Some p) es some = omega (arith, equations_sum es, length-append (flat_map spell_equation es) (plain kind.CloseBrace ∷ []))
 
-rule_sum : (number : ℕ) (w : Option Place) (y : SourceRule) → StandAfterWord w y.equations → names_in_rule y ≤ length (spell_rule number w y)
-rule_sum number w y is =
+rule_sum : (limits : TextLimits) (number : ℕ) (w : Option Place) (y : SourceRule) → StandAfterWord w y.equations → names_in_rule y ≤ length (spell_rule limits number w y)
+rule_sum limits number w y is =
     omega (
       arith,
       head_sum y.first,
@@ -117,7 +119,7 @@ items_sum [] c each = omega arith
 items_sum (types names ∷ is) c each = omega (arith, items_sum is (counted c (types names)) each.1, length-append (spell_item c (types names)) (spell_items (counted c (types names)) is))
 items_sum (symbol s ∷ is) c each = omega (arith, items_sum is (counted c (symbol s)) each.1, length-append (spell_item c (symbol s)) (spell_items (counted c (symbol s)) is))
 items_sum (rule w y ∷ is) c each =
-    omega (arith, rule_sum (c.rules + 1) w y each.0, items_sum is (counted c (rule w y)) each.1, length-append (spell_item c (rule w y)) (spell_items (counted c (rule w y)) is))
+    omega (arith, rule_sum c.limits (c.rules + 1) w y each.0, items_sum is (counted c (rule w y)) each.1, length-append (spell_item c (rule w y)) (spell_items (counted c (rule w y)) is))
 
 -- ---- lists without a mark
 
@@ -162,8 +164,8 @@ auxiliary_within number p all = ltb-false max_ports number all.0
 type_within : Within max_types spell_type
 type_within number n all = ltb-false max_types number all.0
 
-free_within : Within max_free spell_free
-free_within number f all = ltb-false max_free number all.0
+free_within : (limits : TextLimits) → Within (max_free limits) (spell_free limits)
+free_within limits number f all = ltb-false (max_free limits) number all.0
 
 classes_within : (number : ℕ) (cs : List (List SourcePort)) → number ≤ max_ports + 1 → AllByRecursion (λ c. 0 < length c) cs → Unmarked (spell_classes number cs) → (number + length (flat_map (λ c. c) cs) ≤ max_ports + 1) × (number + length cs ≤ max_ports + 1)
 classes_within number [] le some all = (omega (arith, le), omega (arith, le))
@@ -175,8 +177,8 @@ classes_within number ((p ∷ c) ∷ cs) le some all =
     let rest = classes_within (number + length (p ∷ c)) cs here some.1 (back_all (spell_class number (p ∷ c)) (spell_classes (number + length (p ∷ c)) cs) all) in
     (omega (arith, rest.0, length-append (p ∷ c) (flat_map (λ c. c) cs)), omega (arith, rest.1))
 
-symbol_sized : (number : ℕ) (s : SourceSymbol) → AllByRecursion (λ c. 0 < length c) s.classes → Unmarked (spell_symbol number s) → IsSizedSymbol s
-symbol_sized number s some all =
+symbol_sized : (limits : TextLimits) (number : ℕ) (s : SourceSymbol) → AllByRecursion (λ c. 0 < length c) s.classes → Unmarked (spell_symbol limits number s) → IsSizedSymbol s
+symbol_sized limits number s some all =
     let ports : Spelling = spell_port false s.port in
     let tail = front_all (spell_port false s.port ++ spell_classes 1 s.classes) (plain kind.Semicolon ∷ []) all.1.1.1 in
     let both = classes_within 1 s.classes (omega arith) some (back_all (spell_port false s.port) (spell_classes 1 s.classes) tail) in
@@ -188,7 +190,7 @@ symbols_sized : (is : List Item) (c : Counts) → AllByRecursion IsItem is → U
 symbols_sized [] c each all = tt
 symbols_sized (types names ∷ is) c each all = symbols_sized is (counted c (types names)) each.1 (back_all (spell_item c (types names)) (spell_items (counted c (types names)) is) all)
 symbols_sized (symbol s ∷ is) c each all = (
-  symbol_sized (c.symbols + 1) s each.0 (front_all (spell_item c (symbol s)) (spell_items (counted c (symbol s)) is) all),
+  symbol_sized c.limits (c.symbols + 1) s each.0 (front_all (spell_item c (symbol s)) (spell_items (counted c (symbol s)) is) all),
   symbols_sized is (counted c (symbol s)) each.1 (back_all (spell_item c (symbol s)) (spell_items (counted c (symbol s)) is) all),
 )
 symbols_sized (rule w y ∷ is) c each all = symbols_sized is (counted c (rule w y)) each.1 (back_all (spell_item c (rule w y)) (spell_items (counted c (rule w y)) is) all)
@@ -196,16 +198,16 @@ symbols_sized (rule w y ∷ is) c each all = symbols_sized is (counted c (rule w
 -- no list is longer than its limit
 record IsFew (c : Counts) : Type 0 where
   types : c.types ≤ max_types
-  symbols : c.symbols ≤ max_symbols
-  rules : c.rules ≤ max_rules
+  symbols : c.symbols ≤ max_symbols c.limits
+  rules : c.rules ≤ max_rules c.limits
 
 item_few : (c : Counts) (i : Item) → IsFew c → Unmarked (spell_item c i) → IsFew (counted c i)
 item_few c (types names) few all =
     let n : (c.types + 1) + length names ≤ max_types + 1 =
     separated_within max_types spell_type type_within (c.types + 1) names (omega (arith, few.types)) (front_all (separated (numbered spell_type (c.types + 1) names)) (plain kind.Semicolon ∷ []) all.1) in
     record { types = omega (arith, n); symbols = few.symbols; rules = few.rules }
-item_few c (symbol s) few all = record { types = few.types; symbols = ltb-false max_symbols (c.symbols + 1) all.1.0; rules = few.rules }
-item_few c (rule w y) few all = record { types = few.types; symbols = few.symbols; rules = ltb-false max_rules (c.rules + 1) all.0 }
+item_few c (symbol s) few all = record { types = few.types; symbols = ltb-false (max_symbols c.limits) (c.symbols + 1) all.1.0; rules = few.rules }
+item_few c (rule w y) few all = record { types = few.types; symbols = few.symbols; rules = ltb-false (max_rules c.limits) (c.rules + 1) all.0 }
 
 items_few : (is : List Item) (c : Counts) → IsFew c → Unmarked (spell_items c is) → IsFew (counted_all c is)
 items_few [] c few all = few
@@ -230,48 +232,58 @@ count_rules (types names ∷ is) c = count_rules is (counted c (types names))
 count_rules (symbol s ∷ is) c = count_rules is (counted c (symbol s))
 count_rules (rule w y ∷ is) c = omega (arith, count_rules is (counted c (rule w y)))
 
+-- the limits stay
+count_limits : (is : List Item) (c : Counts) → (counted_all c is).limits ≡ c.limits
+count_limits [] c = refl
+count_limits (types names ∷ is) c = count_limits is (counted c (types names))
+count_limits (symbol s ∷ is) c = count_limits is (counted c (symbol s))
+count_limits (rule w y ∷ is) c = count_limits is (counted c (rule w y))
+
 -- ---- a whole program
 
-net_names : (n : SourceNet) → names_in_equations n.equations ≤ length (spell_net n)
-net_names n =
+net_names : (limits : TextLimits) (n : SourceNet) → names_in_equations n.equations ≤ length (spell_net limits n)
+net_names limits n =
     let names = equations_sum n.equations in
     omega (
       arith,
       names,
-      length-append (separated (numbered spell_free 1 n.free)) (plain kind.CloseParenthesis ∷ plain kind.OpenBrace ∷ flat_map spell_equation n.equations),
-      length-append (separated (numbered spell_free 1 n.free) ++ plain kind.CloseParenthesis ∷ plain kind.OpenBrace ∷ flat_map spell_equation n.equations) (plain kind.CloseBrace ∷ []),
+      length-append (separated (numbered (spell_free limits) 1 n.free)) (plain kind.CloseParenthesis ∷ plain kind.OpenBrace ∷ flat_map spell_equation n.equations),
+      length-append (separated (numbered (spell_free limits) 1 n.free) ++ plain kind.CloseParenthesis ∷ plain kind.OpenBrace ∷ flat_map spell_equation n.equations) (plain kind.CloseBrace ∷ []),
     )
 
-net_free : (n : SourceNet) → Unmarked (spell_net n) → length n.free ≤ max_free
-net_free n all =
-    let frees : 1 + length n.free ≤ max_free + 1 =
-    separated_within max_free spell_free free_within 1 n.free (omega arith) (front_all (separated (numbered spell_free 1 n.free)) _ (front_all _ (plain kind.CloseBrace ∷ []) all.1.1)) in
+net_free : (limits : TextLimits) (n : SourceNet) → Unmarked (spell_net limits n) → length n.free ≤ max_free limits
+net_free limits n all =
+    let frees : 1 + length n.free ≤ max_free limits + 1 =
+    separated_within (max_free limits) (spell_free limits) (free_within limits) 1 n.free (omega arith) (front_all (separated (numbered (spell_free limits) 1 n.free)) _ (front_all _ (plain kind.CloseBrace ∷ []) all.1.1)) in
     omega (arith, frees)
 
-program_sized : (p : GrammarProgram) (s : List Sign) → spelling p ≡ unmarked s → length s ≤ text_limit → IsSized (source_of p)
-program_sized p s is short =
-    let all : Unmarked (spelling p) = subst Unmarked (sym is) (unmarked_all s) in
-    let size : length (spelling p) ≡ length s = ap length is ∙ length-map s within in
-    let whole = length-append (spell_items none_yet p.items) (spell_net p.net) in
-    let items = front_all (spell_items none_yet p.items) (spell_net p.net) all in
-    let few = items_few p.items none_yet (record { types = omega arith; symbols = omega arith; rules = omega arith }) items in
+program_sized : (limits : TextLimits) (p : GrammarProgram) (s : List Sign) → spelling limits p ≡ unmarked s → length s ≤ text_limit limits → IsSized (source_of limits p)
+program_sized limits p s is short =
+    let all : Unmarked (spelling limits p) = subst Unmarked (sym is) (unmarked_all s) in
+    let size : length (spelling limits p) ≡ length s = ap length is ∙ length-map s within in
+    let whole = length-append (spell_items (none_yet limits) p.items) (spell_net limits p.net) in
+    let items = front_all (spell_items (none_yet limits) p.items) (spell_net limits p.net) all in
+    let few = items_few p.items (none_yet limits) (record { types = omega arith; symbols = omega arith; rules = omega arith }) items in
+    let by = count_limits p.items (none_yet limits) in
+    let symbols = subst (λ z. (counted_all (none_yet limits) p.items).symbols ≤ max_symbols z) by few.symbols in
+    let rules = subst (λ z. (counted_all (none_yet limits) p.items).rules ≤ max_rules z) by few.rules in
     record {
-      types = omega (arith, few.types, count_types p.items none_yet);
-      symbols = omega (arith, few.symbols, count_symbols p.items none_yet);
-      ports = symbols_sized p.items none_yet p.each items;
-      rules = omega (arith, few.rules, count_rules p.items none_yet);
-      free = net_free p.net (back_all (spell_items none_yet p.items) (spell_net p.net) all);
-      names = omega (arith, net_names p.net, size, whole, short);
-      heads = omega (arith, items_sum p.items none_yet p.each, size, whole, short);
+      types = omega (arith, few.types, count_types p.items (none_yet limits));
+      symbols = omega (arith, symbols, count_symbols p.items (none_yet limits));
+      ports = symbols_sized p.items (none_yet limits) p.each items;
+      rules = omega (arith, rules, count_rules p.items (none_yet limits));
+      free = net_free limits p.net (back_all (spell_items (none_yet limits) p.items) (spell_net limits p.net) all);
+      names = omega (arith, net_names limits p.net, size, whole, short);
+      heads = omega (arith, items_sum p.items (none_yet limits) p.each, size, whole, short);
     }
 
-pub tree_sized : (text : List ℕ) (source : Source) → IsTreeOf text source → IsSized source
-tree_sized text source t =
-    let count = fits_text text 0 t.tokens (omega arith) (tokens_in_order text t.tokens t.read) (tokens_stand text t.tokens t.read) in
+pub tree_sized : (limits : TextLimits) (text : List ℕ) (source : Source) → IsTreeOf limits text source → IsSized source
+tree_sized limits text source t =
+    let count = fits_text text 0 t.tokens (omega arith) (tokens_in_order limits text t.tokens t.read) (tokens_stand limits text t.tokens t.read) in
     let short = t.read.short in
     let same = length-map t.tokens (sign_of text) in
-    subst IsSized t.tree.2 (program_sized t.tree.0 (signs_of text t.tokens) t.tree.1 (omega (arith, count, short, same)))
+    subst IsSized t.tree.2 (program_sized limits t.tree.0 (signs_of text t.tokens) t.tree.1 (omega (arith, count, short, same)))
 
-pub sized_when : (text : List ℕ) (r : Result Source Fault) → Parses text r → IfOk r IsSized
-sized_when text (Ok source) p = tree_sized text source p
-sized_when text (Err e) p = tt
+pub sized_when : (limits : TextLimits) (text : List ℕ) (r : Result Source Fault) → Parses limits text r → IfOk r IsSized
+sized_when limits text (Ok source) p = tree_sized limits text source p
+sized_when limits text (Err e) p = tt

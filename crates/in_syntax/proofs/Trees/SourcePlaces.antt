@@ -30,6 +30,7 @@ use Rattle.in_base.proofs.Among.{among_left, among_right, among_either, among_al
 use Rattle.in_syntax.proofs.Trees.Ordered.{places_out}
 use Rattle.in_syntax.proofs.Trees.Terms.{names_out, spell_out}
 use Rattle.in_syntax.proofs.Grammar.Separated.{after}
+use Rattle.in_syntax.specs.declared.text_limits.TextLimits.{TextLimits}
 
 abbrev kept : Sign → List Place
 kept (Named n) = n.place ∷ []
@@ -123,8 +124,8 @@ in_with None es p none h = absurd (subst (λ z. IsAmong p (flat_map equation_pla
 in_with (Some w) es p some h =
     on (named (word_at w)) _ p (on (plain kind.OpenBrace) _ p (on_left (flat_map spell_equation es) (plain kind.CloseBrace ∷ []) p (in_each spell_equation equation_places p (λ e a. in_equation e p a) es h)))
 
-in_rule : (k : ℕ) (w : Option Place) (r : SourceRule) (p : Place) → StandAfterWord w r.equations → IsAmong p (rule_places r) → Spells (spell_rule k w r) p
-in_rule k w r p is h =
+in_rule : (limits : TextLimits) (k : ℕ) (w : Option Place) (r : SourceRule) (p : Place) → StandAfterWord w r.equations → IsAmong p (rule_places r) → Spells (spell_rule limits k w r) p
+in_rule limits k w r p is h =
     on _ _ p (on_left (heads ++ spell_with w r.equations) (plain kind.Semicolon ∷ []) p (by_part (among_either p (head_places r.first ++ head_places r.second) (flat_map equation_places r.equations) h)))
   where
     heads : Spelling
@@ -149,10 +150,10 @@ in_classes k (d ∷ cs) c q (inl e) g =
     (on _ _ q.kind.place (on_left (separated (numbered spell_auxiliary k d)) _ q.kind.place (in_separated (numbered spell_auxiliary k d) (spell_auxiliary j.0 q) q.kind.place j.1 (in_port _ q))))
 in_classes k (d ∷ cs) c q (inr h) g = on_right (spell_class k d) (spell_classes (k + length d) cs) q.kind.place (in_classes (k + length d) cs c q h g)
 
-in_symbol : (k : ℕ) (s : SourceSymbol) (p : Place) → IsAmong p (symbol_places s) → Spells (spell_symbol k s) p
-in_symbol k s p (inl e) = on _ _ p (here _ _ p (inl e))
-in_symbol k s p (inr (inl e)) = on _ _ p (on _ _ p (on _ _ p (on_left (spell_port _ s.port) _ p (subst (Spells (spell_port _ s.port)) e (in_port _ s.port)))))
-in_symbol k s p (inr (inr h)) =
+in_symbol : (limits : TextLimits) (k : ℕ) (s : SourceSymbol) (p : Place) → IsAmong p (symbol_places s) → Spells (spell_symbol limits k s) p
+in_symbol limits k s p (inl e) = on _ _ p (here _ _ p (inl e))
+in_symbol limits k s p (inr (inl e)) = on _ _ p (on _ _ p (on _ _ p (on_left (spell_port _ s.port) _ p (subst (Spells (spell_port _ s.port)) e (in_port _ s.port)))))
+in_symbol limits k s p (inr (inr h)) =
     let c = of_flat (λ (c : List SourcePort). map (λ (q : SourcePort). q.kind.place) c) s.classes p h in
     let q = of_map (λ (q : SourcePort). q.kind.place) c.0 p c.2 in
     on _ _ p (on _ _ p (on _ _ p (on_right (spell_port _ s.port) _ p (on_left (spell_classes 1 s.classes) _ p (subst (Spells (spell_classes 1 s.classes)) q.2 (in_classes 1 s.classes c.0 q.0 c.1 q.1))))))
@@ -166,20 +167,20 @@ in_types k ns p h =
 abbrev opened : SourceNet → Spelling
 opened n = plain kind.CloseParenthesis ∷ plain kind.OpenBrace ∷ flat_map spell_equation n.equations
 
-in_frees : (n : SourceNet) (p : Place) → IsAmong p (flat_map free_places n.free) → Spells (spell_net n) p
-in_frees n p h =
+in_frees : (limits : TextLimits) (n : SourceNet) (p : Place) → IsAmong p (flat_map free_places n.free) → Spells (spell_net limits n) p
+in_frees limits n p h =
     let f = of_flat free_places n.free p h in
-    let j = in_numbered spell_free 1 n.free f.0 f.1 in
-    on _ _ p (on _ _ p (on_left (separated (numbered spell_free 1 n.free) ++ opened n) (plain kind.CloseBrace ∷ []) p (on_left (separated (numbered spell_free 1 n.free)) (opened n) p (in_separated (numbered spell_free 1 n.free) (spell_free j.0 f.0) p j.1 (by_free j.0 f.0 f.2)))))
+    let j = in_numbered (spell_free limits) 1 n.free f.0 f.1 in
+    on _ _ p (on _ _ p (on_left (separated (numbered (spell_free limits) 1 n.free) ++ opened n) (plain kind.CloseBrace ∷ []) p (on_left (separated (numbered (spell_free limits) 1 n.free)) (opened n) p (in_separated (numbered (spell_free limits) 1 n.free) (spell_free limits j.0 f.0) p j.1 (by_free j.0 f.0 f.2)))))
   where
-    by_free : (j : ℕ) (f : SourceFree) → IsAmong p (free_places f) → Spells (spell_free j f) p
+    by_free : (j : ℕ) (f : SourceFree) → IsAmong p (free_places f) → Spells (spell_free limits j f) p
     by_free j f (inl e) = here _ _ p (inl e)
     by_free j f (inr (inl e)) = on _ _ p (on _ _ p (subst (Spells (spell_port _ f.port)) e (in_port _ f.port)))
     by_free j f (inr (inr k)) = absurd k
 
-in_net : (n : SourceNet) (p : Place) → IsAmong p (flat_map free_places n.free) ⊎ IsAmong p (flat_map equation_places n.equations) → Spells (spell_net n) p
-in_net n p (inl h) = in_frees n p h
-in_net n p (inr h) = on _ _ p (on _ _ p (on_left (separated (numbered spell_free 1 n.free) ++ opened n) (plain kind.CloseBrace ∷ []) p (on_right (separated (numbered spell_free 1 n.free)) (opened n) p (on _ _ p (on _ _ p (in_each spell_equation equation_places p (λ e a. in_equation e p a) n.equations h))))))
+in_net : (limits : TextLimits) (n : SourceNet) (p : Place) → IsAmong p (flat_map free_places n.free) ⊎ IsAmong p (flat_map equation_places n.equations) → Spells (spell_net limits n) p
+in_net limits n p (inl h) = in_frees limits n p h
+in_net limits n p (inr h) = on _ _ p (on _ _ p (on_left (separated (numbered (spell_free limits) 1 n.free) ++ opened n) (plain kind.CloseBrace ∷ []) p (on_right (separated (numbered (spell_free limits) 1 n.free)) (opened n) p (on _ _ p (on _ _ p (in_each spell_equation equation_places p (λ e a. in_equation e p a) n.equations h))))))
 
 -- ---- a program
 
@@ -195,41 +196,41 @@ type_item (rule w r) n h c = absurd h
 
 symbol_item : (i : Item) (s : SourceSymbol) (p : Place) → IsAmong s (symbols_in i) → IsAmong p (symbol_places s) → (c : Counts) → Spells (spell_item c i) p
 symbol_item (types ns) s p h k c = absurd h
-symbol_item (symbol u) s p (inl e) k c = in_symbol (c.symbols + 1) u p (subst (λ s. IsAmong p (symbol_places s)) (sym e) k)
+symbol_item (symbol u) s p (inl e) k c = in_symbol c.limits (c.symbols + 1) u p (subst (λ s. IsAmong p (symbol_places s)) (sym e) k)
 symbol_item (symbol u) s p (inr h) k c = absurd h
 symbol_item (rule w r) s p h k c = absurd h
 
 rule_item : (i : Item) (r : SourceRule) (p : Place) → IsItem i → IsAmong r (rules_in i) → IsAmong p (rule_places r) → (c : Counts) → Spells (spell_item c i) p
 rule_item (types ns) r p is h k c = absurd h
 rule_item (symbol s) r p is h k c = absurd h
-rule_item (rule w u) r p is (inl e) k c = in_rule (c.rules + 1) w u p is (subst (λ r. IsAmong p (rule_places r)) (sym e) k)
+rule_item (rule w u) r p is (inl e) k c = in_rule c.limits (c.rules + 1) w u p is (subst (λ r. IsAmong p (rule_places r)) (sym e) k)
 rule_item (rule w u) r p is (inr h) k c = absurd h
 
-in_program : (g : GrammarProgram) (p : Place) → IsAmong p (source_places (source_of g)) → Spells (spelling g) p
-in_program g p h = by_types (among_either p (map (λ (n : Name). n.place) (flat_map types_in g.items)) _ h)
+in_program : (limits : TextLimits) (g : GrammarProgram) (p : Place) → IsAmong p (source_places (source_of limits g)) → Spells (spelling limits g) p
+in_program limits g p h = by_types (among_either p (map (λ (n : Name). n.place) (flat_map types_in g.items)) _ h)
   where
-    front : Spells (spell_items none_yet g.items) p → Spells (spelling g) p
-    front h = on_left (spell_items none_yet g.items) (spell_net g.net) p h
+    front : Spells (spell_items (none_yet limits) g.items) p → Spells (spelling limits g) p
+    front h = on_left (spell_items (none_yet limits) g.items) (spell_net limits g.net) p h
 
-    by_rules : IsAmong p (flat_map rule_places (flat_map rules_in g.items)) ⊎ IsAmong p (flat_map free_places g.net.free ++ flat_map equation_places g.net.equations) → Spells (spelling g) p
+    by_rules : IsAmong p (flat_map rule_places (flat_map rules_in g.items)) ⊎ IsAmong p (flat_map free_places g.net.free ++ flat_map equation_places g.net.equations) → Spells (spelling limits g) p
     by_rules (inl a) =
         let r = of_flat rule_places (flat_map rules_in g.items) p a in
         let i = of_flat rules_in g.items r.0 r.1 in
-        front (in_items i.0 p (rule_item i.0 r.0 p (among_all IsItem g.items i.0 g.each i.1) i.2 r.2) g.items i.1 none_yet)
-    by_rules (inr a) = on_right (spell_items none_yet g.items) (spell_net g.net) p (in_net g.net p (among_either p (flat_map free_places g.net.free) (flat_map equation_places g.net.equations) a))
+        front (in_items i.0 p (rule_item i.0 r.0 p (among_all IsItem g.items i.0 g.each i.1) i.2 r.2) g.items i.1 (none_yet limits))
+    by_rules (inr a) = on_right (spell_items (none_yet limits) g.items) (spell_net limits g.net) p (in_net limits g.net p (among_either p (flat_map free_places g.net.free) (flat_map equation_places g.net.equations) a))
 
-    by_symbols : IsAmong p (flat_map symbol_places (flat_map symbols_in g.items)) ⊎ IsAmong p (flat_map rule_places (flat_map rules_in g.items) ++ (flat_map free_places g.net.free ++ flat_map equation_places g.net.equations)) → Spells (spelling g) p
+    by_symbols : IsAmong p (flat_map symbol_places (flat_map symbols_in g.items)) ⊎ IsAmong p (flat_map rule_places (flat_map rules_in g.items) ++ (flat_map free_places g.net.free ++ flat_map equation_places g.net.equations)) → Spells (spelling limits g) p
     by_symbols (inl a) =
         let s = of_flat symbol_places (flat_map symbols_in g.items) p a in
         let i = of_flat symbols_in g.items s.0 s.1 in
-        front (in_items i.0 p (symbol_item i.0 s.0 p i.2 s.2) g.items i.1 none_yet)
+        front (in_items i.0 p (symbol_item i.0 s.0 p i.2 s.2) g.items i.1 (none_yet limits))
     by_symbols (inr a) = by_rules (among_either p (flat_map rule_places (flat_map rules_in g.items)) (flat_map free_places g.net.free ++ flat_map equation_places g.net.equations) a)
 
-    by_types : IsAmong p (map (λ (n : Name). n.place) (flat_map types_in g.items)) ⊎ IsAmong p (flat_map symbol_places (flat_map symbols_in g.items) ++ (flat_map rule_places (flat_map rules_in g.items) ++ (flat_map free_places g.net.free ++ flat_map equation_places g.net.equations))) → Spells (spelling g) p
+    by_types : IsAmong p (map (λ (n : Name). n.place) (flat_map types_in g.items)) ⊎ IsAmong p (flat_map symbol_places (flat_map symbols_in g.items) ++ (flat_map rule_places (flat_map rules_in g.items) ++ (flat_map free_places g.net.free ++ flat_map equation_places g.net.equations))) → Spells (spelling limits g) p
     by_types (inl a) =
         let n = of_map (λ (n : Name). n.place) (flat_map types_in g.items) p a in
         let i = of_flat types_in g.items n.0 n.1 in
-        front (in_items i.0 p (λ c. subst (Spells (spell_item c i.0)) n.2 (type_item i.0 n.0 i.2 c)) g.items i.1 none_yet)
+        front (in_items i.0 p (λ c. subst (Spells (spell_item c i.0)) n.2 (type_item i.0 n.0 i.2 c)) g.items i.1 (none_yet limits))
     by_types (inr a) = by_symbols (among_either p (flat_map symbol_places (flat_map symbols_in g.items)) (flat_map rule_places (flat_map rules_in g.items) ++ (flat_map free_places g.net.free ++ flat_map equation_places g.net.equations)) a)
 
 -- ---- tokens
@@ -264,10 +265,10 @@ one_token text n (v ∷ ts) t u order all (inr h) (inl c) e =
     let x = later text v.place.to ts t order.1 all.1 h in let y = all.0.some in let z : v.place.from ≡ u.place.from = ap (λ (t : Token). t.place.from) c in absurd (omega (arith, x, y, z, e))
 one_token text n (v ∷ ts) t u order all (inr h) (inr k) e = one_token text v.place.to ts t u order.1 all.1 h k e
 
-pub texts_begin_apart : (text : List ℕ) (s : Source) → IsTreeOf text s → BeginApart (source_places s)
-texts_begin_apart text s tree p q h k e =
+pub texts_begin_apart : (limits : TextLimits) (text : List ℕ) (s : Source) → IsTreeOf limits text s → BeginApart (source_places s)
+texts_begin_apart limits text s tree p q h k e =
     let there : (p : Place) → IsAmong p (source_places s) → IsPlaceOf tree.tokens p = λ p h.
-    of_tokens text tree.tokens p (subst (λ ms. Spells ms p) tree.tree.1 (in_program tree.tree.0 p (subst (λ s. IsAmong p (source_places s)) (sym tree.tree.2) h))) in
+    of_tokens text tree.tokens p (subst (λ ms. Spells ms p) tree.tree.1 (in_program limits tree.tree.0 p (subst (λ s. IsAmong p (source_places s)) (sym tree.tree.2) h))) in
     let t = there p h in
     let u = there q k in
-    sym t.2 ∙ one_token text 0 tree.tokens t.0 u.0 (tokens_in_order text tree.tokens tree.read) (tokens_stand text tree.tokens tree.read) t.1 u.1 (ap (λ (p : Place). p.from) t.2 ∙ e ∙ sym (ap (λ (p : Place). p.from) u.2)) ∙ u.2
+    sym t.2 ∙ one_token text 0 tree.tokens t.0 u.0 (tokens_in_order limits text tree.tokens tree.read) (tokens_stand limits text tree.tokens tree.read) t.1 u.1 (ap (λ (p : Place). p.from) t.2 ∙ e ∙ sym (ap (λ (p : Place). p.from) u.2)) ∙ u.2

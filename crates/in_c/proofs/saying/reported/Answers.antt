@@ -3,4 +3,4 @@ use Rattle.in_c.proofs.Said.{answered, begins}
 use Rattle.in_c.proofs.saying.reported.Goals as goal
 
 pub returns : goal.returns
-returns c = answered (IsReply (report_action c.args.derive) c.args.text.now) _ _ _ _ _ (begins _ _ c.new-writer.ensures.0 c.new-writer.ensures.1) c.report_text-status.ensures c.answer.ensures
+returns c = answered (IsReply c.args.text_limits (report_action c.args.derive) c.args.text.now) _ _ _ _ _ (begins _ _ c.new-writer.ensures.0 c.new-writer.ensures.1) c.report_text-status.ensures c.answer.ensures

@@ -8,7 +8,7 @@ use Rattle.in_check.proofs.checking.checked_text.Goals as goal
 pub invariant_of-result : goal.invariant_of-result
 invariant_of-result c =
     let accepted = c.in_ok-passed.ensures.checked in
-    (few_rules_of c.args.text.now c.in_ok-passed.passed.program (c.in_ok-passed.passed, refl, accepted), certified_each c.args.text.now c.in_ok-passed.passed accepted, (c.args.text.now, accepted))
+    (few_rules_of c.args.limits c.args.text.now c.in_ok-passed.passed.program (c.in_ok-passed.passed, refl, accepted), certified_each c.args.limits c.args.text.now c.in_ok-passed.passed accepted, (c.args.limits, c.args.text.now, accepted))
 
 pub returns-clause-promised : goal.returns-clause-promised
-returns-clause-promised c = as_promised (system_of c.in_ok-passed.passed.program) (is_sound c.args.text.now c.in_ok-passed.passed.program (c.in_ok-passed.passed, refl, c.in_ok-passed.ensures.checked))
+returns-clause-promised c = as_promised (system_of c.in_ok-passed.passed.program) (is_sound c.args.limits c.args.text.now c.in_ok-passed.passed.program (c.in_ok-passed.passed, refl, c.in_ok-passed.ensures.checked))

@@ -6,8 +6,8 @@ build_net-requires c =
     let text = c.requires.tree.text in
     let tree = c.requires.tree.tree in
     record {
-      sized = tree_sized text c.args.source.now tree;
-      order = tree_in_order text c.args.source.now tree;
+      sized = tree_sized c.args.source.now.limits text c.args.source.now tree;
+      order = tree_in_order c.args.source.now.limits text c.args.source.now tree;
       tabled = c.requires.tables.0;
       faultless = c.requires.tables.1;
     }

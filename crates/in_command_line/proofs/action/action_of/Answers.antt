@@ -32,7 +32,7 @@ returns-in-Some-clause-ok c =
     let none : faults words ≡ [] = sym (ap (λ (a : App). fault_of a words) is) ∙ c.in-Ok.ensures.kinds (ap is_simple_and_free is ∙ simple_and_free) in
     let given = (c.in-Ok.ensures.matches (ap is_simple is ∙ simple)).1 ∙ ap (λ (a : App). subcommand_of a words) is in
     let n = c.in-Some.ensures in
-    record { name = n.0; options = n.1; taken = none; given = sym given ∙ n.2; named = n.3; file_is = n.4; stats_are = n.5 }
+    record { name = n.0; options = n.1; taken = none; given = sym given ∙ n.2; named = n.3; file_is = n.4; stats_are = n.5; large_is = n.6 }
 
 pub returns-in-Err-clause-err : goal.returns-in-Err-clause-err
 returns-in-Err-clause-err c =

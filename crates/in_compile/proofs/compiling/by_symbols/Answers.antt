@@ -3,7 +3,7 @@ use Rattle.std.specs.Arc.{arc_value}
 use Rattle.std.proofs.lemmas.List.{length-set}
 use Rattle.std.proofs.lemmas.Option.{slice_get_read}
 use Rattle.in_base.proofs.Places.{to_mapped}
-use Rattle.in_symbols.specs.declared.symbols.SymbolNo.{SymbolNo}
+use Rattle.in_syntax.specs.declared.symbol_no.SymbolNo.{SymbolNo}
 use Rattle.in_compile.specs.Finding.{PutsAt, listed}
 use Rattle.in_compile.specs.Templates.{TemplateParts}
 use Rattle.in_compile.proofs.Compiled.Found.{one_more, within}

@@ -15,4 +15,4 @@ copied t rules own is (Err e) same = tt
 pub returns : goal.returns
 returns c =
     let p = c.args.checked.now.program in
-    copied p.tables p.rules c.numbers.result.now (subst (IsTableOf p.tables p.rules) (sym c.numbers.ensures) (table c.is_accepted.ensures.accepted.0 p c.is_accepted.ensures.accepted.1)) c.copy.result c.copy.ensures
+    copied p.tables p.rules c.numbers.result.now (subst (IsTableOf p.tables p.rules) (sym c.numbers.ensures) (table c.is_accepted.ensures.accepted.0 c.is_accepted.ensures.accepted.1 p c.is_accepted.ensures.accepted.2)) c.copy.result c.copy.ensures

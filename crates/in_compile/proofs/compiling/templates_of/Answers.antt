@@ -1,7 +1,7 @@
 use Rattle.std.proofs.Common.{◌≡◌, ◌≤◌, [], ◌∷◌, ◌++◌, length, sym, ap, ◌∙◌, subst}
 use Rattle.std.specs.Arc.{arc_value}
 use Rattle.std.proofs.lemmas.List.{map-append}
-use Rattle.in_syntax.specs.Grammar.{max_symbols}
+use Rattle.in_syntax.specs.TextLimits.{most_symbols}
 use Rattle.in_symbols.specs.Tables.{Tables}
 use Rattle.in_net.specs.Rules.{IsRuleOver}
 use Rattle.in_open_nets_of_programs.specs.OpeningRules.{IsRuleWhole}
@@ -12,17 +12,17 @@ use Rattle.in_compile.proofs.Compiled.Made.{one_more}
 use Rattle.in_compile.proofs.compiling.templates_of.Goals as goal
 
 pub template-requires-clause-few_symbols : goal.template-requires-clause-few_symbols
-template-requires-clause-few_symbols c = subst (λ (t : Tables). length t.names ≤ max_symbols) (sym c.symbols.ensures) (few_symbols c.is_accepted.ensures.accepted.0 c.args.checked.now.program c.is_accepted.ensures.accepted.1)
+template-requires-clause-few_symbols c = subst (λ (t : Tables). length t.names ≤ most_symbols) (sym c.symbols.ensures) (few_symbols c.is_accepted.ensures.accepted.0 c.is_accepted.ensures.accepted.1 c.args.checked.now.program c.is_accepted.ensures.accepted.2)
 
 pub template-requires-clause-over : goal.template-requires-clause-over
 template-requires-clause-over c =
     let r = c.rule-rule.result.now in
-    subst (λ (t : Tables). IsRuleOver t r) (sym c.symbols.ensures) (rule_over c.is_accepted.ensures.accepted.0 c.args.checked.now.program c.is_accepted.ensures.accepted.1 c.loop-number.number r c.rule-rule.ensures)
+    subst (λ (t : Tables). IsRuleOver t r) (sym c.symbols.ensures) (rule_over c.is_accepted.ensures.accepted.0 c.is_accepted.ensures.accepted.1 c.args.checked.now.program c.is_accepted.ensures.accepted.2 c.loop-number.number r c.rule-rule.ensures)
 
 pub template-requires-clause-whole : goal.template-requires-clause-whole
 template-requires-clause-whole c =
     let r = c.rule-rule.result.now in
-    subst (λ (t : Tables). IsRuleWhole t r) (sym c.symbols.ensures) (whole_rule c.is_accepted.ensures.accepted.0 c.args.checked.now.program c.is_accepted.ensures.accepted.1 c.loop-number.number r c.rule-rule.ensures)
+    subst (λ (t : Tables). IsRuleWhole t r) (sym c.symbols.ensures) (whole_rule c.is_accepted.ensures.accepted.0 c.is_accepted.ensures.accepted.1 c.args.checked.now.program c.is_accepted.ensures.accepted.2 c.loop-number.number r c.rule-rule.ensures)
 
 pub loop-number-preserved : goal.loop-number-preserved
 loop-number-preserved c =

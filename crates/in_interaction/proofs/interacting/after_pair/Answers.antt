@@ -2,7 +2,7 @@ use Rattle.std.proofs.Common.{◌≡◌, ◌≤◌, ◌<◌, ◌+◌, ◌^◌, �
 use Rattle.in_interaction.specs.After.{AreUnused}
 use Rattle.in_interaction.specs.Following.{IsSite}
 use Rattle.in_interaction.specs.Interacting.{MayInteract}
-use Rattle.in_net.specs.NetFaults.{max_member_agents}
+use Rattle.in_syntax.specs.TextLimits.{most_member_agents}
 use Rattle.in_net.specs.Parts.{Parts, IsWhole, cell_in}
 use Rattle.in_net.specs.Rules.{RuleParts}
 use Rattle.in_net.specs.declared.nets.AgentNo.{AgentNo}
@@ -20,7 +20,7 @@ unused-requires-clause-few c =
     let two : length c.member_cells.result.now ≡ length c.args.rule.now.member.cells = ap length c.member_cells.ensures.cells in
     omega (arith, few, room, one, two)
 
-is_site : (n : Parts) (r : RuleParts) (a b : AgentNo) (names : List AgentNo) (first k : ℕ) → MayInteract n r a b → IsWhole n → IsWhole r.member → length r.member.cells ≤ max_member_agents →
+is_site : (n : Parts) (r : RuleParts) (a b : AgentNo) (names : List AgentNo) (first k : ℕ) → MayInteract n r a b → IsWhole n → IsWhole r.member → length r.member.cells ≤ most_member_agents →
     ((c : Cell) → cell_in n a.0 ≡ Some c → length c.ends ≡ first + 1) → k ≡ length r.member.cells → AreUnused n.cells k names → IsSite (record { net = n; rule = r; one = a; two = b; first = first; names = names })
 is_site n r a b names first k may whole member few arity many found = record {
   over = may.0;

@@ -2,7 +2,7 @@ use Rattle.std.proofs.Common.{◌≡◌, ◌∙◌, ap, sym, subst, refl, length
 use Rattle.in_net.specs.Counting.{NamesInside}
 use Rattle.in_net.specs.Joining.{JointsInside, joining_of}
 use Rattle.in_net.specs.Built.{Builds}
-use Rattle.in_net.specs.NetFaults.{max_agents, of_wires}
+use Rattle.in_net.specs.NetFaults.{of_wires}
 use Rattle.in_net.specs.Reading.{reading_of}
 use Rattle.in_net.specs.TextNet.{body_of}
 use Rattle.in_net.proofs.Texts.Bodies.{net_ready}
@@ -11,6 +11,7 @@ use Rattle.in_net.proofs.Texts.ReadFrom as read_from
 use Rattle.in_net.proofs.Wiring.TextWires.{read, read_closed, read_first}
 use Rattle.in_net.proofs.Refusals.GoodNets.{good}
 use Rattle.in_net.proofs.building.joined_net.Goals as goal
+use Rattle.in_syntax.specs.TextLimits.{max_agents}
 
 pub join_all-requires-clause-joints : goal.join_all-requires-clause-joints
 join_all-requires-clause-joints c =
@@ -33,7 +34,7 @@ returns-in-Some c =
     let closed : (joining_of c.args.reading.now).closed ≡ Some c.in-Some.place = sym (ap (λ j. j.closed) c.in_ok-joined.ensures) ∙ c.in-Some.is in
     let found : (joining_of (reading_of t (body_of source.net))).closed ≡ Some c.in-Some.place = sym (ap (λ r. (joining_of r).closed) is) ∙ closed in
     subst (λ f. Builds source t (Err f)) (sym c.closed_at.ensures) (
-      of_wires c.in-Some.place (no_fault max_agents t (body_of source.net) c.args.reading.now ready is clear) (read_closed t (body_of source.net) g c.in-Some.place found)
+      of_wires c.in-Some.place (no_fault (max_agents source.limits) t (body_of source.net) c.args.reading.now ready is clear) (read_closed t (body_of source.net) g c.in-Some.place found)
           (λ q wire. read_first t (body_of source.net) g c.in-Some.place q found wire),
       refl,
     )

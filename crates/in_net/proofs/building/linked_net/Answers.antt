@@ -2,7 +2,6 @@ use Rattle.std.proofs.Common.{◌≡◌, ◌∙◌, ap, sym, subst, length, None
 use Rattle.in_net.specs.Joining.{joining_of}
 use Rattle.in_net.specs.Building.{AreSmallSpots, IsJoined, free_ends_from}
 use Rattle.in_net.specs.Built.{ArePointsAt, AreJoinedTo, IsReadFrom}
-use Rattle.in_net.specs.NetFaults.{max_agents}
 use Rattle.in_net.specs.Reading.{reading_of}
 use Rattle.in_net.specs.TextNet.{body_of, AreFreeOf}
 use Rattle.in_net.proofs.Texts.Agents.{free_for}
@@ -14,6 +13,7 @@ use Rattle.in_net.proofs.Texts.ReadFrom as read_from
 use Rattle.in_net.proofs.Wiring.TextWires.{read, read_joined, read_none, is_text_net}
 use Rattle.in_net.proofs.Refusals.GoodNets.{good}
 use Rattle.in_net.proofs.building.linked_net.Goals as goal
+use Rattle.in_syntax.specs.TextLimits.{max_agents}
 
 pub free_ends-requires-clause-free : goal.free_ends-requires-clause-free
 free_ends-requires-clause-free c =
@@ -92,6 +92,6 @@ returns c =
         wires = net.2;
         whole = made.whole;
       },
-      no_fault max_agents t (body_of source.net) r ready is clear,
+      no_fault (max_agents source.limits) t (body_of source.net) r ready is clear,
       read_none t (body_of source.net) g none,
     )

@@ -3,7 +3,8 @@ use Rattle.in_simple_bridges.specs.Spans.{at}
 use Rattle.in_growing_graphs.specs.Blobs.{GoesUp, there}
 use Rattle.in_node_orders.specs.Heads.{AreFalling, AreSkips}
 use Rattle.in_node_orders.proofs.Climbs.{set_falls}
-use Rattle.in_node_orders.proofs.Ways.{Is, goes_on, is_bare, is_covered, jumps}
+use Rattle.in_growing_graphs.proofs.Public.{goes_on}
+use Rattle.in_node_orders.proofs.Ways.{Is, is_bare, is_covered, jumps}
 use Rattle.in_node_orders.proofs.heads.head.Goals as goal
 
 pub loop-number-init : goal.loop-number-init

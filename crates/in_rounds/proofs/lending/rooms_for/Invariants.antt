@@ -4,7 +4,7 @@ use Rattle.in_rounds.proofs.lending.rooms_for.Given as goal
 
 abbrev pub invariant-loop-made : goal.invariant-loop-made
 invariant-loop-made l = record {
-  each : All (IsEmptyRoom l.stock) l.rooms.items;
+  each : All (IsEmptyRoom l.plan.templates.templates l.stock) l.rooms.items;
   made : vec_len l.rooms ≡ l._made;
   room : l.count ≤ vec_capacity l.rooms;
 }

@@ -1,23 +1,17 @@
 use Rattle.std.proofs.Common.{◌≡◌, Some, None, IsSome, [], ◌∷◌, length, length-append, slice_get, sym, ap, subst, ◌∙◌, arith}
-use Rattle.in_symbols.specs.declared.symbols.SymbolNo.{SymbolNo}
+use Rattle.in_syntax.specs.declared.symbol_no.SymbolNo.{SymbolNo}
 use Rattle.in_compile.specs.Templates.{template_at}
 use Rattle.in_reducer.specs.Inside.{reducer_view}
 use Rattle.in_reducer.proofs.Public.{each_push}
 use Rattle.in_reducer.proofs.Public.Found as found
-use Rattle.in_rounds.proofs.Planned.{templates_are_small}
 use Rattle.in_rounds.proofs.rounding.jobs.Goals as goal
 
 pub loop-number-init : goal.loop-number-init
 loop-number-init c =
-    let r = c.args.body.now in
-    let accepted = c.requires.net.reducer.accepted in
     record {
       room = (let e = c.in_ok-jobs.ensures.capacity in omega (arith, e));
       count = ap length c.in_ok-jobs.ensures.items;
-      plan = record {
-        rules = λ k h at. absurd (let e : None ≡ Some h = ap (λ zs. slice_get zs k) (sym c.in_ok-jobs.ensures.items) ∙ at in cc);
-        small = templates_are_small accepted.0 r.checked.now.program c.args.templates.now accepted.1 c.requires.templates;
-      };
+      plan = λ k h at. absurd (let e : None ≡ Some h = ap (λ zs. slice_get zs k) (sym c.in_ok-jobs.ensures.items) ∙ at in cc);
     }
 
 pub loop-number-preserved : goal.loop-number-preserved
@@ -30,10 +24,7 @@ loop-number-preserved c =
     record {
       room = (let l = inv.room in let e = c.push_reserved.ensures.capacity in omega (arith, l, e));
       count = (let n = inv.count in let e = ap length c.push_reserved.ensures.items in let f = length-append c.loop-number.jobs.items (c.heads.result ∷ []) in omega (arith, n, e, f));
-      plan = record {
-        rules = λ k x at. each_push (λ (z : SymbolNo × SymbolNo). IsSome (template_at ts z.0.0 z.1.0)) c.loop-number.jobs.items c.heads.result inv.plan.rules here k x (subst (λ zs. slice_get zs k ≡ Some x) c.push_reserved.ensures.items at);
-        small = inv.plan.small;
-      };
+      plan = λ k x at. each_push (λ (z : SymbolNo × SymbolNo). IsSome (template_at ts z.0.0 z.1.0)) c.loop-number.jobs.items c.heads.result inv.plan here k x (subst (λ zs. slice_get zs k ≡ Some x) c.push_reserved.ensures.items at);
     }
 
 pub heads-requires-clause-net : goal.heads-requires-clause-net

@@ -5,7 +5,7 @@ use Rattle.in_rounds.proofs.working.worked.Given as goal
 abbrev pub invariant-loop-plan : goal.invariant-loop-plan
 invariant-loop-plan g l = record {
   works : Works l.plan l.fn.hand (record { seat = l.seat; stock = l.stock; rooms = l.rooms; done = l.done });
-  rooms : All (IsEmptyRoom l.fn.hand.stock) l.rooms.items;
+  rooms : All (IsEmptyRoom l.plan.templates.templates l.fn.hand.stock) l.rooms.items;
   list : vec_len l.done + vec_len l.rooms ≤ vec_capacity l.done;
 }
 

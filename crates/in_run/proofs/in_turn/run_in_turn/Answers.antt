@@ -15,7 +15,7 @@ loop-stop-preserved c =
     let limit = c.limit-in-loop-stop.ensures.limit in
     let most = c.take_first-interactions.ensures.most in
     let within = (c.in_default.ensures {u = tt}).1 in
-    takes_in_turn c.is_accepted.ensures.accepted.0 c.args.checked.now.program c.args.limits c.take_first-interactions.result c.loop-stop.interactions c.loop-stop.machine c.take_first-interactions.new.self c.is_accepted.ensures.accepted.1 c.loop-stop.invariant c.take_first-interactions.ensures.runs
+    takes_in_turn c.is_accepted.ensures.accepted.0 c.is_accepted.ensures.accepted.1 c.args.checked.now.program c.args.limits c.take_first-interactions.result c.loop-stop.interactions c.loop-stop.machine c.take_first-interactions.new.self c.is_accepted.ensures.accepted.2 c.loop-stop.invariant c.take_first-interactions.ensures.runs
     (omega (arith, limit, most, within))
 
 pub loop-stop-smaller : goal.loop-stop-smaller
@@ -31,8 +31,8 @@ pub returns-in-Some-clause-runs : goal.returns-in-Some-clause-runs
 returns-in-Some-clause-runs c =
     let turn = ends_in_turn c.args.checked.now.program c.args.limits c.loop-stop.interactions c.loop-stop.machine c.loop-stop.invariant c.in-Some.stop
     (subst (λ (n : ℕ). IsStop n c.loop-stop.machine c.loop-stop.interactions c.in-Some.stop) c.limit.ensures.limit (c.in-Some.ensures {u = tt})) in
-    turns_are_allowed c.is_accepted.ensures.accepted.0 c.args.checked.now.program c.args.limits (Ok (record { machine = c.loop-stop.machine; interactions = c.loop-stop.interactions; stop = c.in-Some.stop })) c.is_accepted.ensures.accepted.1 turn
+    turns_are_allowed c.is_accepted.ensures.accepted.0 c.is_accepted.ensures.accepted.1 c.args.checked.now.program c.args.limits (Ok (record { machine = c.loop-stop.machine; interactions = c.loop-stop.interactions; stop = c.in-Some.stop })) c.is_accepted.ensures.accepted.2 turn
 
 pub returns-in-Some-clause-order : goal.returns-in-Some-clause-order
 returns-in-Some-clause-order c normal =
-    normal_outcomes_are_one c.is_accepted.ensures.accepted.0 c.args.checked.now.program c.args.limits (record { machine = c.loop-stop.machine; interactions = c.loop-stop.interactions; stop = c.in-Some.stop }) c.is_accepted.ensures.accepted.1 (returns-in-Some-clause-runs c) normal
+    normal_outcomes_are_one c.is_accepted.ensures.accepted.0 c.is_accepted.ensures.accepted.1 c.args.checked.now.program c.args.limits (record { machine = c.loop-stop.machine; interactions = c.loop-stop.interactions; stop = c.in-Some.stop }) c.is_accepted.ensures.accepted.2 (returns-in-Some-clause-runs c) normal

@@ -12,7 +12,7 @@ use Rattle.in_run.proofs.running.run_watched.Goals as goal
 
 pub loop-stop-init : goal.loop-stop-init
 loop-stop-init g c =
-    begins c.is_accepted.ensures.accepted.0 c.args.checked.now.program c.args.limits c.is_accepted.ensures.accepted.1 c.in-Ok.machine
+    begins c.is_accepted.ensures.accepted.0 c.is_accepted.ensures.accepted.1 c.args.checked.now.program c.args.limits c.is_accepted.ensures.accepted.2 c.in-Ok.machine
     (subst (λ (n : CellCounts). IsStart c.args.checked.now.program n c.in-Ok.machine) c.cells.ensures.cells (c.in-Ok.ensures {u = tt}))
 
 pub loop-stop-preserved : goal.loop-stop-preserved

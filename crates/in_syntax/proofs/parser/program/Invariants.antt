@@ -6,7 +6,7 @@ use Rattle.in_syntax.proofs.parser.program.Given as goal
 abbrev pub invariant-loop-token : goal.invariant-loop-token
 invariant-loop-token l = record {
   texts : HasTexts l.text (drop l.token-index l.tokens);
-  answer : run l.reader (signs_of l.text (drop l.token-index l.tokens)) ≡ run start (signs_of l.text l.tokens);
-  leads : SignsLead start (signs_of l.text (take l.token-index l.tokens)) l.reader;
+  answer : run l.reader (signs_of l.text (drop l.token-index l.tokens)) ≡ run (start l.fn.limits) (signs_of l.text l.tokens);
+  leads : SignsLead (start l.fn.limits) (signs_of l.text (take l.token-index l.tokens)) l.reader;
   expected : l.expected ≡ expected_in l.reader.state;
 }

@@ -13,20 +13,20 @@ pub invariant_of-result : goal.invariant_of-result
 invariant_of-result c =
     let p : Program = c.args.checked.now.program in
     let same : c.in_ok-net.net ≡ p.net = c.in_ok-net.ensures ∙ c.net.ensures in
-    let over = (program_of c.is_accepted.ensures.accepted.0 p c.is_accepted.ensures.accepted.1).builds.0 in
+    let over = (program_of c.is_accepted.ensures.accepted.0 c.is_accepted.ensures.accepted.1 p c.is_accepted.ensures.accepted.2).builds.0 in
     subst (λ (n : Parts). IsPlain (record { program = p; net = n })) (sym same) (starts p over).0
 
 pub returns-clause-starts : goal.returns-clause-starts
 returns-clause-starts c =
     let p : Program = c.args.checked.now.program in
     let same : c.in_ok-net.net ≡ p.net = c.in_ok-net.ensures ∙ c.net.ensures in
-    let over = (program_of c.is_accepted.ensures.accepted.0 p c.is_accepted.ensures.accepted.1).builds.0 in
+    let over = (program_of c.is_accepted.ensures.accepted.0 c.is_accepted.ensures.accepted.1 p c.is_accepted.ensures.accepted.2).builds.0 in
     (refl, same, subst (λ (n : Parts). IsReachedBy (record { program = p; net = n }) 0) (sym same) (starts p over).1)
 
 pub returns-clause-promised : goal.returns-clause-promised
 returns-clause-promised c =
     let p : Program = c.args.checked.now.program in
     let same : c.in_ok-net.net ≡ p.net = c.in_ok-net.ensures ∙ c.net.ensures in
-    let over = (program_of c.is_accepted.ensures.accepted.0 p c.is_accepted.ensures.accepted.1).builds.0 in
+    let over = (program_of c.is_accepted.ensures.accepted.0 c.is_accepted.ensures.accepted.1 p c.is_accepted.ensures.accepted.2).builds.0 in
     subst (λ (n : Parts). IsAsPromised (system_of p) (net_of n)) (sym same)
-    (promised c.is_accepted.ensures.accepted.0 (record { program = p; net = p.net }) c.is_accepted.ensures.accepted.1 (starts p over).0)
+    (promised c.is_accepted.ensures.accepted.0 c.is_accepted.ensures.accepted.1 (record { program = p; net = p.net }) c.is_accepted.ensures.accepted.2 (starts p over).0)

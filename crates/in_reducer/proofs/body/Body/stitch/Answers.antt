@@ -1,5 +1,5 @@
 use Rattle.std.proofs.Common.{◌≡◌, ◌≤◌, length, sym, ap, subst, ◌∙◌, arith}
-use Rattle.in_net.specs.NetFaults.{max_member_agents}
+use Rattle.in_syntax.specs.TextLimits.{most_member_agents}
 use Rattle.in_compile.specs.Members.{IsSoundMember}
 use Rattle.in_compile.specs.Placing.{PlacedParts}
 use Rattle.in_compile.specs.Templates.{TemplateParts}
@@ -48,7 +48,7 @@ returns-clause-all c =
       net = record { reducer = net.reducer; net = net.net; few = net.few; few_free = net.few_free; free = net.free; ends = net.ends; queue = net.queue };
       tools = record {
         placed = subst (λ (p : PlacedParts). IsNoneOf p.bag n.arena) (sym placed) (still.none_there r.tools.placed.bag r.arena n.arena memory cells k.tools.placed);
-        room = subst (λ (p : PlacedParts). max_member_agents ≤ p.room) (sym placed) k.tools.room;
+        room = subst (λ (p : PlacedParts). most_member_agents ≤ p.room) (sym placed) k.tools.room;
         made = tools.made;
         made_room = (let e = tools.made_room in let g = k.tools.made_room in omega (arith, e, g));
         points = (let e = ap (λ v. length v.items) tools.points in let g = k.tools.points in omega (arith, e, g));

@@ -31,5 +31,5 @@ returns c =
     let a = c.self.inside.body.arena in
     let accepted = c.self.invariant.all.net.reducer.accepted in
     let net = net_rests p.tables a c.self.invariant.none c.self.invariant.all.net.net in
-    all_counted p.tables a net c.loop-class.class-index c.loop-class.agents c.loop-class-test.false c.loop-class.invariant ∙ sym (all_classes p.tables (few_ports accepted.0 p accepted.1) (agents_in a))
+    all_counted p.tables a net c.loop-class.class-index c.loop-class.agents c.loop-class-test.false c.loop-class.invariant ∙ sym (all_classes p.tables (few_ports accepted.0 accepted.1 p accepted.2) (agents_in a))
     ∙ ap (λ (m : MachineParts). count_by is_some m.agents) c.self.view_is

@@ -10,7 +10,7 @@ use Rattle.in_net.specs.Nets.{signature_of}
 use Rattle.in_reducer.specs.declared.body.OwnEnd.{OwnEnd}
 use Rattle.in_reducer.specs.declared.body.OwnEnd.TheVariants.{Cut}
 use Rattle.in_reducer.specs.Cutting.{CanCut, CutsAt, net_in}
-use Rattle.in_reducer.specs.Inside.{most_free, reducer_view}
+use Rattle.in_reducer.specs.Inside.{most_free_ends, reducer_view}
 use Rattle.in_reducer.specs.Machines.{MachineParts}
 use Rattle.in_reducer.proofs.Cuts.CutOff as cut_off
 use Rattle.in_reducer.proofs.Steps.StillNet as still
@@ -77,7 +77,7 @@ invariant_of-self-2 c =
     let given : cut_off.IsCutOff r c.args.cell.0 c.args.place b es c.len-own.result c.as_mut_slice.result.now c.symbol.result kind c.push_reserved-2.new.self.items c.free.result c.free-2.result c.push_reserved-4.new.self.items =
     record { kept = kept; long = long; is_own = own; is_ends = value; cut = c.cut.ensures.cut (signature_of r.checked.now.program.tables); is_symbol = c.symbol.ensures; is_kind = is_kind; is_new = new; is_list = list } in
     let alike = still.kept_alike r.arena b kept in
-    let few : length r.free.items + 2 ≤ most_free = (let m = cut_off.free_many r k in let v = ap (λ (m : MachineParts). length m.free) c.self.view_is in let f = c.requires.few in omega (arith, m, v, f)) in
+    let few : length r.free.items + 2 ≤ most_free_ends = (let m = cut_off.free_many r k in let v = ap (λ (m : MachineParts). length m.free) c.self.view_is in let f = c.requires.few in omega (arith, m, v, f)) in
     record {
       all = record {
         net = record {

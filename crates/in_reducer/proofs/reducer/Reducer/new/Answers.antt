@@ -18,12 +18,12 @@ lay-requires c =
     let a = c.in_ok-fresh.fresh.arena in
     let fresh = c.in_ok-fresh.ensures in
     record {
-      free = enough h.0 p h.1 m of c.args.cells _ c.requires.fits (all_free a c.args.cells fresh.cells fresh.empty p.tables);
-      few = few_joints h.0 p h.1 m of;
-      joints = has_joint h.0 p h.1 m of;
-      pairs = has_pair h.0 p h.1 m of;
+      free = enough h.0 h.1 p h.2 m of c.args.cells _ c.requires.fits (all_free a c.args.cells fresh.cells fresh.empty p.tables);
+      few = few_joints h.0 h.1 p h.2 m of;
+      joints = has_joint h.0 h.1 p h.2 m of;
+      pairs = has_pair h.0 h.1 p h.2 m of;
       queue = fresh.queue;
-      room = (let few = few_pairs h.0 p h.1 m of c.args.cells c.requires.fits in let room = fresh.queue_room in omega (arith, few, room));
+      room = (let few = few_pairs h.0 h.1 p h.2 m of c.args.cells c.requires.fits in let room = fresh.queue_room in omega (arith, few, room));
     }
 
 pub drop-fresh-requires : goal.drop-fresh-requires
@@ -42,8 +42,8 @@ invariant_of-result c =
     let room : all_of c.args.cells + 2 * most_ends ≤ 2 * f.queue.room + 1 = (let r = laid.room in let s = fresh.queue_room in omega (arith, r, s)) in
     let tools = subst (λ (t : Tools). AreTools t c.in_ok-fresh.fresh.arena) (sym laid.tools) fresh.tools in
     subst IsKept (sym c.into_body.ensures)
-    (is_kept h.0 x c.args.templates.now c.start.result.now c.args.cells c.in_ok-fresh.fresh.arena laid.names (record {
-      accepted = h.1;
+    (is_kept h.0 h.1 x c.args.templates.now c.start.result.now c.args.cells c.in_ok-fresh.fresh.arena laid.names (record {
+      accepted = h.2;
       templates = c.requires.templates;
       start = c.start.ensures;
       few = c.requires.cells;
@@ -65,8 +65,8 @@ returns c =
     let laid = c.in_ok-ends.ensures.laid in
     let x : Body = record { checked = c.args.checked; arena = f.arena; free = c.in_ok-free.free; ends = c.in_ok-ends.ends; queue = f.queue; tools = f.tools } in
     subst (λ (b : Body). IsStart p c.args.cells (reducer_view b)) (sym c.into_body.ensures)
-    (starts h.0 x c.args.templates.now c.start.result.now c.args.cells c.in_ok-fresh.fresh.arena laid.names (record {
-      accepted = h.1;
+    (starts h.0 h.1 x c.args.templates.now c.start.result.now c.args.cells c.in_ok-fresh.fresh.arena laid.names (record {
+      accepted = h.2;
       templates = c.requires.templates;
       start = c.start.ensures;
       few = c.requires.cells;

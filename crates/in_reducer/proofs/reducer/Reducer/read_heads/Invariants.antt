@@ -1,5 +1,5 @@
 use Rattle.std.proofs.Common.{◌≡◌, ◌<◌, ℕ, Some, length, slice_get}
-use Rattle.in_symbols.specs.declared.symbols.SymbolNo.{SymbolNo}
+use Rattle.in_syntax.specs.declared.symbol_no.SymbolNo.{SymbolNo}
 use Rattle.in_reducer.specs.Taking.{together}
 use Rattle.in_reducer.specs.Templates.{HasHeadsAt}
 use Rattle.in_reducer.proofs.reducer.Reducer.read_heads.Given as goal

@@ -1,0 +1,9 @@
+use Rattle.std.proofs.Common.{inr, refl}
+use Rattle.in_syntax.specs.declared.text_limits.TextLimits.TheVariants.{Large}
+use Rattle.in_command_line.specs.declared.action.Action.TheVariants.{Check}
+use Rattle.in_c.specs.Answers.{IsSaid}
+use Rattle.in_c.proofs.Given.{anyway, gives}
+use Rattle.in_c.proofs.large.inet_check_large.Goals as goal
+
+pub returns : goal.returns
+returns c = gives (IsSaid Large Check c.args.text.now) _ _ _ _ _ c.reported.ensures (anyway _ _ (inr (refl, refl))) c.give.ensures.ok c.give.ensures.err

@@ -1,0 +1,9 @@
+use Rattle.std.proofs.Common.{Ok}
+use Rattle.std.specs.declared.alloc.AllocError.{AllocError}
+use Rattle.in_syntax.specs.declared.text_limits.TextLimits.TheVariants.{Large}
+use Rattle.in_c.specs.Answers.{IsDiagnosisData}
+use Rattle.in_c.proofs.Given.{gives}
+use Rattle.in_c.proofs.large.inet_diagnose_data_large.Goals as goal
+
+pub returns : goal.returns
+returns c = gives {E = AllocError} (IsDiagnosisData Large c.args.text.now) (Ok c.told_as_data.result) _ _ _ _ c.told_as_data.ensures tt c.give.ensures.ok tt
