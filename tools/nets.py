@@ -3,6 +3,7 @@
 docs/use/EXPORT.md has the format. A point is a tuple: (agent, place) for an agent's port, place 0 being the principal one, and (number,) for
 a free end. An active pair is a tuple of two agents, the constructor first.
 """
+import itertools
 import json
 import random
 import shutil
@@ -105,8 +106,10 @@ def check_form(data):
         need(all(map(is_symbol, heads)), f"the heads of rule {place}")
         met[heads] += 1
         check_part(symbols, rule, [end for head in heads for end in symbols[head]["ports"][1:]], f"rule {place}")
-    kinds = [(symbol["ports"][0]["type"], symbol["ports"][0]["output"]) for symbol in symbols]
-    pairs = {(one, other) for one, kind in enumerate(kinds) for other, taken in enumerate(kinds) if kind == (taken[0], True) and not taken[1]}
+    kinds = {}
+    for number, symbol in enumerate(symbols):
+        kinds.setdefault((symbol["ports"][0]["type"], symbol["ports"][0]["output"]), []).append(number)
+    pairs = [pair for kind in range(len(types)) for pair in itertools.product(kinds.get((kind, True), ()), kinds.get((kind, False), ()))]
     need(met == dict.fromkeys(pairs, 1), "not each pair of symbols that match has one rule")
     need(isinstance(net, dict) and is_list_of(net.get("free"), lambda end: port(end) and isinstance(end.get("name"), str)), "`net`")
     check_part(symbols, net, net["free"], "the net")

@@ -32,17 +32,25 @@ class OpenNet:
         # The agents are the nodes without a class, in order.
         agents = [number for number, node in enumerate(self.nodes) if len(node) == 1]
         need([self.nodes[number][0] for number in agents] == item["agents"], "the nodes without a class aren't the agents")
+        # Of each class node its points.
+        self.given = {}
         boundary = self.boundary_of(item) if "constructor" in item else None
         point = lambda p: (agents[p[0]], p[1]) if len(p) == 2 else ("free", p[0]) if boundary is None else boundary[p[0]]
         self.wires = [(point(one), point(other)) for one, other in item["wires"]]
         points = Counter(p for wire in self.wires for p in wire)
         need(points == Counter(self.points(agents, item, boundary)), "some point isn't in exactly one wire")
+        self.partner = {}
+        for one, other in self.wires:
+            self.partner[one], self.partner[other] = other, one
 
     def boundary_of(self, item):
         """The class node and port of each boundary end: the places of the constructor first, and then those of the destructor."""
         heads = [(symbol, port["class"]) for symbol in (item["constructor"], item["destructor"]) for port in self.symbols[symbol].ports[1:]]
         need(sorted(set(heads)) == sorted(node for node in self.nodes if len(node) == 2), "the nodes with a class aren't those of the heads")
-        return [(self.nodes.index(node), ("end", number)) for number, node in enumerate(heads)]
+        boundary = [(self.nodes.index(node), ("end", number)) for number, node in enumerate(heads)]
+        for point in boundary:
+            self.given.setdefault(point[0], []).append(point)
+        return boundary
 
     def points(self, agents, item, boundary):
         for agent in agents:
@@ -52,69 +60,69 @@ class OpenNet:
     def is_agent(self, node):
         return len(self.nodes[node]) == 1
 
-    def each_end(self):
-        """Each end of each wire: the wire's number, the point at this end, and the point to which it leads."""
-        for number, (one, other) in enumerate(self.wires):
-            yield number, one, other
-            yield number, other, one
+
+class Parts:
+    """What the steps build: of each the later one that names it, and at last the one that is made of it; the step of each node and of each wire by
+    itself; and of each open end the step, by the point to which it leads. Two may lead to one point: that of a node and that of a wire by itself."""
+
+    def __init__(self):
+        self.later, self.nodes, self.links, self.ends = [], {}, {}, ({}, {})
+
+    def whole_of(self, step):
+        while (next_one := self.later[step]) != step:
+            self.later[step] = self.later[next_one]
+            step = next_one
+        return step
+
+    def leads_to(self, step, point):
+        """Those of the open ends that lead from this step to the point."""
+        return [ends for ends in self.ends if point in ends and self.whole_of(ends[point]) == step]
+
+    def close(self, step, point):
+        """Takes away an open end of the step that leads to this point."""
+        ends = self.leads_to(step, point)
+        need(ends, f"no open end leads to {point}")
+        del ends[0][point]
+
+    def take(self, node, step):
+        need(node not in self.nodes, "a node is taken twice")
+        self.nodes[node] = step
 
 
-class Part:
-    """What a step builds: its nodes, the wires that it has by themselves, and its open ends, by the points to which they lead."""
-
-    def __init__(self, nodes=(), links=(), ends=()):
-        self.nodes, self.links, self.ends = set(nodes), set(links), Counter(ends)
-
-    @staticmethod
-    def joined(parts):
-        """Parts side by side, which share nothing."""
-        whole = Part()
-        for part in parts:
-            need(not whole.nodes & part.nodes and not whole.links & part.links, "two parts share a node or a wire")
-            whole.nodes |= part.nodes
-            whole.links |= part.links
-            whole.ends += part.ends
-        return whole
-
-    def close(self, point):
-        """Takes away an open end that leads to this point."""
-        need(self.ends[point] > 0, f"no open end leads to {point}")
-        self.ends[point] -= 1
-
-
-def built_by(net, step, named):
-    """What a step builds out of the parts that it names."""
+def build(net, parts, step, number, named):
+    """Builds a step out of the earlier ones that it names."""
     kind, operands = step[0], step[1:]
-    whole = Part.joined(named)
+    by_node, by_link = parts.ends
     if kind == "link":
         (wire,) = operands
-        return Part(links=[wire], ends=net.wires[wire])
-    if kind == "given":
+        need(wire not in parts.links, "a wire is taken twice")
+        parts.links[wire] = number
+        by_link.update(dict.fromkeys(net.wires[wire], number))
+    elif kind == "given":
         (node,) = operands
         need(not net.is_agent(node), "the node is an agent")
-        return Part(nodes=[node], ends=[far for _, near, far in net.each_end() if near[0] == node])
-    if kind == "graft":
+        parts.take(node, number)
+        by_node.update((net.partner[point], number) for point in net.given[node])
+    elif kind == "graft":
         node, _ = operands
         need(net.is_agent(node), "the node is no agent")
-        need(node not in whole.nodes, "the node is taken twice")
         symbol = net.symbols[net.nodes[node][0]]
         need(len(named) == symbol.classes, "not one net for each class")
         for place, port in enumerate(symbol.ports[1:], 1):
             # The net of the port's class has an end that leads to this port.
-            named[port["class"] - 1].close((node, place))
-            whole.close((node, place))
-        whole.nodes.add(node)
-        whole.ends[next(far for _, near, far in net.each_end() if near == (node, 0))] += 1
-        return whole
-    if kind == "cut":
-        one, other = named
-        wire = net.wires[operands[0]]
+            parts.close(named[port["class"] - 1], (node, place))
+        parts.take(node, number)
+        by_node[net.partner[node, 0]] = number
+    elif kind == "cut":
         # One part has a point of the wire and an end to the other one; the other part has an end to this point.
-        ways = (wire, wire[::-1])
-        need(any(p[0] in one.nodes and one.ends[q] > 0 and other.ends[p] > 0 for p, q in ways), "the wire doesn't join the two parts")
-        for point in wire:
-            whole.close(point)
-    return whole
+        one, other = named
+        for p, q in (net.wires[operands[0]], net.wires[operands[0]][::-1]):
+            if p[0] in parts.nodes and parts.whole_of(parts.nodes[p[0]]) == one and parts.leads_to(one, q) and parts.leads_to(other, p):
+                parts.close(one, q)
+                parts.close(other, p)
+                break
+        else:
+            raise Wrong("the wire doesn't join the two parts")
 
 
 def named_by(step):
@@ -126,23 +134,25 @@ SIZES = {"empty": 1, "link": 2, "given": 2, "graft": 3, "cut": 4, "mix": 3}
 
 
 def check_steps(program, item):
-    """Whether the steps of a rule or a net build it; else says why."""
+    """Whether the steps of a rule or a net build it, in a time nearly in proportion to them; else says why."""
     net = OpenNet(program, item)
-    parts, taken = [], Counter()
-    for step in item["steps"]:
+    parts = Parts()
+    for number, step in enumerate(item["steps"]):
         need(SIZES.get(step[0]) == len(step), f"no step: {step}")
-        earlier = named_by(step)
-        need(all(0 <= number < len(parts) for number in earlier), "a step names one that isn't earlier")
-        need(len(set(earlier)) == len(earlier), "a step names one twice")
-        taken.update(earlier)
+        named = named_by(step)
+        need(all(0 <= earlier < number for earlier in named), "a step names one that isn't earlier")
+        need(len(set(named)) == len(named) and all(parts.later[earlier] == earlier for earlier in named), "a step is named twice")
         need(step[0] not in ("given", "graft") or 0 <= step[1] < len(net.nodes), "no such node")
         need(step[0] not in ("link", "cut") or 0 <= step[1] < len(net.wires), "no such wire")
-        parts.append(built_by(net, step, [parts[number] for number in earlier]))
-    need(parts, "there are no steps")
-    need(taken == Counter(range(len(parts) - 1)), "not each step but the last is named once")
-    need(parts[-1].nodes == set(range(len(net.nodes))), "not each node is built")
-    free = Counter(far for _, _, far in net.each_end() if far[0] == "free")
-    need(+parts[-1].ends == free, "what is open at the end isn't the free ends")
+        parts.later.append(number)
+        build(net, parts, step, number, named)
+        for earlier in named:
+            parts.later[earlier] = number
+    need(parts.later, "there are no steps")
+    need(all(later != number for number, later in enumerate(parts.later[:-1])), "not each step but the last is named once")
+    need(len(parts.nodes) == len(net.nodes), "not each node is built")
+    is_open = Counter(point for ends in parts.ends for point in ends)
+    need(is_open == Counter(point for point in net.partner if point[0] == "free"), "what is open at the end isn't the free ends")
 
 
 def main():

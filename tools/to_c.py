@@ -8,6 +8,7 @@ Usage: inet_export < PROGRAM.inet | tools/to_c.py > PROGRAM.c
 docs/work/TO-C.md says how the code works and why. No rule tests what acceptance promises, so the steps of a line are checked before.
 """
 import argparse
+import heapq
 import itertools
 import json
 import re
@@ -19,8 +20,8 @@ import steps
 import streams
 
 RUNTIME, WIRES, WORKERS, MACHINES, READER = (Path(__file__).with_name(f"to_c_{part}.c") for part in ("runtime", "wires", "workers", "machines", "reader"))
-# What a program has at most.
-MOST_SYMBOLS, MOST_ARITY, MOST_FREE_ENDS, MOST_MEMBER_AGENTS = 512, 16, 256, 64
+# What a program has at most, with `--large`.
+MOST_TYPES, MOST_SYMBOLS, MOST_ARITY, MOST_FREE_ENDS, MOST_MEMBER_AGENTS = 256, 4_096, 16, 4_096, 1_024
 # All rules are one function, in which one goes on with the next by a jump, in a program of at most so many rules with at most so many wires
 # together: a compiler takes more than twice as long for a function of twice the size.
 MOST_RULES, MOST_WIRES = 64, 1_200
@@ -114,7 +115,9 @@ class Code:
         worth = [
             {k: 0 if k is None else 10 + 4 * same(head, k) + (self.rule.agents[k] == self.rule.heads[head]) for k in fitting[head]} for head in (0, 1)
         ]
-        choices = ((one, other) for one, other in itertools.product(*fitting) if one is None or one != other)
+        # Of each head the two best ones suffice, since both may be one agent.
+        best = [heapq.nlargest(2, fits, key=worth[head].get) for head, fits in enumerate(fitting)]
+        choices = [(one, other) for one, other in itertools.product(*best) if one is None or one != other]
         self.kept = max(choices, key=lambda choice: worth[0][choice[0]] + worth[1][choice[1]])
         self.staying = set() if is_looped else {end for end, point in stays if point[0] in self.kept and self.ends[end] == (self.kept.index(point[0]), point[1])}
 
@@ -312,8 +315,8 @@ class Compiler:
             ended, take = f"{ended} || !fuel", "c = w->bottom[0]; d = w->bottom[1]; w->bottom += 2;"
         return "\n".join([
             "#define CELLS(size) f##size\n#define BUMP bump\n#define SP sp\n#define NEXT goto next\n#define LOOPED(number) goto r##number##_looped",
-            "// Interacts at most so often: how often it didn't.",
-            "static int64_t reduce(struct worker *w, int64_t fuel) {\n  word c, d, *sp = w->sp, *bump = w->bump;",
+            "// Interacts at most so often: how often it didn't. In its caller's code its variables would have fewer registers.",
+            "__attribute__((noinline)) static int64_t reduce(struct worker *w, int64_t fuel) {\n  word c, d, *sp = w->sp, *bump = w->bump;",
             *(f"  word *f{size} = w->free[{size}];" for size in sizes),
             f"{'next:' if 'NEXT;' in code else ''}\n  if ({ended}) goto end;\n  {take}\n  {switch(itertools.chain(*cases))}",
             *meets,
@@ -412,7 +415,7 @@ def check(program):
     """Needs what the code relies on: the limits of a program, and the steps by which its rules and its net are built."""
     net = program.data["net"]
     need = nets.need
-    need(len(program.symbols) <= MOST_SYMBOLS and len(program.data["types"]) <= MOST_SYMBOLS, "too many symbols or types")
+    need(len(program.symbols) <= MOST_SYMBOLS and len(program.data["types"]) <= MOST_TYPES, "too many symbols or types")
     need(all(symbol.arity <= MOST_ARITY for symbol in program.symbols), "a symbol has too many ports")
     need(len(net["free"]) <= MOST_FREE_ENDS, "the net has too many free ends")
     need(all(len(rule.agents) <= MOST_MEMBER_AGENTS for rule in program.rules), "a right member has too many agents")

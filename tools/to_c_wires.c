@@ -17,9 +17,9 @@ struct stub { word here, wire; struct port port; uint32_t place; };
 // How many agents leave together at most: in a pair, which is to be work for a while, and in another letter. What hangs at them further on stays,
 // and who comes to it is sent here.
 #ifdef STRESS
-enum { MOST_IN_PAIR = 5, MOST_IN_LETTER = 2 };
+enum { MOST_IN_PAIR = 5, MOST_IN_FIRST = 3, MOST_IN_LETTER = 2 };
 #else
-enum { MOST_IN_PAIR = 1024, MOST_IN_LETTER = 32 };
+enum { MOST_IN_PAIR = 1024, MOST_IN_FIRST = 128, MOST_IN_LETTER = 32 };
 #endif
 // What a letter costs, in interactions, and each agent in it.
 enum { LETTER_COSTS = 50, AGENT_COSTS = 2 };

@@ -1,15 +1,16 @@
 // ---- Several workers, each a thread. They give pairs to who has none, and letters about wires go between them (to_c_wires.c).
 
 #ifdef STRESS
-enum { FIRST_ALONE = 0, LEAST_ALONE = 40, MOST_ALONE = 400, WINDOW = 200, ACCOUNTED = 1, LOOKED_AT = 2, SPIN = 10, SPARE_WORDS = 1 };
+enum { FIRST_ALONE = 0, LEAST_ALONE = 40, MOST_ALONE = 400, PAID_LONG = 400, WINDOW = 200, ACCOUNTED = 1 };
+enum { LOOKED_AT = 2, SPIN = 10, YIELDS = 0, SPARE_WORDS = 1, READY_WORDS = 1 };
 enum { LEAST_PAIRS = 1, MOST_GIVEN = 3, MOST_IN_GIFT = 9, FIRST_PAIRS = 4, REFUSED_TIMES = 1, MOST_PATIENCE = 2, MOST_REVERSED = 32 };
 enum { LASTS = 6, PAIR_LASTS = 3, AGENT_LASTS = 0, LASTS_LONG = 20 };
 // In nanoseconds.
-enum { RAMP = 20000, LOOKED_BACK = 20000 };
+enum { LOOKED_BACK = 20000, LOOKED_BACK_SOON = 10000, LONG_UNJUDGED = 10000 };
 #else
-// In interactions: a run begins with one worker; where within a window of all together it doesn't pay, one goes on alone, for three times as long
-// each time.
-enum { FIRST_ALONE = 400000, LEAST_ALONE = 2000000, MOST_ALONE = 64000000, WINDOW = 200000, ACCOUNTED = 8192 };
+// In interactions: a run begins with one worker, and threads start half way to the first time that another one begins. Where within a window of all
+// together it doesn't pay, one goes on alone, for three times as long each time, until it paid for long.
+enum { FIRST_ALONE = 200000, LEAST_ALONE = 4000000, MOST_ALONE = 64000000, PAID_LONG = 4000000, WINDOW = 200000, ACCOUNTED = 8192 };
 // Between two slices a worker looks at so many stubs. It gives pairs away where it has so many, and so many at a time at most, until so many
 // agents go with them.
 enum { LOOKED_AT = 64, LEAST_PAIRS = 2, MOST_GIVEN = 256, MOST_IN_GIFT = 4096 };
@@ -21,11 +22,12 @@ enum { MOST_REVERSED = 32 };
 // Who comes back for pairs sooner than after so many interactions gets more of them. Pairs were worth it where they lasted for some interactions,
 // and for some more for each agent that came with them. Gifts that last so long say that there is work to be shared.
 enum { LASTS = 15000, PAIR_LASTS = 500, AGENT_LASTS = 12, LASTS_LONG = 20000 };
-// How often a worker that has nothing to do looks for letters before it waits. And how many words of memory it has before it takes free cells of
-// others.
-enum { SPIN = 500, SPARE_WORDS = 1 << 20 };
-// By the clock, in nanoseconds: all work so long before it is seen whether they do more than one did alone, and then each time so long.
-enum { RAMP = 3000000, LOOKED_BACK = 4000000 };
+// How often a worker that has nothing to do looks for letters before that counts as waiting, and lets others go first before it sleeps. How many
+// words of memory it has before it takes free cells of others, and how many it touches before it begins.
+enum { SPIN = 500, YIELDS = 1000, SPARE_WORDS = 1 << 20, READY_WORDS = 1 << 13 };
+// By the clock, in nanoseconds: all work so long before it is seen whether they do more than one did alone, or only so long where letters and waiting
+// cost much; and that is judged after so long at last.
+enum { LOOKED_BACK = 4000000, LOOKED_BACK_SOON = 500000, LONG_UNJUDGED = 1000000 };
 #endif
 // What it costs to wait, in interactions, of the first worker, who would have something to do if it were alone, before it ever paid and later, of
 // another, and of all at once, while a letter goes from one to another. All together have to do so many times as much as letters and waiting cost.
@@ -39,23 +41,24 @@ static struct {
   int64_t left;
   // Lists of free cells by arity.
   struct lists { word **items; size_t count, room; } cells[MOST_ARITY + 1];
-  // How many workers there are, are to work, wait for letters, and are parked.
-  int size, active, idle, parked;
+  // How many workers there are, are to work, were to work at most, and wait for letters.
+  _Atomic int size;
+  int active, most, idle;
   bool has_paid, paid_before;
   // Since the last judgement interactions of all, those of all but the first worker, and what letters and waiting cost; and the number of those of
-  // the first worker at which others begin, and for how many it is alone.
-  int64_t done, by_others, cost, begin_at, alone_for;
-  // By the clock: what all have done so far; when the time that is looked back on began and ends, and what had been done when it began; and when one
-  // worker alone began its last WINDOW interactions, what it had done then, and how many it did in a nanosecond.
-  int64_t total, back_from, back_to, back_done, alone_from, alone_done;
+  // the first worker at which threads start, at which others begin, and for how many it is alone.
+  int64_t done, by_others, cost, start_at, begin_at, alone_for;
+  // By the clock: what all have done so far, and had when others began last; when it was judged last; when the time that is looked back on began, and
+  // what had been done then; and when one worker alone began its last FIRST_ALONE / 2 interactions, what it had done then, and how many it did in a
+  // nanosecond.
+  int64_t total, begun_done, judged_at, back_from, back_done, alone_from, alone_done;
   double alone_speed;
 } team = {.lock = PTHREAD_MUTEX_INITIALIZER, .parted = PTHREAD_COND_INITIALIZER};
-// What a worker looks at without the lock: how many lack pairs; whether all but the first are to park, and whether all have ended; whether there
-// are lists of free cells, and how often somebody looked for one.
-static _Atomic int hungry;
+// What a worker looks at without the lock: how many lack pairs, and how many are parked; whether all but the first are to park, and whether all have
+// ended; whether there are lists of free cells, and how often somebody looked for one.
+static _Atomic int hungry, parked;
 static _Atomic bool is_parting, is_done;
 #ifdef STRESS
-#include <sched.h>
 static _Atomic int begun;
 #endif
 static _Atomic size_t lists, lacking;
@@ -64,17 +67,16 @@ static _Atomic int worth[SYMBOLS + 1];
 // After how many times as many refusals as the first time that is forgotten.
 static _Atomic int patience = 1;
 // Whether workers take the oldest one first of the pairs that a slice made, where they are several.
-static _Atomic bool is_reversed = true;
+static _Atomic bool is_reversed;
 #define LOOK_AT(what) atomic_load_explicit(&(what), memory_order_relaxed)
 #define SET(what, value) atomic_store_explicit(&(what), (value), memory_order_relaxed)
 
 // Nobody keeps the lock for as long as it takes to fall asleep and to wake up.
 static void enter(void) {
-  for (int k = 0; k < SPIN; k++) {
-    if (!pthread_mutex_trylock(&team.lock)) return;
-    PAUSE;
+  for (int k = 0; pthread_mutex_trylock(&team.lock); k++) {
+    if (k < SPIN) PAUSE;
+    else sched_yield();
   }
-  pthread_mutex_lock(&team.lock);
 }
 
 static void leave(void) { pthread_mutex_unlock(&team.lock); }
@@ -84,6 +86,58 @@ static int64_t nanoseconds(void) {
   clock_gettime(CLOCK_MONOTONIC, &now);
   return (int64_t)now.tv_sec * 1000000000 + now.tv_nsec;
 }
+
+// ---- Processors. A kernel may leave a thread that begins, or that is woken, on the processor of the one that calls it for many milliseconds. So no
+// worker may be on a processor that another one has.
+
+#ifdef __linux__
+static cpu_set_t processors;
+
+static void find_processors(void) {
+  if (sched_getaffinity(0, sizeof processors, &processors)) CPU_ZERO(&processors);
+}
+
+static void may_be_anywhere(struct worker *w) { pthread_setaffinity_np(w->thread, sizeof processors, &processors); }
+
+// Each worker that is to work may be on all processors but those of the others; the ones from this number on begin, and get one first. (locked)
+static void spread(int first) {
+  if (CPU_COUNT(&processors) < team.active) return;
+  cpu_set_t free = processors;
+  for (int k = 0; k < first; k++) CPU_CLR(workers[k].processor, &free);
+  for (int k = first, at = 0; k < team.active; k++, at++) {
+    while (at < CPU_SETSIZE && !CPU_ISSET(at, &free)) at++;
+    if (at == CPU_SETSIZE) return;
+    workers[k].processor = at;
+  }
+  for (int k = 0; k < team.active; k++) {
+    cpu_set_t own = processors;
+    for (int j = 0; j < team.active; j++)
+      if (j != k) CPU_CLR(workers[j].processor, &own);
+    pthread_setaffinity_np(workers[k].thread, sizeof own, &own);
+  }
+}
+
+// A worker may be anywhere but where another one is.
+static void keep_off(struct worker *w, const struct worker *other) {
+  cpu_set_t own = processors;
+  CPU_CLR(other->processor, &own);
+  if (CPU_COUNT(&own)) pthread_setaffinity_np(w->thread, sizeof own, &own);
+}
+
+static void see_processor(struct worker *w) {
+  int now = sched_getcpu();
+  if (now >= 0) w->processor = now;
+}
+#else
+static void find_processors(void) {}
+static void may_be_anywhere(struct worker *w) { (void)w; }
+static void spread(int first) { (void)first; }
+static void see_processor(struct worker *w) { (void)w; }
+static void keep_off(struct worker *w, const struct worker *other) {
+  (void)w;
+  (void)other;
+}
+#endif
 
 // ---- Free cells that go from one worker to another. What is called with the lock has (locked) behind it.
 
@@ -233,7 +287,7 @@ static void give_pairs(struct worker *w) {
     if (TAG(own[1]) != tag) continue;
     pair[0] = front[0];
     pair[1] = front[1];
-    agents += put_pair(w, &w->gift, own, MOST_IN_PAIR);
+    agents += put_pair(w, &w->gift, own, best > 1 ? MOST_IN_PAIR : MOST_IN_FIRST);
     given++;
   }
   w->bottom += 2 * given;
@@ -273,17 +327,19 @@ static void account(struct worker *w) { // (locked)
 
 static void *work(void *given);
 
-// So many workers begin. Threads that can't be started are no fault: then there are fewer workers. (locked)
+// So many workers begin. (locked)
 static void begin(int count) {
-  while (team.size < count && !pthread_create(&workers[team.size].thread, 0, work, &workers[team.size])) team.size++;
-  team.active = count;
-  if (count == worker_count) team.back_to = 0;
+  int before = team.active;
+  team.active = count < team.size ? count : team.size;
+  if (team.most < team.active) team.most = team.active;
+  spread(before);
+  team.back_from = nanoseconds();
+  team.back_done = team.total;
   SET(is_parting, false);
   pthread_cond_broadcast(&team.parted);
 #ifdef STRESS
   // A small net would be reduced before they are there.
-  int others = team.size > count ? team.size - count : 0;
-  while ((LOOK_AT(begun) < team.size - 1 || team.parked > others) && !LOOK_AT(is_parting) && !LOOK_AT(is_done)) {
+  while ((LOOK_AT(begun) < team.size - 1 || LOOK_AT(parked) > team.size - team.active) && !LOOK_AT(is_parting) && !LOOK_AT(is_done)) {
     leave();
     sched_yield();
     enter();
@@ -291,33 +347,30 @@ static void begin(int count) {
 #endif
 }
 
-// Whether by the clock all together do a tenth more than one did alone: cells that others wrote cost more than letters and waiting tell. (locked)
-static bool is_faster(void) {
-  int64_t now = nanoseconds();
-  if (team.back_to && now < team.back_to) return true;
-  bool has_begun = team.back_to, pays = true;
-  // The first time is for all to get work.
-  if (has_begun && team.back_from) pays = (double)(team.total - team.back_done) >= 1.1 * team.alone_speed * (double)(now - team.back_from);
-  team.back_from = has_begun ? now : 0;
-  team.back_to = now + (has_begun ? LOOKED_BACK : RAMP);
+// Whether all together do so many times by the clock what one did alone, as far as that was seen after so long. (locked)
+static bool are_faster(double times, int64_t after) {
+  int64_t now = nanoseconds(), time = now - team.back_from, done = team.total - team.back_done;
+  if (time < after) return true;
+  team.back_from = now;
   team.back_done = team.total;
-  return pays;
+  return (double)done >= times * team.alone_speed * (double)time;
 }
 
 // Whether it pays that all work together; else all but the first are to park. (locked)
 static void judge(void) {
-  // Where it never paid since the others began, little is enough to see that it doesn't.
-  if ((team.done < WINDOW && team.cost < (team.has_paid ? WINDOW / 2 : WINDOW / 20)) || LOOK_AT(is_parting)) return;
+  if (LOOK_AT(is_parting)) return;
+  // Where it never paid since the others began, little is enough to see that it doesn't; later they may have come to a stop.
+  bool is_much = team.done >= WINDOW || team.cost >= (team.has_paid ? WINDOW / 2 : WINDOW / 20);
+  if (!is_much && !(team.has_paid && nanoseconds() - team.judged_at >= LONG_UNJUDGED)) return;
+  team.judged_at = nanoseconds();
   bool pays = team.done >= PAYS * team.cost;
 #ifdef STRESS
   static int judgements;
   pays = ++judgements % 8 > 0;
   team.by_others = team.done;
 #endif
-  if (pays && team.has_paid && team.active == worker_count && !is_faster()) {
-    pays = false;
-    team.alone_for = MOST_ALONE;
-  }
+  // Letters and waiting may cost less than they tell where many work; and cells that others wrote cost more.
+  if (team.has_paid && team.active == team.size) pays = pays ? are_faster(1.1, LOOKED_BACK) : are_faster(team.size < 4 ? 1.3 : 1.6, LOOKED_BACK_SOON);
   team.has_paid = pays && (team.has_paid || team.by_others >= team.done / 8);
   if (pays) {
     // What was before counts too, by half: what is given costs at once, and is done for some while.
@@ -326,19 +379,20 @@ static void judge(void) {
     team.cost /= 2;
     if (!team.has_paid) return;
     team.paid_before = true;
-    team.alone_for = LEAST_ALONE;
-    if (team.active < worker_count) begin(worker_count);
+    SET(is_reversed, true);
+    if (team.total - team.begun_done >= PAID_LONG) team.alone_for = LEAST_ALONE;
+    if (team.active < team.size) begin(team.size);
     return;
   }
   SET(is_parting, true);
   for (int k = 0; k < team.size; k++) pthread_cond_signal(&workers[k].called);
 }
 
-// All others are parked or have ended: all that they have is the first worker's, and no wire leads elsewhere. (locked)
+// All others are parked or have ended, or never were to work: all that they have is the first worker's, and no wire leads elsewhere. (locked)
 static void come_together(struct worker *w) {
   for (bool is_more = true; is_more;) {
     is_more = false;
-    for (int k = 0; k < team.size; k++) {
+    for (int k = 0; k < team.most; k++) {
       struct worker *other = &workers[k];
       post(other);
       if (!other->in.count) continue;
@@ -348,7 +402,7 @@ static void come_together(struct worker *w) {
       SET(other->letters, 0);
     }
   }
-  for (int k = 0; k < team.size; k++)
+  for (int k = 0; k < team.most; k++)
     while (workers[k].end_count) {
       struct worker *other = &workers[k];
       struct stub *s = other->ends[other->end_count - 1];
@@ -369,11 +423,15 @@ static void come_together(struct worker *w) {
         break;
       }
     }
-  for (int k = 1; k < team.size; k++) {
+  for (int k = 1; k < team.most; k++) {
     struct worker *other = &workers[k];
     size_t words = (size_t)(other->sp - other->bottom);
     need_pairs(w, words / 2);
-    if (words) memcpy(w->sp, other->bottom, words * sizeof(word));
+    // They were given as the oldest ones, and are that again: so the order of one worker goes on, which may need much less memory.
+    if (words) {
+      memmove(w->bottom + words, w->bottom, (size_t)(w->sp - w->bottom) * sizeof(word));
+      memcpy(w->bottom, other->bottom, words * sizeof(word));
+    }
     w->sp += words;
     other->sp = other->bottom = other->stack;
     give_back(other);
@@ -384,31 +442,69 @@ static void come_together(struct worker *w) {
   w->is_alone = true;
 }
 
+// Where nobody does anything, somebody is called who could; or all have ended. (locked)
+static void see_end(struct worker *w) {
+  if (team.idle + LOOK_AT(parked) < team.size) return;
+  bool is_over = true;
+  w->cost += ALL_WAITING_COSTS;
+  for (int k = 0; k < team.size; k++) {
+    bool has_any = workers[k].in.count || (has_pairs(&workers[k]) && team.left);
+    if (has_any) pthread_cond_signal(&workers[k].called);
+    is_over &= !has_any;
+  }
+  SET(is_done, is_over);
+}
+
 // What it has is left to the first worker, and it waits until it is to begin. (locked)
 static void park(struct worker *w) {
   account(w);
   give_back(w);
-  team.parked++;
+  SET(parked, LOOK_AT(parked) + 1);
   pthread_cond_signal(&workers[0].called);
+  see_end(w);
   while ((LOOK_AT(is_parting) || w->number >= team.active) && !LOOK_AT(is_done)) pthread_cond_wait(&team.parted, &team.lock);
-  team.parked--;
+  SET(parked, LOOK_AT(parked) - 1);
   w->looked = w->done;
   w->cost = 0;
+}
+
+// The thread of the next worker starts, which starts the one after it, and waits. Where one can't, that is no fault: then there are fewer workers.
+static void start_next(struct worker *w) {
+  enter();
+  struct worker *next = &workers[team.size];
+  if (team.size < worker_count && !LOOK_AT(is_done) && !pthread_create(&next->thread, 0, work, next)) {
+    pthread_detach(next->thread);
+    see_processor(w);
+    keep_off(next, w);
+    team.size++;
+  }
+  leave();
+}
+
+// The first memory that a worker will need is touched before it is to work.
+static void make_ready(struct worker *w) {
+  new_chunk(w, 0);
+  for (word *at = w->bump; at < w->bump + READY_WORDS; at += 256) *at = 0;
+  need_pairs(w, (size_t)(SLICE + 1) * PUSHES);
+  new_stubs(w);
 }
 
 // The others begin: one of them, and where that pays, all.
 static void begin_others(struct worker *w) {
   enter();
-  begin(2);
   if (team.size == 1) team.begin_at = INT64_MAX;
   else {
-    team.left = w->fuel;
-    w->fuel = 0;
-    draw(w);
-    w->is_alone = false;
-    w->looked = w->done;
-    w->cost = team.done = team.by_others = team.cost = 0;
-    team.has_paid = team.paid_before = false;
+  see_processor(w);
+  team.active = 1;
+  begin(2);
+  team.left = w->fuel;
+  w->fuel = 0;
+  draw(w);
+  w->is_alone = false;
+  w->looked = w->done;
+  w->cost = team.done = team.by_others = team.cost = 0;
+  team.begun_done = team.total;
+  team.has_paid = team.paid_before = false;
   }
   leave();
 }
@@ -416,6 +512,7 @@ static void begin_others(struct worker *w) {
 // The first worker goes on alone.
 static void begin_alone(struct worker *w) { // (locked)
   come_together(w);
+  may_be_anywhere(w);
   // Where it never paid in this order, the next time it is the other one.
   if (!team.paid_before) SET(is_reversed, !LOOK_AT(is_reversed));
   team.begin_at = w->done + team.alone_for;
@@ -428,11 +525,15 @@ static void begin_alone(struct worker *w) { // (locked)
 static void look_around(struct worker *w) {
   if (worker_count == 1) return;
   if (w->is_alone) {
-    if (w->done - team.alone_done >= WINDOW) {
+    if (w->done - team.alone_done >= FIRST_ALONE / 2) {
       int64_t now = nanoseconds();
       team.alone_speed = (double)(w->done - team.alone_done) / (double)(now - team.alone_from + 1);
       team.alone_from = now;
       team.alone_done = w->done;
+    }
+    if (w->done >= team.start_at) {
+      team.start_at = INT64_MAX;
+      start_next(w);
     }
     if (w->done >= team.begin_at && (size_t)(w->sp - w->bottom) / 2 >= LEAST_PAIRS) begin_others(w);
     return;
@@ -452,9 +553,24 @@ static void look_around(struct worker *w) {
   if (LOOK_AT(hungry) > 0 && !LOOK_AT(is_parting) && (size_t)(w->sp - w->bottom) / 2 >= LEAST_PAIRS) give_pairs(w);
 }
 
+// Looks so many times for what may call it, and lets others go first each time if it is to.
+static void look_out(const struct worker *w, int times, bool is_parted, bool is_to_yield) {
+  for (int k = 0; k < times && !LOOK_AT(w->letters) && LOOK_AT(is_parting) == is_parted && !LOOK_AT(is_done); k++) {
+    if (is_parted && LOOK_AT(parked) == team.size - 1) return;
+    if (is_to_yield) sched_yield();
+    else PAUSE;
+  }
+}
+
+// Whether a worker that waits has a reason to look further. (locked)
+static bool is_called(const struct worker *w, bool is_parted) {
+  bool is_gathered = is_parted && LOOK_AT(parked) == team.size - 1;
+  return w->in.count || LOOK_AT(is_done) || (has_pairs(w) && team.left) || LOOK_AT(is_parting) != is_parted || is_gathered;
+}
+
 // Whether a worker has something to do, for which it waits; if not, all have ended.
 static bool find_work(struct worker *w) {
-  if (has_pairs(w) && w->fuel && !LOOK_AT(is_parting)) return true;
+  if (has_pairs(w) && w->fuel && (w->is_alone || !LOOK_AT(is_parting))) return true;
   if (worker_count == 1) return false;
   if (!w->is_alone) {
     look_at_all_ends(w);
@@ -471,11 +587,11 @@ static bool find_work(struct worker *w) {
       break;
     }
     bool is_parted = LOOK_AT(is_parting);
-    if (is_parted && w != workers) {
+    if (w != workers && (is_parted || w->number >= team.active)) {
       park(w);
       continue;
     }
-    if (is_parted && team.parked == team.size - 1) {
+    if (is_parted && LOOK_AT(parked) == team.size - 1) {
       begin_alone(w);
       continue;
     }
@@ -496,30 +612,22 @@ static bool find_work(struct worker *w) {
     judge_gift(w);
     w->is_idle = true;
     team.idle++;
-    if (team.idle + team.parked == team.size) {
-      // Nobody does anything: is there someone who could?
-      bool is_over = true;
-      w->cost += ALL_WAITING_COSTS;
-      for (int k = 0; k < team.size; k++) {
-        bool has_any = workers[k].in.count || (has_pairs(&workers[k]) && team.left);
-        if (has_any) pthread_cond_signal(&workers[k].called);
-        is_over &= !has_any;
-      }
-      SET(is_done, is_over);
-    }
+    see_end(w);
     tell_hungry();
     if (!LOOK_AT(is_done)) {
 #ifndef STRESS
-      if (!has_pairs(w) && !is_parted) {
+      if (!has_pairs(w)) {
         leave();
-        for (int k = 0; k < SPIN && !LOOK_AT(w->letters) && !LOOK_AT(is_parting) && !LOOK_AT(is_done); k++) PAUSE;
+        look_out(w, SPIN, is_parted, false);
         enter();
       }
 #endif
-      bool is_called = w->in.count || LOOK_AT(is_done) || (has_pairs(w) && team.left) || LOOK_AT(is_parting) != is_parted;
-      if (!is_called && !(is_parted && team.parked == team.size - 1)) {
+      if (!is_called(w, is_parted)) {
         w->cost += w != workers ? WAITING_COSTS : team.has_paid ? FIRST_WAITING_COSTS : EARLY_WAITING_COSTS;
-        pthread_cond_wait(&w->called, &team.lock);
+        leave();
+        look_out(w, YIELDS, is_parted, true);
+        enter();
+        if (!is_called(w, is_parted)) pthread_cond_wait(&w->called, &team.lock);
       }
     }
     w->is_idle = false;
@@ -530,6 +638,7 @@ static bool find_work(struct worker *w) {
     for (int k = 0; k < team.size; k++) pthread_cond_signal(&workers[k].called);
     pthread_cond_broadcast(&team.parted);
   }
+  see_processor(w);
   leave();
   return found;
 }
@@ -552,6 +661,10 @@ static void *work(void *given) {
 #ifdef STRESS
   if (w != workers) atomic_fetch_add(&begun, 1);
 #endif
+  if (w != workers) {
+    start_next(w);
+    make_ready(w);
+  }
   while (find_work(w)) {
     int64_t slice = w->fuel < SLICE ? w->fuel : SLICE;
     size_t words = (size_t)slice * WORDS;
@@ -575,8 +688,11 @@ static void *work(void *given) {
 // Interacts until no pair is left, at most so often: how often it did. What is left is the first worker's.
 static int64_t run(int64_t limit) {
   struct worker *w = &workers[0];
-  team.size = 1;
+  team.size = team.active = team.most = 1;
+  find_processors();
   team.alone_for = LEAST_ALONE;
+  team.start_at = FIRST_ALONE / 2;
+  SET(is_parting, true);
   team.begin_at = FIRST_ALONE;
   team.alone_from = nanoseconds();
   forget_worth();
@@ -585,13 +701,17 @@ static int64_t run(int64_t limit) {
     workers[k].portion = 1;
     if (pthread_cond_init(&workers[k].called, 0)) out_of_memory();
   }
+  w->thread = pthread_self();
   w->fuel = limit;
   w->is_alone = true;
   work(w);
-  for (int k = 1; k < team.size; k++) pthread_join(workers[k].thread, 0);
+  // The threads end by themselves.
+  enter();
   come_together(w);
+  if (team.size > 1) may_be_anywhere(w);
   int64_t sum = 0;
   for (int k = 0; k < team.size; k++) sum += workers[k].done;
+  leave();
   return sum;
 }
 

@@ -17,7 +17,7 @@ from declarations import without_comments
 from nets import Net, Program, chooser, dot, rule_text, svg
 
 USUAL_STEPS = 60
-# A rule as it is written, with the names of its heads. No right member, of 64 agents at most, is longer.
+# A rule as it is written, with the names of its heads. No right member within the usual limits is longer.
 RULE = re.compile(r"\brule\s+(\w+)\s*\[[^\]]{0,9999}\]\s*><\s*(\w+)\s*\[[^\]]{0,9999}\]\s*(?:\bwith\s*\{[^}]{0,19999}\}\s*)?;")
 
 PAGE = """<!DOCTYPE html>

@@ -4,6 +4,7 @@ use; and what helps where a run has stopped early."""
 import itertools
 import os
 import re
+import resource
 import subprocess
 import tempfile
 from functools import partial
@@ -185,16 +186,17 @@ def helps(program):
 
 
 def memory_of(program, words, text):
-    """The most memory of a run in KiB, without the script."""
+    """The memory in KiB that a run touches, by its page faults. (The most resident memory that the system says of a child is at least the script's.)"""
     with tempfile.TemporaryFile() as source:
         source.write(text)
         source.seek(0)
         child = subprocess.Popen([program.path, "run", "--no-net", *words], stdin=source, stdout=subprocess.DEVNULL)
-        return os.wait4(child.pid, 0)[2].ru_maxrss
+        used = os.wait4(child.pid, 0)[2]
+        return (used.ru_minflt + used.ru_majflt) * resource.getpagesize() // 1024
 
 
 def wrong_memory(program, text):
-    """What is wrong with the memory of a short run: with the most cells it takes no more than with the usual ones, but for a MiB."""
+    """What is wrong with the memory of a short run: with the most cells it touches no more than with the usual ones, but for a MiB."""
     usual, most = (memory_of(program, words, text) for words in ([], MOST_OF_A_SIZE))
     return None if most <= usual + 1024 else f"{most} KiB with the most cells, {usual} with the usual ones"
 

@@ -46,35 +46,33 @@ static void *taken(size_t size)
     return it;
 }
 
-static uint8_t call(int which, const struct text *text, uint8_t *room, size_t room_size, size_t *length)
+/* The calls on a text that have the same form, and the others; by the usual limits, and by the large ones. */
+typedef uint8_t plain_call(const uint8_t *, size_t, uint8_t *, size_t, size_t *);
+static const struct calls {
+    plain_call *check, *derive, *diagnose, *diagnose_data, *export;
+    uint8_t (*run)(const uint8_t *, size_t, uint64_t, uint32_t, uint8_t *, size_t, size_t *);
+    uint8_t (*run_by)(const uint8_t *, size_t, const uint32_t *, size_t, uint64_t, uint32_t, struct inet_state *, uint8_t *, size_t, size_t *);
+} usual = {inet_check, inet_derive, inet_diagnose, inet_diagnose_data, inet_export, inet_run, inet_run_by},
+  large_ones = {inet_check_large, inet_derive_large, inet_diagnose_large, inet_diagnose_data_large, inet_export_large, inet_run_large, inet_run_by_large};
+
+static uint8_t call_of(const struct calls *calls, int which, const struct text *text, uint8_t *room, size_t room_size, size_t *length)
 {
     static const uint32_t choices[3] = {0, 0, 0};
     struct inet_state state;
     switch (which) {
-    case 0: return inet_check(text->bytes, text->length, room, room_size, length);
-    case 1: return inet_derive(text->bytes, text->length, room, room_size, length);
-    case 2: return inet_run(text->bytes, text->length, LIMIT, CELLS, room, room_size, length);
-    case 3: return inet_diagnose(text->bytes, text->length, room, room_size, length);
-    case 4: return inet_diagnose_data(text->bytes, text->length, room, room_size, length);
-    case 5: return inet_export(text->bytes, text->length, room, room_size, length);
-    default: return inet_run_by(text->bytes, text->length, choices, 3, LIMIT, CELLS, &state, room, room_size, length);
+    case 0: return calls->check(text->bytes, text->length, room, room_size, length);
+    case 1: return calls->derive(text->bytes, text->length, room, room_size, length);
+    case 2: return calls->run(text->bytes, text->length, LIMIT, CELLS, room, room_size, length);
+    case 3: return calls->diagnose(text->bytes, text->length, room, room_size, length);
+    case 4: return calls->diagnose_data(text->bytes, text->length, room, room_size, length);
+    case 5: return calls->export(text->bytes, text->length, room, room_size, length);
+    default: return calls->run_by(text->bytes, text->length, choices, 3, LIMIT, CELLS, &state, room, room_size, length);
     }
 }
 
-/* The same for a text with the large limits. */
-static uint8_t call_large(int which, const struct text *text, uint8_t *room, size_t room_size, size_t *length)
+static uint8_t call(int which, const struct text *text, uint8_t *room, size_t room_size, size_t *length)
 {
-    static const uint32_t choices[3] = {0, 0, 0};
-    struct inet_state state;
-    switch (which) {
-    case 0: return inet_check_large(text->bytes, text->length, room, room_size, length);
-    case 1: return inet_derive_large(text->bytes, text->length, room, room_size, length);
-    case 2: return inet_run_large(text->bytes, text->length, LIMIT, CELLS, room, room_size, length);
-    case 3: return inet_diagnose_large(text->bytes, text->length, room, room_size, length);
-    case 4: return inet_diagnose_data_large(text->bytes, text->length, room, room_size, length);
-    case 5: return inet_export_large(text->bytes, text->length, room, room_size, length);
-    default: return inet_run_by_large(text->bytes, text->length, choices, 3, LIMIT, CELLS, &state, room, room_size, length);
-    }
+    return call_of(&usual, which, text, room, room_size, length);
 }
 
 static struct answer whole(int which, const struct text *text)
@@ -111,7 +109,7 @@ static void try_large(int which, const struct text *text)
     const struct answer *wanted = &text->answers[which];
     uint8_t *room = taken(wanted->length);
     size_t length = 0;
-    uint8_t status = call_large(which, text, room, wanted->length, &length);
+    uint8_t status = call_of(&large_ones, which, text, room, wanted->length, &length);
     if (status != wanted->status || length != wanted->length || memcmp(room, wanted->bytes, length)) {
         wrong = 1;
         printf("%s of %s by the large limits: status %d, %zu bytes; wanted: %d, %zu\n", names[which], text->name, status, length, wanted->status, wanted->length);

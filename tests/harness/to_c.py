@@ -22,6 +22,7 @@ from functools import partial
 
 from harness import compiled, generated
 from harness.export import BUILT, TOOLS, by_tool
+from harness.large import LARGE
 from harness.parts import accepted_texts
 from harness.programs import ACCEPTED, EXAMPLES, HERE, LIMIT, MEMORY, REFUSED, STREAM, WRONG_WORDS, Answer, Program, differing, failing, text_of
 from harness.streams import closed_pipe
@@ -124,16 +125,16 @@ class CompiledPrograms:
             raise RuntimeError(f"{compiler}: {ran.stdout[:500]!r}")
         return made
 
-    def line(self, text):
+    def line(self, text, words=()):
         """The exported line of a text."""
-        exported = self.exporter.run([], text)
+        exported = self.exporter.run([*words], text)
         if exported.status != ACCEPTED:
             raise RuntimeError(f"not exported: {exported}")
         return exported.output
 
-    def code(self, text, order="newest", functions="usual", by_mpi=False):
+    def code(self, text, order="newest", functions="usual", by_mpi=False, words=()):
         """The C text of a program."""
-        data = json.loads(self.line(text))
+        data = json.loads(self.line(text, words))
         nets.check_form(data)
         program = nets.Program(data)
         tool.check(program)
@@ -273,6 +274,46 @@ def wrong_limits(made):
     text = limits(16, 15, 14)
     path = made.compiled("limits", text, words=["-O0"])
     return made.wrong_runs([path], text, False)
+
+
+def many_symbols(types):
+    """A program with three symbols in each of so many types: what one destructor gives, the one of the next type takes."""
+    names = range(types)
+    declared = [f"type t{i};" for i in names] + [f"symbol C{i} : t{i}+; symbol D{i} : t{i}- {{t{(i + 1) % types}+}}; symbol E{i} : t{i}-;" for i in names]
+    rules = [f"rule C{i}[] >< D{i}[C{(i + 1) % types}]; rule C{i}[] >< E{i}[];" for i in names]
+    meets = " ".join(f"d{i} ~ D{i}(d{i + 1});" for i in range(1, types - 1))
+    return "\n".join([*declared, *rules, f"net (end : t{types - 1}+) {{ C0 ~ D0(d1); C1 ~ E1; {meets} end ~ d{types - 1}; }}"]).encode()
+
+
+def many_free_names(count):
+    """A program whose net has so many free ends, each with a number of its own that was copied."""
+    ends = range(count // 2)
+    net = " ".join(f"{generated.unary(i % 3)} ~ Dup(a{i}, b{i});" for i in ends)
+    return f"{generated.NUMBERS}net ({', '.join(f'a{i} : nat+, b{i} : nat+' for i in ends)}) {{ {net} }}".encode()
+
+
+def many_agents(pairs, in_member):
+    """A program whose net, or one right member, has so many pairs of two agents."""
+    rules = "type u; symbol A : u+; symbol B : u-; " + generated.NUMBERS
+    met = "Z ~ Era; " * pairs
+    return (f"{rules}rule A[] >< B[] with {{ {met}}};\nnet () {{ A ~ B; A ~ B; }}" if in_member else f"{rules}rule A[] >< B[];\nnet () {{ {met}}}").encode()
+
+
+# Programs past one usual limit each, which the option --large allows.
+LARGER = {
+    "513 symbols": partial(many_symbols, 171), "4,160 rules": partial(many_rules, 64), "258 free names": partial(many_free_names, 258),
+    "4,002 agents": partial(many_agents, 2_001, False), "66 agents of a right member": partial(many_agents, 33, True),
+    "1,024 agents of a right member": partial(many_agents, 512, True),
+}
+
+
+def wrong_larger(made, number, text):
+    """What is wrong with a program past a usual limit, with one worker and with several under stress."""
+    if made.program.run(["check"], text).status != REFUSED:
+        return "it is within the usual limits"
+    wanted = made.program.run(["run", LARGE, "--limit", str(MOST), "--cells", str(CELLS)], text)
+    path = made.built(f"larger{number}", made.code(text, words=[LARGE]), "cc", ["-O0", *STRESS])
+    return differing(wanted, ACCEPTED, wanted.output) or made.wrong_answer([path], text, MOST, 1, False, usual=wanted) or made.wrong_answer([path], text, MOST, 3, False, usual=wanted)
 
 
 def wrong_memory(made):
@@ -442,8 +483,16 @@ def by_script(program, room):
         wanted = program.run(["run", *words], text_of(name)) if checked.status == ACCEPTED else checked
         for order in ([], ["--order", "queue"]):
             yield f"./inet_c: {name} {' '.join([*order, *words])}", partial(wrong_script, program, [*order, path(name), *words], wanted, os.path.join(room, "kept"))
-    for words in ([], ["--order"], ["--order", "x", path("sum")], ["--limit", "2", path("sum")], [path("sum"), "--cells", "16"]):
+    larger = os.path.join(room, "larger.inet")
+    with open(larger, "wb") as file:
+        file.write(many_agents(2_001, False))
+    for words, large in ((["--limit", "2000"], [LARGE]), ([], [LARGE]), ([], [])):
+        wanted = program.run(["run" if large else "check", *large, *words], many_agents(2_001, False))
+        yield f"./inet_c: {' '.join([*large, 'a larger program', *words])}", partial(wrong_script, program, [*large, larger, *words], wanted, os.path.join(room, "kept"))
+    for words in ([], ["--order"], [LARGE], ["--order", "x", path("sum")], ["--limit", "2", path("sum")], [path("sum"), "--cells", "16"]):
         yield f"./inet_c: {' '.join(words)}", partial(wrong_script, program, words, Answer(WRONG_WORDS, b""), os.path.join(room, "kept"))
+    for word in ("-h", "--help"):
+        yield f"./inet_c: {word}", lambda word=word: None if LARGE.encode() in program.run_command([SCRIPT, word], b"").output else "no help"
     yield "./inet_c: no file", partial(wrong_script, program, [path("no_such_file")], Answer(STREAM, b""), os.path.join(room, "kept"))
 
 
@@ -473,6 +522,8 @@ def to_c(program):
         yield f"many rules: {' '.join(form.values())}", partial(made.wrong_run, f"many{number}", number, many_rules(12), ("-O0",), (1, 3))
     yield "four thousand rules", partial(made.wrong_run, "thousands", 3, many_rules(63), ("-O0",), (1, 2))
     yield "512 symbols with sixteen ports", partial(wrong_limits, made)
+    for number, (name, text) in enumerate(LARGER.items()):
+        yield f"larger: {name}", lambda number=number, text=text: wrong_larger(made, number, text())
     if made.has_sanitizers(THREADS):
         for number, text in enumerate(watched()):
             yield f"threads, program {number}", partial(wrong_threads, made, f"threads{number}", text, (2 + number % 3, 4))

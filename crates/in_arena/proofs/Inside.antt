@@ -23,7 +23,7 @@ use Rattle.in_arena.specs.declared.content.CellClass.{CellClass}
 use Rattle.in_arena.specs.declared.content.CellCounts.{CellCounts}
 use Rattle.in_arena.specs.declared.content.CellNo.{CellNo}
 use Rattle.in_arena.specs.declared.content.End.{End}
-use Rattle.in_arena.specs.declared.content.End.TheVariants.{Cell}
+use Rattle.in_arena.specs.declared.content.End.TheVariants.{Cell, Free}
 use Rattle.in_arena.specs.declared.free_list.FreeList.{FreeList}
 use Rattle.in_arena.specs.declared.free_list.FreeLists.{FreeLists}
 use Rattle.in_arena.specs.declared.spot.Spot.{Spot}
@@ -269,6 +269,17 @@ module _ (a : Inside) (h : IsArena a) (v : ArenaView) (e : arena_view a ≡ v) w
         let p = first a.cells c a.words a.lists h.whole h.free some in let there = first_cell a.cells c a.words a.lists h.whole h.free some in
         let f = all_filled a.cells a.words.slots c i p.cell (h.whole.each c i first_inside) there in
         number_of_head x k (subst (λ w. IsHead (end_of w)) at f.1) is ∙ (head_is a.cells a.words.slots c i p.cell x there at).0
+
+    -- .. as an end at its principal port
+    pub first_free_head : (x : End) → word_at a.cells a.words.slots c i head ≡ Some (Some x) → x ≡ Cell (record { 0 = (first a.cells c a.words a.lists h.whole h.free some).cell.word }) 0
+    first_free_head x at =
+        let p = first a.cells c a.words a.lists h.whole h.free some in let there = first_cell a.cells c a.words a.lists h.whole h.free some in
+        let f = all_filled a.cells a.words.slots c i p.cell (h.whole.each c i first_inside) there in let says = head_is a.cells a.words.slots c i p.cell x there at in
+        named x (subst (λ w. IsHead (end_of w)) at f.1) ∙ ap (λ m. Cell (record { 0 = m }) (count_in x)) says.0 ∙ ap (Cell (record { 0 = p.cell.word })) (says.1 ∙ p.free)
+      where
+        named : (x : End) → IsHead x → x ≡ Cell (record { 0 = word_in x }) (count_in x)
+        named (Cell s n) is = refl
+        named (Free k) is = absurd is
 
     pub begun_in : (n : ℕ) (words : Cells End) (lists : FreeLists) (x : End) (k : ℕ) (symbol count : ℕ) → IsPlace a.cells n c i → words.at ≡ a.words.at → x ≡ Cell (record { 0 = symbol }) count → 0 < count → count ≤ width c → words.slots ≡ set a.words.slots (spot c a.cells i head) (Some (Some x))
         → k ≡ (first a.cells c a.words a.lists h.whole h.free some).cell.word → list_in lists c ≡ list_with k (list_in a.lists c).fresh ((list_in a.lists c).free - 1) → ((d : CellClass) → d ≢ c → list_in lists d ≡ list_in a.lists d)

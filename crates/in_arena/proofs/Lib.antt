@@ -1,6 +1,7 @@
 pub mod Again
 pub mod Arenas
 pub mod Bags
+pub mod Beginning
 pub mod Changes
 pub mod Classes
 pub mod Filling

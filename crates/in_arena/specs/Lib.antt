@@ -1,6 +1,7 @@
 pub mod Arenas
 pub mod BagInside
 pub mod Bags
+pub mod Beginning
 pub mod ByClass
 pub mod Changes
 pub mod Classes

@@ -1,13 +1,15 @@
 // An arena: cells in a row of words, each with a number.
-ghost use Rattle.std.specs.Prelude.{ℕ, ◌≡◌, ◌*◌, ◌<◌, ◌≤◌, ◌↔◌, IsTrue, true, false, MatchOption, Some, IfOk, length, replicate};
+ghost use Rattle.std.specs.Prelude.{ℕ, ◌≡◌, ◌*◌, ◌+◌, ◌^◌, ◌<◌, ◌≤◌, ◌↔◌, IsTrue, true, false, MatchOption, Some, IfOk, length, replicate, slice_get};
 ghost use Rattle.in_arena.specs.States.{State, Vacant, Leased, IsLive, IsLeased, IsBegun, HasEnds, word_of, end_at, places, with_end};
 ghost use Rattle.in_arena.specs.Arenas.{Leases, BeginsCell, IsOf, IsUsedOf, NoneLeased, state_at, changed, free_of};
+ghost use Rattle.in_arena.specs.Beginning.{BeginsFrom};
 ghost use Rattle.in_arena.specs.Bags.{IsBagOf, IsFor, IsInBag, LeasesTo, empty_bag};
 ghost use Rattle.in_arena.specs.Classes.{Holds, IsNumberOf, all_of, each};
 ghost use Rattle.in_arena.specs.EndWords.{HasWord, IsNear};
 ghost use Rattle.in_arena.specs.declared.content.CellClass.{CellClass as Class};
 ghost use Rattle.in_arena.specs.declared.content.CellNo.{CellNo as Number};
 ghost use Rattle.in_arena.specs.declared.content.End.TheVariants.{Cell};
+ghost use Rattle.in_arena.specs.declared.head.NewCell.{NewCell as New};
 ghost use Rattle.in_arena.specs.Changes.{HasAllCells};
 ghost use Rattle.in_arena.specs.RowStarts.{IsRowStart};
 ghost use Rattle.in_arena.specs.Limiting.{AreAllowed, most_cells};
@@ -15,7 +17,7 @@ ghost use Rattle.in_arena.specs.Limiting.{AreAllowed, most_cells};
 use crate::bag::Bag;
 use crate::content::{CellClass, CellCounts, CellIndex, CellNo, End, SymbolWord};
 use crate::free_list::FreeLists;
-use crate::head::HeadWord;
+use crate::head::{HeadWord, NewCell};
 use crate::lease::Lease;
 use crate::row::{begin_new, head_of, is_ready, take_back};
 use crate::spot::{HEAD, Spot, Starts, far_word, near_word, place_word, spot_of, words_of};
@@ -408,6 +410,92 @@ impl Arena {
         self.words.write(self.base, at, head.word());
         self.lists.pop(class, next);
         Some(CellIndex::of(cell))
+    }
+
+    /// Makes free small cells live with the heads of these cells, from number `from` on, as long as the next one is small and the list has one. The
+    /// principal port of each is written at its number from `first` on. Returns the number of the first one that has no cell.
+    ///
+    /// The first cell of the list is a local value meanwhile: so each cell waits for one load, and not for the list in memory.
+    #[inline(always)]
+    pub fn begin_listed(
+        &mut self,
+        cells: &[NewCell],
+        from: u32,
+        points: &mut [EndWord],
+        first: usize,
+    ) -> u32
+        requires some { from ≤ length cells.now }
+        requires few { length cells.now < 2 ^ 32 }
+        requires room { first + length cells.now ≤ length points.old }
+        requires fits { (k : ℕ) (x : New) → slice_get cells.now k ≡ Some x → Holds x.class x.head.count }
+        ensures { BeginsFrom cells.now from first self.old points.old result self.new points.new }
+    {
+        let end = near_word(CellNo(self.cells.small_cells), 0);
+        let first_free = self.lists.of(CellClass::Small).next;
+        let base = self.base;
+        let mut next = EndWord::port(CellNo(first_free), 0);
+        let mut begun = from;
+        for number in from..cells.len() as u32 {
+            let cell = &cells[number as usize];
+            let at = next.near_word();
+            if at == end || cell.class.number() != CellClass::Small.number() {
+                break;
+            }
+            points[first + number as usize] = next;
+            let head = at + HEAD as usize;
+            next = *self.words.get(base, head);
+            self.words.write(base, head, cell.head.word());
+            begun = number + 1;
+        }
+        self.lists
+            .pop_many(CellClass::Small, begun - from, next.number());
+        begun
+    }
+
+    /// The same with small cells that were never used, as long as the list has none.
+    #[inline(always)]
+    pub fn begin_unused(
+        &mut self,
+        cells: &[NewCell],
+        from: u32,
+        points: &mut [EndWord],
+        first: usize,
+    ) -> u32
+        requires some { from ≤ length cells.now }
+        requires few { length cells.now < 2 ^ 32 }
+        requires room { first + length cells.now ≤ length points.old }
+        requires fits { (k : ℕ) (x : New) → slice_get cells.now k ≡ Some x → Holds x.class x.head.count }
+        ensures { BeginsFrom cells.now from first self.old points.old result self.new points.new }
+    {
+        let base = self.base;
+        let counts = self.cells;
+        let starts = self.starts;
+        let mut lists = self.lists;
+        let mut begun = from;
+        for number in from..cells.len() as u32 {
+            let cell = &cells[number as usize];
+            if lists.of(CellClass::Small).next != starts.amount(CellClass::Small)
+                || cell.class.number() != CellClass::Small.number()
+            {
+                break;
+            }
+            let new = begin_new(
+                &mut self.words,
+                base,
+                counts,
+                &starts,
+                CellClass::Small,
+                cell.head.word(),
+                &mut lists,
+            );
+            let Some(place) = new else {
+                break;
+            };
+            points[first + number as usize] = EndWord::port(place, 0);
+            begun = number + 1;
+        }
+        self.lists = lists;
+        begun
     }
 
     /// Gives a live cell this head, which has as many places as the cell's class is for, and returns it. Their ends are open until they are written.

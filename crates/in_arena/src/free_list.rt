@@ -96,8 +96,18 @@ impl FreeLists {
         ensures class { list_in self.new class ≡ record { next = next; fresh = (list_in self.old class).fresh; free = (list_in self.old class).free - 1 } }
         ensures others { (c : Class) → c ≢ class → list_in self.new c ≡ list_in self.old c }
     {
+        self.pop_many(class, 1, next);
+    }
+
+    /// Takes that many first cells of a class off its list: this one is the next.
+    #[inline(always)]
+    pub fn pop_many(&mut self, class: CellClass, many: u32, next: u32)
+        requires { many ≤ (list_in self.old class).free }
+        ensures class { list_in self.new class ≡ record { next = next; fresh = (list_in self.old class).fresh; free = (list_in self.old class).free - many } }
+        ensures others { (c : Class) → c ≢ class → list_in self.new c ≡ list_in self.old c }
+    {
         let list = &mut self.lists[class.number() as usize];
         list.next = next;
-        list.free -= 1;
+        list.free -= many;
     }
 }

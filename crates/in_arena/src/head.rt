@@ -4,7 +4,7 @@ ghost use Rattle.in_arena.specs.EndWords.{free_place, numbers};
 ghost use Rattle.in_arena.specs.Words.{IsHead, head_in};
 ghost use Rattle.in_arena.specs.declared.content.End.TheVariants.{Cell};
 
-use crate::content::{CellNo, SymbolWord};
+use crate::content::{CellClass, CellNo, SymbolWord};
 use crate::word::EndWord;
 use std::marker::Model;
 
@@ -70,4 +70,12 @@ impl HeadWord {
     {
         self.word.place()
     }
+}
+
+/// A cell to be begun: its head, the class of cells for as many places, and a number of the caller's, which no arena reads.
+#[derive(Clone, Copy)]
+pub struct NewCell {
+    pub head: HeadWord,
+    pub mark: u32,
+    pub class: CellClass,
 }

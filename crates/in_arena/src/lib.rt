@@ -4,7 +4,7 @@
 //! class: three places and a head, which names the symbol and the number of ends. So the word of an end that is one of these places is
 //! the place's own number in the row, and an end is written by one test and one store. The further places of large and of wide cells come after.
 //!
-//! From below: `content`, the classes of cells and ends; `word`, an end in one word; `head`, a cell's head in one; `free_list`, the free cells of each class; `spot`, where the
+//! From below: `content`, the classes of cells and ends; `word`, an end in one word; `head`, a cell's head in one, and a cell to be begun; `free_list`, the free cells of each class; `spot`, where the
 //! words of a cell are; `row`, the words of a row, cell by cell; `lease`, the owner of one cell; `bag`, the owner of several cells by their numbers,
 //! which takes no bytes for a cell; `arena`.
 //!
@@ -26,6 +26,6 @@ mod word;
 pub use arena::{Arena, RowStart};
 pub use bag::Bag;
 pub use content::{CellClass, CellCounts, CellIndex, CellNo, End, SymbolWord};
-pub use head::HeadWord;
+pub use head::{HeadWord, NewCell};
 pub use lease::Lease;
 pub use word::{EndWord, PlaceStep};

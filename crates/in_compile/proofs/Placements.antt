@@ -3,6 +3,7 @@ pub mod AgentByAgent
 pub mod Back
 pub mod EndByEnd
 pub mod Held
+pub mod InTurn
 pub mod OnePut
 pub mod OneRegained
 pub mod Put

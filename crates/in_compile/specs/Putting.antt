@@ -1,12 +1,14 @@
 -- Members that are put into an arena at once. An agent may get any cell of its class. That boundary ends hold their numbers is this project's own
 -- choice.
-use Rattle.std.specs.Prelude.{◌≡◌, ◌≤◌, ◌<◌, ◌+◌, ℕ, cond, List, length, take, count_by, Some, None, slice_get}
+use Rattle.std.specs.Prelude.{◌≡◌, ◌≤◌, ◌<◌, ◌+◌, ℕ, cond, List, length, take, count_by, Some, None, slice_get, slice_index_or}
 use Rattle.in_arena.specs.Arenas.{ArenaView, changed, free_of, state_at}
 use Rattle.in_arena.specs.Changes.{AreListedOnce, UnlistedStay}
 use Rattle.in_arena.specs.Classes.{IsNumberOf}
 use Rattle.in_arena.specs.States.{State, Vacant, IsBegun, word_of}
 use Rattle.in_arena.specs.declared.content.CellClass.{CellClass}
 use Rattle.in_arena.specs.declared.content.CellNo.{CellNo}
+use Rattle.in_arena.specs.declared.content.End.{End}
+use Rattle.in_arena.specs.declared.content.End.TheVariants.{Cell}
 use Rattle.in_compile.specs.Members.{AgentParts, MemberParts, has_class}
 use Rattle.in_compile.specs.Placing.{content}
 
@@ -52,3 +54,11 @@ pub record ArePutBelow (m : MemberParts) (ns : List CellNo) (begun : ArenaView) 
   pub memory : now.memory ≡ begun.memory
   pub cells : now.cells ≡ begun.cells
   pub many : length now.states ≡ length begun.states
+
+-- the principal ports of these cells are at the points from `first` on
+abbrev pub AreAtPoints : ℕ → List CellNo → List End → Type 0
+AreAtPoints first ns points = (k : ℕ) → k < length ns → slice_get points (first + k) ≡ Some (Cell (slice_index_or ns k (record { 0 = 0 })) 0)
+
+-- .. of the cells that the first x agents have
+abbrev pub HasBegunTo : MemberParts → ArenaView → ℕ → ArenaView → ℕ → List End → Type 0
+HasBegunTo m old x now first points = (ns : List CellNo) × AreBegunBelow m old x now ns × AreAtPoints first ns points

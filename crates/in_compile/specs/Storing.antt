@@ -9,7 +9,7 @@ use Rattle.in_net.specs.Parts.{Parts}
 use Rattle.in_syntax.specs.Grammar.{max_ports}
 use Rattle.in_compile.specs.declared.joints.Joint.{Joint}
 use Rattle.in_compile.specs.declared.joints.Joint.TheVariants.{ToAgent, ToBoundary}
-use Rattle.in_compile.specs.declared.member.MemberAgent.{MemberAgent}
+use Rattle.in_arena.specs.declared.head.NewCell.{NewCell}
 use Rattle.in_compile.specs.Cells.{is_of}
 use Rattle.in_compile.specs.Members.{AgentParts, MemberParts, joint_of}
 use Rattle.in_compile.specs.Wires.{first_agent_slot, slots}
@@ -37,19 +37,19 @@ AreNarrow ps = (k : ℕ) (q : Point) → slice_get ps k ≡ Some q → IsNarrow 
 -- ---- agents, and all joints of a member in one list, those of the boundary ends first
 
 -- an agent's joints are in a row
-abbrev pub ends_from : List Joint → MemberAgent → List Joint
-ends_from joints a = take a.head.count (drop a.first joints)
+abbrev pub ends_from : List Joint → NewCell → List Joint
+ends_from joints a = take a.head.count (drop a.mark joints)
 
-abbrev pub agent_from : List Joint → MemberAgent → AgentParts
+abbrev pub agent_from : List Joint → NewCell → AgentParts
 agent_from joints a = record { symbol = record { 0 = a.head.word }; class = a.class; ends = ends_from joints a }
 
-abbrev pub agents_from : List Joint → List MemberAgent → List AgentParts
+abbrev pub agents_from : List Joint → List NewCell → List AgentParts
 agents_from joints agents = map (agent_from joints) agents
 
 -- the joints of the agents are in the list, and numbers fit
-pub record IsLaidOut (agents : List MemberAgent) (joints : List Joint) (boundary : ℕ) (pairs : List (ℕ × ℕ)) : Type 0 where
+pub record IsLaidOut (agents : List NewCell) (joints : List Joint) (boundary : ℕ) (pairs : List (ℕ × ℕ)) : Type 0 where
   pub ends : boundary ≤ length joints
-  pub places : (k : ℕ) (a : MemberAgent) → slice_get agents k ≡ Some a → a.first + a.head.count ≤ length joints
+  pub places : (k : ℕ) (a : NewCell) → slice_get agents k ≡ Some a → a.mark + a.head.count ≤ length joints
   pub few : length agents < 2 ^ 32
   pub few_ends : boundary < 2 ^ 16
   pub few_pairs : length pairs < 2 ^ 32
@@ -74,23 +74,23 @@ IsSmallJoint (ToBoundary e) = e < first_agent_slot
 -- ---- the parts that compiling adds
 
 -- this stored agent has the symbol and places of that agent of a net, and its joints lead where that agent's ends do
-pub record IsAgentOf (t : Tables) (joints : List Joint) (c : Cell) (a : MemberAgent) : Type 0 where
+pub record IsAgentOf (t : Tables) (joints : List Joint) (c : Cell) (a : NewCell) : Type 0 where
   pub symbol : a.head.word ≡ c.symbol.0
   pub class : is_of t a.class c.symbol.0 ≡ true
-  pub within : a.first + a.head.count ≤ length joints
+  pub within : a.mark + a.head.count ≤ length joints
   pub ends : ends_from joints a ≡ map joint_of c.ends
 
 -- one more agent, with its joints
-pub record AddsAgent (t : Tables) (c : Cell) (agents : List MemberAgent) (joints : List Joint) (more : List MemberAgent) (longer : List Joint) : Type 0 where
-  pub agent : MemberAgent
+pub record AddsAgent (t : Tables) (c : Cell) (agents : List NewCell) (joints : List Joint) (more : List NewCell) (longer : List Joint) : Type 0 where
+  pub agent : NewCell
   pub added : more ≡ agents ++ agent ∷ []
   pub of : IsAgentOf t longer c agent
   pub joints_are : longer ≡ joints ++ map joint_of c.ends
 
 -- the first x agents of the net, with their joints after those of the boundary ends
-pub record AreLaidBelow (t : Tables) (n : Parts) (x : ℕ) (agents : List MemberAgent) (joints : List Joint) : Type 0 where
+pub record AreLaidBelow (t : Tables) (n : Parts) (x : ℕ) (agents : List NewCell) (joints : List Joint) : Type 0 where
   pub count : length agents ≡ x
   pub rest : List Joint
   pub ends : joints ≡ map (λ f. joint_of f.end) n.free ++ rest
-  pub each : (k : ℕ) (a : MemberAgent) → slice_get agents k ≡ Some a → (c : Cell) × (slice_get n.cells k ≡ Some (Some c)) × IsAgentOf t joints c a
+  pub each : (k : ℕ) (a : NewCell) → slice_get agents k ≡ Some a → (c : Cell) × (slice_get n.cells k ≡ Some (Some c)) × IsAgentOf t joints c a
   pub long : length joints ≤ length n.free + (max_ports + 1) * x

@@ -5,28 +5,23 @@ ghost use Rattle.in_compile.specs.Members.{symbol_at, class_at, places_at, joint
 
 use crate::cells::Need;
 use crate::joints::{Joint, StoredJoint};
-use in_arena::{CellClass, HeadWord};
+use in_arena::{CellClass, HeadWord, NewCell};
 use in_base::use_invariant;
 use in_syntax::SymbolNo;
 use sqlite_items::Items;
 use std::marker::Model;
 
-/// A stored agent: the head of its cell, which has its symbol and its places. Its joints follow each other in the member's list, from number `first` on.
-#[derive(Clone, Copy)]
-pub(crate) struct MemberAgent {
-    pub(crate) head: HeadWord,
-    pub(crate) first: u32,
-    pub(crate) class: CellClass,
-}
-
 /// The right member of a rule or the initial net of a program, as a machine over cells places it: its agents with their numbers in the
 /// net, the other ends of the wires at their places and at the boundary ends, and the active pairs among them. Boundary ends are the net's free
 /// ends, by their numbers from 0.
 ///
+/// An agent is stored as the cell that it takes. The joints at its places follow each other in the list of all joints: its mark is the number of the
+/// first one.
+///
 /// Its first 64 bytes have all that a machine reads of it at each interaction.
 #[derive(Drop)]
 pub struct Member {
-    pub(crate) agents: Items<MemberAgent>,
+    pub(crate) agents: Items<NewCell>,
     pub(crate) joints: Items<StoredJoint>,
     pub(crate) need: Need,
     pub(crate) boundary: u16,
@@ -107,7 +102,7 @@ impl Member {
         requires { IsPlaceOf self.now agent place }
         ensures { joint_at self.now (ToAgent agent place) ≡ Some result }
     {
-        let first = self.agents.as_slice()[agent as usize].first;
+        let first = self.agents.as_slice()[agent as usize].mark;
         self.joints.as_slice()[first as usize + place as usize].joint()
     }
 

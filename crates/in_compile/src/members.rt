@@ -17,10 +17,10 @@ ghost use Rattle.in_compile.specs.Templates.{AreUnmarked, IsTemplateOf};
 
 use crate::cells::{class_of, need_of_net};
 use crate::joints::{Joint, StoredJoint};
-use crate::member::{Member, MemberAgent};
+use crate::member::Member;
 use crate::template::{OwnOrder, Template};
 use crate::wires::{over_wires, within_wires};
-use in_arena::{CellClass, HeadWord};
+use in_arena::{CellClass, HeadWord, NewCell};
 use in_base::use_promise;
 use in_net::{Cell, Net, Point, Rule};
 use in_overwriting::is_marked;
@@ -67,7 +67,7 @@ fn outputs_of(alloc: Global, net: &Net) -> Result<Items<bool>, AllocError>
 fn add_agent(
     symbols: &Symbols,
     cell: &Cell,
-    agents: &mut Items<MemberAgent>,
+    agents: &mut Items<NewCell>,
     joints: &mut Items<StoredJoint>,
 ) -> Result<(), AllocError>
     requires few { length symbols.now.names ≤ most_symbols }
@@ -79,9 +79,9 @@ fn add_agent(
     let first = joints.len() as u32;
     let places = symbols.arity(cell.symbol) + 1;
     add_joints(joints, cell.ends.as_slice())?;
-    agents.push(MemberAgent {
+    agents.push(NewCell {
         head: HeadWord::of(cell.symbol.0, places),
-        first,
+        mark: first,
         class: CellClass::for_places(places),
     })
 }
@@ -90,7 +90,7 @@ fn add_agent(
 fn add_agents(
     symbols: &Symbols,
     net: &Net,
-    agents: &mut Items<MemberAgent>,
+    agents: &mut Items<NewCell>,
     joints: &mut Items<StoredJoint>,
 ) -> Result<(), AllocError>
     requires few_symbols { length symbols.now.names ≤ most_symbols }

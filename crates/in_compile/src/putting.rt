@@ -1,5 +1,5 @@
 // A member is put into free cells of an arena.
-ghost use Rattle.std.specs.Prelude.{◌≡◌, ◌≤◌, ◌<◌, ℕ, [], length, Some, slice_get, vec_capacity};
+ghost use Rattle.std.specs.Prelude.{◌≡◌, ◌≤◌, ◌<◌, ◌+◌, ℕ, [], length, Some, slice_get, vec_capacity};
 ghost use Rattle.in_arena.specs.Arenas.{ArenaView, changed, free_of, state_at};
 ghost use Rattle.in_arena.specs.Changes.{HasAllCells};
 ghost use Rattle.in_arena.specs.Classes.{IsNumberOf};
@@ -9,12 +9,12 @@ ghost use Rattle.in_arena.specs.declared.content.CellNo.{CellNo as Number};
 ghost use Rattle.in_compile.specs.Cells.{count_of, IsEnough};
 ghost use Rattle.in_compile.specs.Members.{AgentParts};
 ghost use Rattle.in_compile.specs.Placing.{content};
-ghost use Rattle.in_compile.specs.Putting.{AreBegunBelow, BeginsAgent, IsPut};
+ghost use Rattle.in_compile.specs.Putting.{AreBegunBelow, BeginsAgent, HasBegunTo, IsPut};
 
 use crate::member::Member;
 use crate::placed::Placed;
 use crate::placing::end_of;
-use in_arena::{Arena, CellClass, CellIndex, CellNo, RowStart};
+use in_arena::{Arena, CellClass, CellIndex, CellNo, EndWord, RowStart};
 use in_base::use_promise;
 
 impl Member {
@@ -36,7 +36,50 @@ impl Member {
         cell
     }
 
-    /// The same once this live cell is free, which is of the agent's class and begins in that row. The agent then has it.
+    /// Makes free cells live for the agents from that number on, as long as small ones are listed and the agents take such. Their principal ports are
+    /// written at their numbers from `first` on. Returns the number of the first agent that has no cell.
+    #[inline(always)]
+    pub fn begin_listed(
+        &self,
+        from: u32,
+        arena: &mut Arena,
+        points: &mut [EndWord],
+        first: usize,
+    ) -> u32
+        requires some { from ≤ length self.now.agents }
+        requires all { HasAllCells arena.old }
+        requires room { first + length self.now.agents ≤ length points.old }
+        ensures begun { (a : ArenaView) → HasBegunTo self.now a from arena.old first points.old → HasBegunTo self.now a result arena.new first points.new }
+        ensures order { (from ≤ result) × (result ≤ length self.now.agents) }
+        ensures before { (k : ℕ) → k < first → slice_get points.new k ≡ slice_get points.old k }
+        ensures long { length points.new ≡ length points.old }
+    {
+        use_promise!(self.is_sound());
+        arena.begin_listed(self.agents.as_slice(), from, points, first)
+    }
+
+    /// The same with cells that were never used, as long as no small one is listed.
+    #[inline(always)]
+    pub fn begin_unused(
+        &self,
+        from: u32,
+        arena: &mut Arena,
+        points: &mut [EndWord],
+        first: usize,
+    ) -> u32
+        requires some { from ≤ length self.now.agents }
+        requires all { HasAllCells arena.old }
+        requires room { first + length self.now.agents ≤ length points.old }
+        ensures begun { (a : ArenaView) → HasBegunTo self.now a from arena.old first points.old → HasBegunTo self.now a result arena.new first points.new }
+        ensures order { (from ≤ result) × (result ≤ length self.now.agents) }
+        ensures before { (k : ℕ) → k < first → slice_get points.new k ≡ slice_get points.old k }
+        ensures long { length points.new ≡ length points.old }
+    {
+        use_promise!(self.is_sound());
+        arena.begin_unused(self.agents.as_slice(), from, points, first)
+    }
+
+    /// The same as `begin` once this live cell is free, which is of the agent's class and begins in that row. The agent then has it.
     #[inline(always)]
     pub fn renew(&self, agent: u32, cell: CellNo, row: RowStart, arena: &mut Arena) -> CellIndex
         requires there { agent < length self.now.agents }

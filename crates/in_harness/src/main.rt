@@ -2,6 +2,7 @@
 //!
 //! tokens, count, tree, sizes, tables, nets     the text as it was read, before its types are checked
 //! open                                         open nets of that, with their steps, and the first pair without a rule
+//! orders                                       the orders of their nodes: found one by one, and guessed
 //! program, templates                           the result of `check`, and the templates
 //! stock ONE OTHER CELLS                        a stock for the template of these symbols, and the member placed from it
 //! verify ITEM STEP ..                          whether these steps build the net (`net`), or the rule of this number

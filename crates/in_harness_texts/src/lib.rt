@@ -6,6 +6,7 @@ mod calls;
 mod nets;
 mod only;
 mod opening;
+mod orders;
 mod programs;
 mod queueing;
 mod reducing;
@@ -60,6 +61,7 @@ pub fn add_answer(sheet: &mut Sheet, words: &[String], text: &[u8]) {
         "tables" => add_read(sheet, text, Read::Tables),
         "nets" => add_read(sheet, text, Read::Nets),
         "open" => add_read(sheet, text, Read::OpenNets),
+        "orders" => add_read(sheet, text, Read::Orders),
         "action" => add_action(sheet, words),
         _ => add_checked(sheet, words, text),
     }

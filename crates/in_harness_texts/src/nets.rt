@@ -4,7 +4,7 @@ ghost use Rattle.in_symbols.specs.Tables.{IsSymbol};
 ghost use Rattle.in_net.specs.Built.{IsOver};
 ghost use Rattle.in_harness_texts.specs.Texts.{IsRead, IsReadProgram, IsBuilt, IsBuiltRule};
 
-use crate::opening::add_open_nets;
+use crate::opening::{Told, add_all_opened, add_open_nets};
 use crate::sheet::Sheet;
 use in_net::{AgentNo, Net, Point, Rule, build_net, build_rule};
 use in_symbols::{PortType, Symbols};
@@ -17,6 +17,7 @@ pub enum Read {
     Tables,
     Nets,
     OpenNets,
+    Orders,
 }
 
 fn add_port(sheet: &mut Sheet, port: PortType, class: u8) {
@@ -248,6 +249,7 @@ fn add_read_source(sheet: &mut Sheet, source: &Source, read: Read)
                 Read::Tables => add_tables(sheet, &symbols),
                 Read::Nets => add_nets(sheet, source, &symbols),
                 Read::OpenNets => add_open_nets(sheet, source, &symbols),
+                Read::Orders => add_all_opened(sheet, source, &symbols, Told::Orders),
             }
             drop(symbols);
         }

@@ -2,6 +2,7 @@
 ghost use Rattle.std.specs.Prelude.{◌<◌, length};
 ghost use Rattle.in_harness_texts.specs.Texts.{IsReadProgram};
 
+use crate::orders::add_orders;
 use crate::sheet::Sheet;
 use in_cover::cover;
 use in_net::{build_net, build_rule};
@@ -50,10 +51,22 @@ fn add_derived(sheet: &mut Sheet, shape: &OpenNet) {
     }
 }
 
-fn add_opened(sheet: &mut Sheet, opened: Result<OpenNet, Fault>) {
+/// What is written of an open net.
+#[derive(Clone, Copy)]
+pub enum Told {
+    /// How many steps build it, or how many nodes are stuck.
+    Steps,
+    /// The orders of its nodes.
+    Orders,
+}
+
+fn add_opened(sheet: &mut Sheet, opened: Result<OpenNet, Fault>, told: Told) {
     match opened {
         Ok(shape) => {
-            add_derived(sheet, &shape);
+            match told {
+                Told::Steps => add_derived(sheet, &shape),
+                Told::Orders => add_orders(sheet, &shape),
+            }
             drop(shape);
         }
         Err(fault) => sheet.add_fault(&fault),
@@ -71,15 +84,22 @@ fn add_uncovered(sheet: &mut Sheet, symbols: &Symbols) {
     }
 }
 
-/// The open nets of the rules and of the net, and then the first pair that requires a rule, if the program had none.
-pub fn add_open_nets(sheet: &mut Sheet, source: &Source, symbols: &Symbols)
+/// The open nets of the rules and of the net.
+pub fn add_all_opened(sheet: &mut Sheet, source: &Source, symbols: &Symbols, told: Told)
     requires { IsReadProgram source.now symbols.now }
 {
     for number in 0..source.rules.len() as u32 {
         let opened = rule_opened(sheet.alloc, source, symbols, number);
-        add_opened(sheet, opened);
+        add_opened(sheet, opened, told);
     }
     let opened = net_opened(sheet.alloc, source, symbols);
-    add_opened(sheet, opened);
+    add_opened(sheet, opened, told);
+}
+
+/// .. with their steps, and then the first pair that requires a rule, if the program had none.
+pub fn add_open_nets(sheet: &mut Sheet, source: &Source, symbols: &Symbols)
+    requires { IsReadProgram source.now symbols.now }
+{
+    add_all_opened(sheet, source, symbols, Told::Steps);
     add_uncovered(sheet, symbols);
 }

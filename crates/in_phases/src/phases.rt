@@ -87,16 +87,13 @@ fn at_once<R: Threads>(
         &mut || -> Worked
             requires { AreTemplatesOf reducer.now.program templates.now × (1 ≤ rest.parts) × (rest.share ≤ most_cells) × HasFree reducer.now rest.floor }
             ensures { ReducesTo reducer.entry.now result.interactions reducer.exit.now × (result.interactions ≤ rest.most) × HasFree reducer.exit.now rest.floor × (result.parts ≤ rest.parts) × KeepsRoom room.entry.now room.exit.now × AreCountsOfParts result }
-        { reduce_in_parts(rt, alloc, reducer, templates, rest, room) },
+        { share_out(rt, alloc, reducer, templates, rest, room) },
     )
 }
 
-/// Reduces a net in parts, each in its own thread except the rest: newest pairs first. It is never refused: if memory or cells run out, there are
-/// fewer parts, and if a thread can't be started, its part is reduced after the rest. The agents of each part are open. The room is used again, and
-/// grows if it is too small. The sharing has at least one part, and the cells that have to stay free are free before. A net in one part is reduced until no
-/// pair is left, or the cells for the last one aren't free with `floor` more of each class, or `most` interactions are done.
+/// Reduces a net in parts, as `reduce_in_parts` does.
 #[cycle(phases)]
-pub fn reduce_in_parts<R: Threads>(
+fn share_out<R: Threads>(
     rt: &R,
     alloc: Global,
     reducer: &mut Reducer,
@@ -156,4 +153,44 @@ pub fn reduce_in_parts<R: Threads>(
         longest: others.longest.max(one),
         parts: others.parts + 1,
     }
+}
+
+/// Reduces a net in parts, each in its own thread except the rest: newest pairs first. It is never refused: if memory or cells run out, there are
+/// fewer parts, and if a thread can't be started, its part is reduced after the rest. The agents of each part are open. The room is used again, and
+/// grows if it is too small. The sharing has at least one part, and the cells that have to stay free are free before. A net in one part is reduced until no
+/// pair is left, or the cells for the last one aren't free with `floor` more of each class, or `most` interactions are done.
+pub fn reduce_in_parts<R: Threads>(
+    rt: &R,
+    alloc: Global,
+    reducer: &mut Reducer,
+    templates: &Templates,
+    sharing: Sharing,
+    room: &mut Room,
+) -> Worked
+    requires templates { AreTemplatesOf reducer.old.program templates.now }
+    requires parts { 1 ≤ sharing.parts }
+    requires share { sharing.share ≤ most_cells }
+    requires floor { HasFree reducer.old sharing.floor }
+    ensures reduces { ReducesTo reducer.old result.interactions reducer.new }
+    ensures most { result.interactions ≤ sharing.most }
+    ensures floor { HasFree reducer.new sharing.floor }
+    ensures parts { result.parts ≤ sharing.parts }
+    ensures room { KeepsRoom room.old room.new }
+    ensures counts { AreCountsOfParts result }
+    ensures whole { result.parts ≡ 1 → result.interactions < sharing.most → TakesNoLast sharing.floor reducer.new }
+{
+    if sharing.parts == 1 {
+        return alone(reducer, templates, sharing);
+    }
+    // Linux puts the first thread that a young process starts on the processor of its parent, where both wait for each other by turns of some
+    // milliseconds while others are idle, and the next ones on idle processors. So the first one has no work.
+    let (_, worked) = join_mut(
+        rt,
+        &mut || -> bool { true },
+        &mut || -> Worked
+            requires { AreTemplatesOf reducer.now.program templates.now × (1 ≤ sharing.parts) × (sharing.share ≤ most_cells) × HasFree reducer.now sharing.floor }
+            ensures { ReducesTo reducer.entry.now result.interactions reducer.exit.now × (result.interactions ≤ sharing.most) × HasFree reducer.exit.now sharing.floor × (result.parts ≤ sharing.parts) × KeepsRoom room.entry.now room.exit.now × AreCountsOfParts result × (result.parts ≡ 1 → result.interactions < sharing.most → TakesNoLast sharing.floor reducer.exit.now) }
+        { share_out(rt, alloc, reducer, templates, sharing, room) },
+    );
+    worked
 }

@@ -40,6 +40,7 @@ impl Room {
         ensures branch { self.new.branch ≡ self.old.branch }
     {
         if self.names.len() < numbers {
+            self.names.reserve_exact(numbers - self.names.len())?;
             self.names.resize(numbers, CellIndex::first())?;
         }
         Ok(())

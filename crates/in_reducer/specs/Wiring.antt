@@ -1,7 +1,7 @@
 -- An interaction in place, over cells: new agents are begun in free cells, beside the pair, and the wires of the right member are
 -- written one after another, each at its two sides. Lafont 1990: the right member takes the place of the active pair on the same boundary
 -- ends. That an interaction is done in this way, if no wire leads back to its pair, is this project's own choice.
-use Rattle.std.specs.Prelude.{◌≡◌, ◌≢◌, ◌⊎◌, IsTrue, ◌↔◌, ◌≤◌, ◌<◌, ◌+◌, ◌-◌, ◌++◌, ℕ, suc, Bool, false, true, cond, List, [], ◌∷◌, length, map, take, slice_get, slice_index_or, Some, None}
+use Rattle.std.specs.Prelude.{◌≡◌, ◌≢◌, ◌⊎◌, IsTrue, ◌↔◌, ◌≤◌, ◌<◌, ◌+◌, ◌-◌, ◌++◌, ℕ, suc, Bool, false, true, cond, List, [], ◌∷◌, length, map, take, slice_get, Some, None}
 use Rattle.in_arena.specs.Arenas.{ArenaView, changed, free_of, state_at}
 use Rattle.in_arena.specs.Changes.{AreListedOnce, HasAllCells, UnlistedStay}
 use Rattle.in_arena.specs.Classes.{IsNumberOf}
@@ -25,7 +25,7 @@ use Rattle.in_cells.specs.Shown.{end_of, stands_at}
 use Rattle.in_compile.specs.Cells.{count_of, IsEnough}
 use Rattle.in_compile.specs.Members.{AgentParts, MemberParts}
 use Rattle.in_compile.specs.OwnOrders.{in_order}
-use Rattle.in_compile.specs.Putting.{AreBegunBelow}
+use Rattle.in_compile.specs.Putting.{AreAtPoints, HasBegunTo}
 use Rattle.in_compile.specs.Templates.{TemplateParts, IsTemplateOf}
 use Rattle.in_compile.specs.Wires.{both_points, over_of, over_point, within_of}
 use Rattle.in_overwriting.specs.InTurn.{AreAllWiresOf, in_two_parts}
@@ -60,11 +60,11 @@ pub record CanBegin (m : MemberParts) (a : ArenaView) (points : List End) : Type
 
 -- the agents have these cells, and their points come after those of 32 boundary ends: the principal ports
 abbrev pub AreAtAgents : List CellNo → List End → Type 0
-AreAtAgents ns points = (k : ℕ) → k < length ns → slice_get points (32 + k) ≡ Some (Cell (slice_index_or ns k (record { 0 = 0 })) 0)
+AreAtAgents = AreAtPoints 32
 
 -- the first x agents have their cells, and their points
 abbrev pub HasBegunBelow : MemberParts → ArenaView → ℕ → ArenaView → List End → Type 0
-HasBegunBelow m old x now points = (ns : List CellNo) × AreBegunBelow m old x now ns × AreAtAgents ns points
+HasBegunBelow m old x now points = HasBegunTo m old x now 32 points
 
 -- ---- the wires that are written
 

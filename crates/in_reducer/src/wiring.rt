@@ -27,7 +27,9 @@ use in_syntax::MOST_MEMBER_AGENTS;
 /// The most points of a right member: one for each boundary end and each agent.
 pub(crate) const POINTS: usize = MOST_ENDS + MOST_MEMBER_AGENTS;
 
-/// Begins a cell for each agent from this one on. The cell's principal port is the agent's point.
+/// Begins a cell for each agent from this one on. The cell's principal port is the agent's point. It is a call, since most steps don't need it, and
+/// its loop would take registers from theirs.
+#[inline(never)]
 fn begin_from(member: &Member, from: u32, arena: &mut Arena, points: &mut [EndWord])
     requires begun { (a : ArenaView) × CanBegin member.now a points.old × HasBegunBelow member.now a from arena.old points.old }
     requires few { from ≤ length member.now.agents }
@@ -35,14 +37,33 @@ fn begin_from(member: &Member, from: u32, arena: &mut Arena, points: &mut [EndWo
     ensures ends { (e : ℕ) → e < most_ends → slice_get points.new e ≡ slice_get points.old e }
     ensures long { length points.new ≡ length points.old }
 {
-    use_promise!(member.is_sound());
-    for agent in from..member.agents() {
-        let cell = member.begin(agent, arena);
-        points[MOST_ENDS + agent as usize] = EndWord::place_of(cell, 0);
+    let next = member.begin_listed(from, arena, points, MOST_ENDS);
+    if next < member.agents() {
+        begin_others(member, next, arena, points);
     }
 }
 
-/// The same. Most right members have at most two agents, so often none is left.
+/// The same where no small cell is listed, or this agent takes another one.
+#[inline(never)]
+fn begin_others(member: &Member, from: u32, arena: &mut Arena, points: &mut [EndWord])
+    requires begun { (a : ArenaView) × CanBegin member.now a points.old × HasBegunBelow member.now a from arena.old points.old }
+    requires few { from ≤ length member.now.agents }
+    ensures begun { (a : ArenaView) → CanBegin member.now a points.old → HasBegunBelow member.now a from arena.old points.old → (ns : List Number) × HasBegun member.now ns a arena.new × AreAtAgents ns points.new }
+    ensures ends { (e : ℕ) → e < most_ends → slice_get points.new e ≡ slice_get points.old e }
+    ensures long { length points.new ≡ length points.old }
+{
+    use_promise!(member.is_sound());
+    let many = member.agents();
+    let mut next = member.begin_unused(from, arena, points, MOST_ENDS);
+    while next < many {
+        let cell = member.begin(next, arena);
+        points[MOST_ENDS + next as usize] = EndWord::place_of(cell, 0);
+        let listed = member.begin_listed(next + 1, arena, points, MOST_ENDS);
+        next = member.begin_unused(listed, arena, points, MOST_ENDS);
+    }
+}
+
+/// The same as `begin_from`. Most right members have at most two agents, so often none is left.
 #[inline(always)]
 fn begin_rest(member: &Member, from: u32, arena: &mut Arena, points: &mut [EndWord])
     requires begun { (a : ArenaView) × CanBegin member.now a points.old × HasBegunBelow member.now a from arena.old points.old }

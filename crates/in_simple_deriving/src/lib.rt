@@ -17,3 +17,4 @@ mod procedure;
 mod turns;
 
 pub use procedure::derive;
+pub use turns::found_order;

@@ -30,8 +30,9 @@ fn first_left(
     first_splitting(alloc, &part, graph)
 }
 
-/// The nodes that are taken out of the whole net in turn, each of them the first one that splits what is left, found one by one.
-fn found_order(alloc: Global, wired: &Wired) -> Result<Items<u32>, AllocError>
+/// The nodes that are taken out of the whole net in turn, each of them the first one that splits what is left, found one by one, in time in
+/// proportion to the square of the net. Fails if memory runs out. `derive` calls this only after a wrong guess.
+pub fn found_order(alloc: Global, wired: &Wired) -> Result<Items<u32>, AllocError>
     ensures { IfOk result (IsNodeOrder wired.now) }
 {
     let count = wired.nodes();
@@ -49,7 +50,7 @@ fn found_order(alloc: Global, wired: &Wired) -> Result<Items<u32>, AllocError>
     Ok(order)
 }
 
-/// The same. The order is guessed, and found one by one only if the guess is wrong: that takes time in proportion to the square of the net.
+/// The same. The order is guessed, and found one by one only if the guess is wrong.
 fn node_order(alloc: Global, wired: &Wired) -> Result<Items<u32>, AllocError>
     ensures { IfOk result (IsNodeOrder wired.now) }
 {

@@ -15,7 +15,7 @@ use Rattle.in_net.specs.declared.nets.FreeEnd.{FreeEnd}
 use Rattle.in_net.specs.declared.nets.Point.TheVariants.{Free}
 use Rattle.in_net.specs.Parts.{Parts, cell_in, symbol_in, partner_in}
 use Rattle.in_compile.specs.declared.joints.Joint.{Joint}
-use Rattle.in_compile.specs.declared.member.MemberAgent.{MemberAgent}
+use Rattle.in_arena.specs.declared.head.NewCell.{NewCell}
 use Rattle.in_compile.specs.Cells.{is_of}
 use Rattle.in_compile.specs.Storing.{ends_from, agent_from, agents_from, IsAgentOf, AddsAgent, AreLaidBelow}
 use Rattle.in_compile.specs.Members.{AgentParts, joint_of}
@@ -30,17 +30,17 @@ end_joint None = refl
 end_joint (Some f) = refl
 
 -- the ends in a list stay when the list gets longer
-pub ends_kept : (joints more : List Joint) (a : MemberAgent) → a.first + a.head.count ≤ length joints → ends_from (joints ++ more) a ≡ ends_from joints a
+pub ends_kept : (joints more : List Joint) (a : NewCell) → a.mark + a.head.count ≤ length joints → ends_from (joints ++ more) a ≡ ends_from joints a
 ends_kept joints more a within =
-    let room : a.head.count ≤ length (drop a.first joints) = omega (arith, within, length-drop a.first joints) in
-    let begin : a.first ≤ length joints = omega (arith, within) in
-    ap (take a.head.count) (drop-append-le a.first joints more begin) ∙ take-append-le a.head.count (drop a.first joints) more room
+    let room : a.head.count ≤ length (drop a.mark joints) = omega (arith, within, length-drop a.mark joints) in
+    let begin : a.mark ≤ length joints = omega (arith, within) in
+    ap (take a.head.count) (drop-append-le a.mark joints more begin) ∙ take-append-le a.head.count (drop a.mark joints) more room
 
 abbrev symbol_numbered : ℕ → SymbolNo
 symbol_numbered s = record { 0 = s }
 
 module _ (t : Tables) where
-  pub agent_kept : (joints more : List Joint) (c : Cell) (a : MemberAgent) → IsAgentOf t joints c a → IsAgentOf t (joints ++ more) c a
+  pub agent_kept : (joints more : List Joint) (c : Cell) (a : NewCell) → IsAgentOf t joints c a → IsAgentOf t (joints ++ more) c a
   agent_kept joints more c a h = record {
     symbol = h.symbol;
     class = h.class;
@@ -58,7 +58,7 @@ module _ (t : Tables) where
       long = (let l = ap length e ∙ length-map n.free (λ (f : FreeEnd). joint_of f.end) in omega (arith, l));
     }
 
-    pub one_laid : (x : ℕ) (c : Cell) (agents : List MemberAgent) (joints : List Joint) (more : List MemberAgent) (longer : List Joint) → slice_get n.cells x ≡ Some (Some c) → length c.ends ≤ max_ports + 1 →
+    pub one_laid : (x : ℕ) (c : Cell) (agents : List NewCell) (joints : List Joint) (more : List NewCell) (longer : List Joint) → slice_get n.cells x ≡ Some (Some c) → length c.ends ≤ max_ports + 1 →
         AreLaidBelow t n x agents joints → AddsAgent t c agents joints more longer → AreLaidBelow t n (x + 1) more longer
     one_laid x c agents joints more longer stands few h adds = record {
       count = ap length adds.added ∙ length-append agents (adds.agent ∷ []) ∙ ap (λ z. z + 1) h.count;
@@ -68,18 +68,18 @@ module _ (t : Tables) where
       long = (let l = h.long in let m = ap length adds.joints_are ∙ length-append joints (map joint_of c.ends) in let e = length-map c.ends joint_of in omega (arith, l, m, e, few));
     }
       where
-        go : (k : ℕ) (a : MemberAgent) → (slice_get agents k ≡ Some a) ⊎ ((k ≡ length agents) × (adds.agent ≡ a)) → (d : Cell) × (slice_get n.cells k ≡ Some (Some d)) × IsAgentOf t longer d a
+        go : (k : ℕ) (a : NewCell) → (slice_get agents k ≡ Some a) ⊎ ((k ≡ length agents) × (adds.agent ≡ a)) → (d : Cell) × (slice_get n.cells k ≡ Some (Some d)) × IsAgentOf t longer d a
         go k a (inl s) =
             let before = h.each k a s in
             (before.0, before.1, subst (λ (z : List Joint). IsAgentOf t z before.0 a) (sym adds.joints_are) (agent_kept joints (map joint_of c.ends) before.0 a before.2))
         go k a (inr s) =
             let at : k ≡ x = s.0 ∙ h.count in
-            (c, ap (slice_get n.cells) at ∙ stands, subst (λ (z : MemberAgent). IsAgentOf t longer c z) s.1 adds.of)
+            (c, ap (slice_get n.cells) at ∙ stands, subst (λ (z : NewCell). IsAgentOf t longer c z) s.1 adds.of)
 
     -- ---- all of them
 
-    module _ (agents : List MemberAgent) (joints : List Joint) (laid : AreLaidBelow t n (length n.cells) agents joints) where
-      found : (k : ℕ) → k < length agents → (a : MemberAgent) × (c : Cell) × (slice_get (agents_from joints agents) k ≡ Some (agent_from joints a)) × (cell_in n k ≡ Some c) × IsAgentOf t joints c a
+    module _ (agents : List NewCell) (joints : List Joint) (laid : AreLaidBelow t n (length n.cells) agents joints) where
+      found : (k : ℕ) → k < length agents → (a : NewCell) × (c : Cell) × (slice_get (agents_from joints agents) k ≡ Some (agent_from joints a)) × (cell_in n k ≡ Some c) × IsAgentOf t joints c a
       found k l =
           let a = at_index agents k l in
           let c = laid.each k a.0 a.1 in

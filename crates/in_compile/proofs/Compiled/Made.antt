@@ -11,14 +11,14 @@ use Rattle.in_net.specs.Rules.{RuleParts}
 use Rattle.in_interaction.specs.Queues.{IsFirstQueue}
 use Rattle.in_compile.specs.declared.cells.Need.{Need}
 use Rattle.in_compile.specs.declared.joints.Joint.{Joint}
-use Rattle.in_compile.specs.declared.member.MemberAgent.{MemberAgent}
+use Rattle.in_arena.specs.declared.head.NewCell.{NewCell}
 use Rattle.in_compile.specs.Cells.{IsNeedOf}
 use Rattle.in_compile.specs.Storing.{agents_from, AreLaidBelow}
 use Rattle.in_compile.specs.Members.{joint_of, joint_at, IsMemberOf}
 use Rattle.in_compile.specs.Templates.{TemplateParts, IsTemplateOf, HaveFirst}
 use Rattle.in_compile.proofs.Compiled.Laid.{symbols_are, classes_are, ends_are, boundary_is}
 
-module _ (t : Tables) (n : Parts) (agents : List MemberAgent) (joints : List Joint) (pairs : List (ℕ × ℕ)) (need : Need) (boundary : ℕ) where
+module _ (t : Tables) (n : Parts) (agents : List NewCell) (joints : List Joint) (pairs : List (ℕ × ℕ)) (need : Need) (boundary : ℕ) where
   module _ (laid : AreLaidBelow t n (length n.cells) agents joints) (ends : boundary ≡ length n.free) (queue : IsFirstQueue t n pairs) (counts : IsNeedOf t n.cells need) where
     pub made : IsMemberOf t n (record { agents = agents_from joints agents; joints = take boundary joints; pairs = pairs; need = need })
     made = record {

@@ -11,7 +11,8 @@ use Rattle.std.specs.List.{enumerate_from}
 use Rattle.std.proofs.lemmas.List.FromFn.{length-enumerate_from}
 use Rattle.std.proofs.lemmas.List.Sums.{count_by-le-length, length-filter}
 use Rattle.in_arena.specs.Arenas.{ArenaView, state_at}
-use Rattle.in_arena.specs.Classes.{IsNumberOf}
+use Rattle.in_arena.specs.Changes.{HasAllCells}
+use Rattle.in_arena.specs.Classes.{IsNumberOf, all_of}
 use Rattle.in_arena.specs.States.{end_at, places, word_of}
 use Rattle.in_arena.specs.declared.content.CellNo.{CellNo}
 use Rattle.in_arena.specs.declared.content.End.{End}
@@ -68,6 +69,10 @@ two_below m b new one two points v w below long is_v is_w = (
 -- points of the same number
 pub still_begin : (m : MemberParts) (a : ArenaView) (points after : List End) → length after ≡ length points → CanBegin m a points → CanBegin m a after
 still_begin m a points after same h = record { all = h.all; free = h.free; few = h.few; long = (let l = h.long in omega (arith, l, same)) }
+
+-- the arena still has all its cells
+pub still_all : (m : MemberParts) (old : ArenaView) (x : ℕ) (now : ArenaView) (points : List End) → HasAllCells old → HasBegunBelow m old x now points → HasAllCells now
+still_all m old x now points all h = let many = h.1.many in let cells = ap all_of h.1.cells in omega (arith, all, many, cells)
 
 -- ---- boundary ends
 

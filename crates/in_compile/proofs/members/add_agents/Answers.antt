@@ -5,7 +5,7 @@ use Rattle.in_base.proofs.Each.{all_at}
 use Rattle.in_net.specs.declared.nets.Cell.{Cell}
 use Rattle.in_net.specs.Parts.{cell_in}
 use Rattle.in_compile.specs.declared.joints.Joint.{Joint}
-use Rattle.in_compile.specs.declared.member.MemberAgent.{MemberAgent}
+use Rattle.in_arena.specs.declared.head.NewCell.{NewCell}
 use Rattle.in_compile.specs.Storing.{AreLaidBelow}
 use Rattle.in_compile.proofs.Compiled.Laid.{one_laid}
 use Rattle.in_compile.proofs.Compiled.Narrow.{narrow_ends}
@@ -32,7 +32,7 @@ loop-number-preserved c =
           let cell : cell_in n x ≡ Some w.in-Some.cell = ap (λ (o : Option (Option Cell)). option_and_then (λ (c : Option Cell). c) o) stands in
           let more = one_laid t n x w.in-Some.cell c.loop-number.agents c.loop-number.joints w.add_agent.new.agents w.add_agent.new.joints stands (c.cells-cells.ensures.whole.ports x w.in-Some.cell cell) c.loop-number.invariant
           (w.in_ok-add_agent.ensures {u = tt}) in
-          subst (λ (laid : List MemberAgent). AreLaidBelow t n (x + 1) laid c.match-cells-number.joints) (sym w.agents-is)
+          subst (λ (laid : List NewCell). AreLaidBelow t n (x + 1) laid c.match-cells-number.joints) (sym w.agents-is)
           (subst (λ (js : List Joint). AreLaidBelow t n (x + 1) w.add_agent.new.agents js) (sym w.joints-is) more)
       | in_default w ↦ absurd (let e : false ≡ true = all_at (λ c. is_some c ≡ true) n.cells x None c.requires.there (at ∙ ap (λ (o : Option Cell). Some o) w.in_default.is) in cc)
     ]

@@ -8,15 +8,15 @@ use Rattle.in_phases.proofs.Coming.{comes_reduced}
 use Rattle.in_phases.proofs.Counts.{counts_with_one}
 use Rattle.in_phases.proofs.phases.+phases.Goals as goal
 
-pub reduce_in_parts-returns-in_default-clause-reduces : goal.reduce_in_parts-returns-in_default-clause-reduces
-reduce_in_parts-returns-in_default-clause-reduces g t c =
+pub share_out-returns-in_default-clause-reduces : goal.share_out-returns-in_default-clause-reduces
+share_out-returns-in_default-clause-reduces g t c =
     let k = c.alone-in_default.result.interactions in
     let n = c.alone-in_default.new.reducer in
     subst (λ (z : ℕ). ReducesTo c.args.reducer.now z n) (let z : 0 + k ≡ k = omega arith in z)
     (reductions_go_on c.args.reducer.now c.take_part.new.reducer n 0 k c.in_default.ensures.taken.0 c.alone-in_default.ensures.reduces)
 
-pub reduce_in_parts-overflow_add-rest : goal.reduce_in_parts-overflow_add-rest
-reduce_in_parts-overflow_add-rest g t c =
+pub share_out-overflow_add-rest : goal.share_out-overflow_add-rest
+share_out-overflow_add-rest g t c =
     let taken = c.in-Some.ensures.taken in
     let of = taken.0.split.of_rest.cells in
     let free = taken.1 Small in
@@ -24,8 +24,8 @@ reduce_in_parts-overflow_add-rest g t c =
     let few = of.1 in
     omega (arith, free, all, few)
 
-pub reduce_in_parts-bring_back-requires : goal.reduce_in_parts-bring_back-requires
-reduce_in_parts-bring_back-requires g t c =
+pub share_out-bring_back-requires : goal.share_out-bring_back-requires
+share_out-bring_back-requires g t c =
     let m = c.args.reducer.now in
     let taken = c.in-Some.ensures.taken in
     let i = c.at_once-one.result.1.interactions in
@@ -45,8 +45,8 @@ reduce_in_parts-bring_back-requires g t c =
       );
     }
 
-pub reduce_in_parts-returns-clause-reduces : goal.reduce_in_parts-returns-clause-reduces
-reduce_in_parts-returns-clause-reduces g t c =
+pub share_out-returns-clause-reduces : goal.share_out-returns-clause-reduces
+share_out-returns-clause-reduces g t c =
     let m = c.args.reducer.now in
     let taken = c.in-Some.ensures.taken in
     let i = c.at_once-one.result.1.interactions in
@@ -56,8 +56,8 @@ reduce_in_parts-returns-clause-reduces g t c =
     (comes_reduced m c.take_part.new.reducer c.at_once-one.new.reducer c.at_once-one.new.part c.in-Some.taken i j c.args.sharing.floor taken.0 c.at_once-one.ensures.reduces c.at_once-one.ensures.part_reduces
     c.at_once-one.ensures.floor))
 
-pub reduce_in_parts-returns-clause-floor : goal.reduce_in_parts-returns-clause-floor
-reduce_in_parts-returns-clause-floor g t c = λ d.
+pub share_out-returns-clause-floor : goal.share_out-returns-clause-floor
+share_out-returns-clause-floor g t c = λ d.
     (
     let taken = c.in-Some.ensures.taken in
     let back = c.bring_back.ensures.vacant d in
@@ -71,8 +71,8 @@ reduce_in_parts-returns-clause-floor g t c = λ d.
     omega (arith, back, free, many, size, tables)
     )
 
-pub reduce_in_parts-returns-clause-counts : goal.reduce_in_parts-returns-clause-counts
-reduce_in_parts-returns-clause-counts g t c =
+pub share_out-returns-clause-counts : goal.share_out-returns-clause-counts
+share_out-returns-clause-counts g t c =
     let max = c.max.ensures in
     let w = c.at_once-one.result.1 in
     let one = c.at_once-one.result.0 in

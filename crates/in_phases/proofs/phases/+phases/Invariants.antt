@@ -7,5 +7,5 @@ decreases-at_once g l = 3 * l.rest.parts + 2
 abbrev pub decreases-at_once-join_mut+arg3 : goal.decreases-at_once-join_mut+arg3
 decreases-at_once-join_mut+arg3 g l = 3 * l.rest.parts + 1
 
-abbrev pub decreases-reduce_in_parts : goal.decreases-reduce_in_parts
-decreases-reduce_in_parts g l = 3 * l.sharing.parts
+abbrev pub decreases-share_out : goal.decreases-share_out
+decreases-share_out g l = 3 * l.sharing.parts
