@@ -34,3 +34,11 @@ _inet_export() {
   _inet_offer "$files" "$word" "$words"
 }
 complete -F _inet_export inet_export
+_inet_c() {
+  local word=${COMP_WORDS[COMP_CWORD]} before=${COMP_WORDS[COMP_CWORD-1]} words files=
+  case $before in --limit|--workers) return ;; --order) mapfile -t COMPREPLY < <(compgen -W 'newest queue' -- "$word"); return ;; esac
+  words='--large --order -h --help' files=1
+  case "${COMP_WORDS[*]:1:COMP_CWORD-1} " in *.inet\ *) words='--limit --workers' ;; esac
+  _inet_offer "$files" "$word" "$words"
+}
+complete -F _inet_c inet_c

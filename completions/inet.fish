@@ -28,3 +28,9 @@ complete -c inet_export -f -a "(__fish_complete_suffix .inet)"
 complete -c inet_export -l large -d 'Allows larger programs, with texts of up to 64 MiB and nets of up to 1048576 agents'
 complete -c inet_export -s h -l help -d 'Print help'
 complete -c inet_export -s V -l version -d 'Print version'
+complete -c inet_c -f -a "(__fish_complete_suffix .inet)"
+complete -c inet_c -n 'not string match -qr "\\.inet " -- (commandline -cp)' -l large -d 'Allows larger programs, with texts of up to 64 MiB and nets of up to 1048576 agents'
+complete -c inet_c -n 'not string match -qr "\\.inet " -- (commandline -cp)' -l order -x -a 'newest queue' -d 'Which pair is taken first: the newest, or as in a queue, which `inet run` does'
+complete -c inet_c -n 'not string match -qr "\\.inet " -- (commandline -cp)' -s h -l help -d 'Print help'
+complete -c inet_c -n 'string match -qr "\\.inet " -- (commandline -cp)' -l limit -x -d 'The most interactions, 0 to 1000000000000'
+complete -c inet_c -n 'string match -qr "\\.inet " -- (commandline -cp)' -l workers -x -d 'The workers that share the interactions, 1 to 64'

@@ -1,19 +1,21 @@
 // ---- Several workers, each a thread. They give pairs to who has none, and letters about wires go between them (to_c_wires.c).
 
 #ifdef STRESS
-enum { FIRST_ALONE = 0, LEAST_ALONE = 40, MOST_ALONE = 400, PAID_LONG = 400, WINDOW = 200, ACCOUNTED = 1 };
+enum { LOOKED_ALONE = 30, WINDOW = 200, ACCOUNTED = 1, ACCOUNTED_IN_TRIAL = 1 };
 enum { LOOKED_AT = 2, SPIN = 10, YIELDS = 0, SPARE_WORDS = 1, READY_WORDS = 1 };
-enum { LEAST_PAIRS = 1, MOST_GIVEN = 3, MOST_IN_GIFT = 9, FIRST_PAIRS = 4, REFUSED_TIMES = 1, MOST_PATIENCE = 2, MOST_REVERSED = 32 };
+enum { LEAST_PAIRS = 1, MANY_PAIRS = 1, MANY_TIMES = 1, MOST_GIVEN = 3, MOST_IN_GIFT = 9, MOST_IN_TRIAL = 9 };
+enum { FIRST_PAIRS = 4, REFUSED_TIMES = 1, MOST_PATIENCE = 2, MOST_REVERSED = 32 };
 enum { LASTS = 6, PAIR_LASTS = 3, AGENT_LASTS = 0, LASTS_LONG = 20 };
 // In nanoseconds.
-enum { LOOKED_BACK = 20000, LOOKED_BACK_SOON = 10000, LONG_UNJUDGED = 10000 };
+enum { FIRST_ALONE = 0, FEW_LATER = 0, STARTS_BEFORE = 0, LONG_ALONE = 0, LEAST_ALONE = 0, MOST_ALONE = 0, REGAINED = 0, GAINED = 0 };
+enum { MOST_LOST = 2000000, MOST_UNPAID = 100000000, LOOKED_BACK = 20000, LOOKED_BACK_SOON = 10000, LONG_UNJUDGED = 10000 };
+enum { STARTS_ALL = 1 };
 #else
-// In interactions: a run begins with one worker, and threads start half way to the first time that another one begins. Where within a window of all
-// together it doesn't pay, one goes on alone, for three times as long each time, until it paid for long.
-enum { FIRST_ALONE = 200000, LEAST_ALONE = 4000000, MOST_ALONE = 64000000, PAID_LONG = 4000000, WINDOW = 200000, ACCOUNTED = 8192 };
+// In interactions: how often one worker alone looks whether others are to begin; how much of what all do is judged; and how often each tells of it, and in a trial.
+enum { LOOKED_ALONE = 16384, WINDOW = 200000, ACCOUNTED = 8192, ACCOUNTED_IN_TRIAL = 2048 };
 // Between two slices a worker looks at so many stubs. It gives pairs away where it has so many, and so many at a time at most, until so many
-// agents go with them.
-enum { LOOKED_AT = 64, LEAST_PAIRS = 2, MOST_GIVEN = 256, MOST_IN_GIFT = 4096 };
+// agents go with them, fewer before it paid. One that has so many pairs so many times may have work for others.
+enum { LOOKED_AT = 64, LEAST_PAIRS = 2, MANY_PAIRS = 4, MANY_TIMES = 16, MOST_GIVEN = 256, MOST_IN_GIFT = 4096, MOST_IN_TRIAL = 256 };
 // Of so many of the oldest pairs one is to be worth it; after so many times that none was, what is known of that is forgotten, and each further
 // time after twice as many, up to so many times as many, until a gift lasts long.
 enum { FIRST_PAIRS = 128, REFUSED_TIMES = 64, MOST_PATIENCE = 256 };
@@ -25,9 +27,16 @@ enum { LASTS = 15000, PAIR_LASTS = 500, AGENT_LASTS = 12, LASTS_LONG = 20000 };
 // How often a worker that has nothing to do looks for letters before that counts as waiting, and lets others go first before it sleeps. How many
 // words of memory it has before it takes free cells of others, and how many it touches before it begins.
 enum { SPIN = 500, YIELDS = 1000, SPARE_WORDS = 1 << 20, READY_WORDS = 1 << 13 };
-// By the clock, in nanoseconds: all work so long before it is seen whether they do more than one did alone, or only so long where letters and waiting
-// cost much; and that is judged after so long at last.
-enum { LOOKED_BACK = 4000000, LOOKED_BACK_SOON = 500000, LONG_UNJUDGED = 1000000 };
+// By the clock, in nanoseconds: one worker is alone for so long, and so much longer if it has few pairs; and a thread starts so long before that ends.
+// Then another one begins, for a trial. After one that didn't gain, the first worker is alone for so long, and for less where so much was gained; three
+// times as long after each further trial, but so long at most, and so many times as long as was lost at least.
+enum { FIRST_ALONE = 2000000, FEW_LATER = 10000000, STARTS_BEFORE = 300000 };
+enum { LONG_ALONE = 100000000, LEAST_ALONE = 4000000, MOST_ALONE = 1000000000, REGAINED = 32, GAINED = 1000000 };
+// A trial ends that lost so much, or didn't pay for so long. Once it paid, all work so long before it is seen whether they do more than one did alone,
+// or only so long where letters and waiting cost much; and that is judged after so long at last.
+enum { MOST_LOST = 120000, MOST_UNPAID = 2000000, LOOKED_BACK = 4000000, LOOKED_BACK_SOON = 500000, LONG_UNJUDGED = 1000000 };
+// Whether all threads start at once, or the second one alone before it pays.
+enum { STARTS_ALL = 0 };
 #endif
 // What it costs to wait, in interactions, of the first worker, who would have something to do if it were alone, before it ever paid and later, of
 // another, and of all at once, while a letter goes from one to another. All together have to do so many times as much as letters and waiting cost.
@@ -41,26 +50,26 @@ static struct {
   int64_t left;
   // Lists of free cells by arity.
   struct lists { word **items; size_t count, room; } cells[MOST_ARITY + 1];
-  // How many workers there are, are to work, were to work at most, and wait for letters.
+  // How many workers there are, are to work, were to work at most, and wait for letters; and how often in a row the first one had many pairs.
   _Atomic int size;
-  int active, most, idle;
-  bool has_paid, paid_before;
-  // Since the last judgement interactions of all, those of all but the first worker, and what letters and waiting cost; and the number of those of
-  // the first worker at which threads start, at which others begin, and for how many it is alone.
-  int64_t done, by_others, cost, start_at, begin_at, alone_for;
-  // By the clock: what all have done so far, and had when others began last; when it was judged last; when the time that is looked back on began, and
-  // what had been done then; and when one worker alone began its last FIRST_ALONE / 2 interactions, what it had done then, and how many it did in a
-  // nanosecond.
-  int64_t total, begun_done, judged_at, back_from, back_done, alone_from, alone_done;
+  int active, most, idle, many_times;
+  // Whether it paid when it was judged last, and since others began; and whether more threads were asked for.
+  _Atomic bool has_paid;
+  bool paid_before, is_asked;
+  // Since the last judgement interactions of all, those of all but the first worker, and what letters and waiting cost.
+  int64_t done, by_others, cost;
+  // What all have done so far, and had when others began last. By the clock: when they began, and may begin next, and for how long one is alone; when it
+  // was judged last; when the time that is looked back on began, and what had been done then; and when one alone looked around last, what it had done
+  // then, and how many interactions it does in a nanosecond.
+  int64_t total, begun_done, begun_at, begin_at, alone_for, judged_at, back_from, back_done, alone_from, alone_done;
   double alone_speed;
 } team = {.lock = PTHREAD_MUTEX_INITIALIZER, .parted = PTHREAD_COND_INITIALIZER};
 // What a worker looks at without the lock: how many lack pairs, and how many are parked; whether all but the first are to park, and whether all have
 // ended; whether there are lists of free cells, and how often somebody looked for one.
 static _Atomic int hungry, parked;
 static _Atomic bool is_parting, is_done;
-#ifdef STRESS
-static _Atomic int begun;
-#endif
+// Whether more threads are to start.
+static _Atomic bool is_starting;
 static _Atomic size_t lists, lacking;
 // What pairs with a destructor were worth to who got them, by its tag: below 0, no more of them are given away, until others are none either.
 static _Atomic int worth[SYMBOLS + 1];
@@ -117,10 +126,10 @@ static void spread(int first) {
   }
 }
 
-// A worker may be anywhere but where another one is.
-static void keep_off(struct worker *w, const struct worker *other) {
+// A worker that isn't to work yet may be anywhere but where the others are. (locked)
+static void keep_off(struct worker *w) {
   cpu_set_t own = processors;
-  CPU_CLR(other->processor, &own);
+  for (int k = 0; k < team.active; k++) CPU_CLR(workers[k].processor, &own);
   if (CPU_COUNT(&own)) pthread_setaffinity_np(w->thread, sizeof own, &own);
 }
 
@@ -133,10 +142,7 @@ static void find_processors(void) {}
 static void may_be_anywhere(struct worker *w) { (void)w; }
 static void spread(int first) { (void)first; }
 static void see_processor(struct worker *w) { (void)w; }
-static void keep_off(struct worker *w, const struct worker *other) {
-  (void)w;
-  (void)other;
-}
+static void keep_off(struct worker *w) { (void)w; }
 #endif
 
 // ---- Free cells that go from one worker to another. What is called with the lock has (locked) behind it.
@@ -272,6 +278,7 @@ static void give_pairs(struct worker *w) {
   uint16_t tag = TAG(w->bottom[2 * first + 1]);
   enter();
   struct worker *to = 0;
+  size_t most_agents = team.has_paid ? MOST_IN_GIFT : MOST_IN_TRIAL;
   for (int k = 0; k < team.size && !to; k++)
     if (is_hungry(&workers[k])) to = &workers[k];
   if (to) {
@@ -282,7 +289,7 @@ static void give_pairs(struct worker *w) {
   leave();
   if (!to) return;
   w->gift.count = 0;
-  for (size_t k = first; k < pairs && given < most && agents < MOST_IN_GIFT; k++) {
+  for (size_t k = first; k < pairs && given < most && agents < most_agents; k++) {
     word *pair = w->bottom + 2 * k, *front = w->bottom + 2 * given, own[] = {pair[0], pair[1]};
     if (TAG(own[1]) != tag) continue;
     pair[0] = front[0];
@@ -339,7 +346,7 @@ static void begin(int count) {
   pthread_cond_broadcast(&team.parted);
 #ifdef STRESS
   // A small net would be reduced before they are there.
-  while ((LOOK_AT(begun) < team.size - 1 || LOOK_AT(parked) > team.size - team.active) && !LOOK_AT(is_parting) && !LOOK_AT(is_done)) {
+  while (LOOK_AT(parked) > team.size - team.active && !LOOK_AT(is_parting) && !LOOK_AT(is_done)) {
     leave();
     sched_yield();
     enter();
@@ -356,21 +363,32 @@ static bool are_faster(double times, int64_t after) {
   return (double)done >= times * team.alone_speed * (double)time;
 }
 
+// How many nanoseconds fewer one worker alone would have taken since others began. (locked)
+static int64_t lost(int64_t now) { return now - team.begun_at - (int64_t)((double)(team.total - team.begun_done) / team.alone_speed); }
+
+// Whether a trial is in vain, as far as the clock tells. (locked)
+static bool is_vain(void) {
+  if (team.has_paid) return false;
+  int64_t now = nanoseconds();
+  return now - team.begun_at >= MOST_UNPAID || lost(now) >= (team.done < 2 * PAYS * team.cost ? MOST_LOST : 3 * MOST_LOST);
+}
+
 // Whether it pays that all work together; else all but the first are to park. (locked)
 static void judge(void) {
   if (LOOK_AT(is_parting)) return;
   // Where it never paid since the others began, little is enough to see that it doesn't; later they may have come to a stop.
-  bool is_much = team.done >= WINDOW || team.cost >= (team.has_paid ? WINDOW / 2 : WINDOW / 20);
-  if (!is_much && !(team.has_paid && nanoseconds() - team.judged_at >= LONG_UNJUDGED)) return;
+  bool is_much = team.done >= (team.has_paid ? WINDOW : WINDOW / 2) || team.cost >= (team.has_paid ? WINDOW / 2 : WINDOW / 20);
+  bool is_failed = is_vain();
+  if (!is_much && !is_failed && !(team.has_paid && nanoseconds() - team.judged_at >= LONG_UNJUDGED)) return;
   team.judged_at = nanoseconds();
-  bool pays = team.done >= PAYS * team.cost;
+  bool pays = !is_failed && team.done >= PAYS * team.cost;
 #ifdef STRESS
   static int judgements;
   pays = ++judgements % 8 > 0;
   team.by_others = team.done;
 #endif
   // Letters and waiting may cost less than they tell where many work; and cells that others wrote cost more.
-  if (team.has_paid && team.active == team.size) pays = pays ? are_faster(1.1, LOOKED_BACK) : are_faster(team.size < 4 ? 1.3 : 1.6, LOOKED_BACK_SOON);
+  if (team.has_paid && team.active == team.size) pays = pays ? are_faster(1.1, LOOKED_BACK) : are_faster(1.25, LOOKED_BACK_SOON);
   team.has_paid = pays && (team.has_paid || team.by_others >= team.done / 8);
   if (pays) {
     // What was before counts too, by half: what is given costs at once, and is done for some while.
@@ -380,8 +398,10 @@ static void judge(void) {
     if (!team.has_paid) return;
     team.paid_before = true;
     SET(is_reversed, true);
-    if (team.total - team.begun_done >= PAID_LONG) team.alone_for = LEAST_ALONE;
-    if (team.active < team.size) begin(team.size);
+    if (team.size < worker_count && !team.is_asked) {
+      team.is_asked = true;
+      SET(is_starting, true);
+    } else if (team.active < team.size && !LOOK_AT(is_starting)) begin(team.size);
     return;
   }
   SET(is_parting, true);
@@ -468,15 +488,19 @@ static void park(struct worker *w) {
   w->cost = 0;
 }
 
-// The thread of the next worker starts, which starts the one after it, and waits. Where one can't, that is no fault: then there are fewer workers.
+// The thread of the next worker starts. Where it can't, that is no fault: then there are fewer workers. Once it pays, each new one starts the one after
+// it, and the last one lets all begin.
 static void start_next(struct worker *w) {
   enter();
   struct worker *next = &workers[team.size];
   if (team.size < worker_count && !LOOK_AT(is_done) && !pthread_create(&next->thread, 0, work, next)) {
     pthread_detach(next->thread);
     see_processor(w);
-    keep_off(next, w);
+    keep_off(next);
     team.size++;
+  } else if (LOOK_AT(is_starting)) {
+    SET(is_starting, false);
+    if (team.has_paid && !LOOK_AT(is_parting) && team.active < team.size) begin(team.size);
   }
   leave();
 }
@@ -489,12 +513,13 @@ static void make_ready(struct worker *w) {
   new_stubs(w);
 }
 
-// The others begin: one of them, and where that pays, all.
+// Another worker begins, and where that pays, all.
 static void begin_others(struct worker *w) {
   enter();
-  if (team.size == 1) team.begin_at = INT64_MAX;
-  else {
   see_processor(w);
+  team.begun_done = team.total;
+  team.begun_at = nanoseconds();
+  team.has_paid = team.paid_before = false;
   team.active = 1;
   begin(2);
   team.left = w->fuel;
@@ -503,9 +528,6 @@ static void begin_others(struct worker *w) {
   w->is_alone = false;
   w->looked = w->done;
   w->cost = team.done = team.by_others = team.cost = 0;
-  team.begun_done = team.total;
-  team.has_paid = team.paid_before = false;
-  }
   leave();
 }
 
@@ -515,33 +537,47 @@ static void begin_alone(struct worker *w) { // (locked)
   may_be_anywhere(w);
   // Where it never paid in this order, the next time it is the other one.
   if (!team.paid_before) SET(is_reversed, !LOOK_AT(is_reversed));
-  team.begin_at = w->done + team.alone_for;
-  team.alone_from = nanoseconds();
+  int64_t now = nanoseconds(), loss = lost(now);
+  if (loss < -GAINED) team.alone_for = LEAST_ALONE;
+  team.begin_at = now + (REGAINED * loss > team.alone_for ? REGAINED * loss : team.alone_for);
+  team.alone_from = now;
   team.alone_done = w->done;
   team.alone_for = 3 * team.alone_for < MOST_ALONE ? 3 * team.alone_for : MOST_ALONE;
+}
+
+// One worker alone sees how fast it is, and whether another one is to begin, whose thread starts before.
+static void look_around_alone(struct worker *w) {
+  int64_t now = nanoseconds();
+  double speed = (double)(w->done - team.alone_done) / (double)(now - team.alone_from + 1);
+  team.alone_speed = team.alone_speed > 0 ? (team.alone_speed + speed) / 2 : speed;
+  team.alone_from = now;
+  team.alone_done = w->done;
+  size_t pairs = (size_t)(w->sp - w->bottom) / 2;
+  team.many_times = pairs < MANY_PAIRS ? 0 : team.many_times + 1;
+  if (pairs < LEAST_PAIRS) return;
+  int64_t left = team.begin_at + (team.many_times < MANY_TIMES ? FEW_LATER : 0) - now;
+  if (team.size == 1 && left <= STARTS_BEFORE) {
+    start_next(w);
+    if (team.size == 1) team.begin_at = INT64_MAX / 2;
+#ifdef STRESS
+    while (LOOK_AT(parked) < team.size - 1) sched_yield();
+#endif
+  }
+  if (left <= 0 && team.size > 1 && LOOK_AT(parked) == team.size - 1) begin_others(w);
 }
 
 // Between two slices.
 static void look_around(struct worker *w) {
   if (worker_count == 1) return;
   if (w->is_alone) {
-    if (w->done - team.alone_done >= FIRST_ALONE / 2) {
-      int64_t now = nanoseconds();
-      team.alone_speed = (double)(w->done - team.alone_done) / (double)(now - team.alone_from + 1);
-      team.alone_from = now;
-      team.alone_done = w->done;
-    }
-    if (w->done >= team.start_at) {
-      team.start_at = INT64_MAX;
-      start_next(w);
-    }
-    if (w->done >= team.begin_at && (size_t)(w->sp - w->bottom) / 2 >= LEAST_PAIRS) begin_others(w);
+    if (w->done - team.alone_done >= LOOKED_ALONE) look_around_alone(w);
     return;
   }
+  if (w->number == 1 && LOOK_AT(is_starting)) start_next(w);
   look_at_ends(w, LOOKED_AT);
   read_letters(w);
   bool is_lacking = LOOK_AT(lacking) != w->lacked;
-  if (w->out.count || w->done - w->looked >= ACCOUNTED || is_lacking) {
+  if (w->out.count || w->done - w->looked >= (LOOK_AT(team.has_paid) ? ACCOUNTED : ACCOUNTED_IN_TRIAL) || is_lacking) {
     enter();
     post(w);
     account(w);
@@ -658,11 +694,8 @@ static void reverse(struct worker *w, ptrdiff_t words) {
 
 static void *work(void *given) {
   struct worker *w = given;
-#ifdef STRESS
-  if (w != workers) atomic_fetch_add(&begun, 1);
-#endif
   if (w != workers) {
-    start_next(w);
+    if (w->number > 1 || STARTS_ALL) start_next(w);
     make_ready(w);
   }
   while (find_work(w)) {
@@ -690,11 +723,10 @@ static int64_t run(int64_t limit) {
   struct worker *w = &workers[0];
   team.size = team.active = team.most = 1;
   find_processors();
-  team.alone_for = LEAST_ALONE;
-  team.start_at = FIRST_ALONE / 2;
+  team.alone_for = LONG_ALONE;
   SET(is_parting, true);
-  team.begin_at = FIRST_ALONE;
   team.alone_from = nanoseconds();
+  team.begin_at = team.alone_from + FIRST_ALONE;
   forget_worth();
   for (int k = 0; k < worker_count; k++) {
     workers[k].number = k;

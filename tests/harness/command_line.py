@@ -33,6 +33,13 @@ OFFERED = {
     ("inet", "help", "d"): ["derive"],
     ("inet_export", "--v"): ["--version"],
     ("inet_export", "waits_for_itself.i"): ["waits_for_itself.inet"],
+    ("inet_c", "--la"): ["--large"],
+    ("inet_c", "--wo"): [],
+    ("inet_c", "--order", "q"): ["queue"],
+    ("inet_c", "--order", "queue", "waits_for_itself.i"): ["waits_for_itself.inet"],
+    ("inet_c", "sum.inet", "--wo"): ["--workers"],
+    ("inet_c", "sum.inet", "--la"): [],
+    ("inet_c", "--large", "sum.inet", "--limit", ""): [],
 }
 
 
@@ -108,9 +115,9 @@ def wrong_option(option, name, text):
 def command_line(program):
     paths = [program.path, BUILT]
     yield "man pages and completions", lambda: "; ".join(made_files.all_wrong(files.made, files.superfluous, paths)) or None
-    for path, name in zip(paths, files.NAMES):
+    for path, name in zip((*paths, files.SCRIPT), files.NAMES):
         command = files.command_of(path, name)
-        options = {long for one in (command, *command.commands) for option in one.options for long in option.names()}
+        options = {long for one in (command, *command.commands) for option in one.options + one.behind for long in option.names()}
         for file in (f"man/{name}.1", *(file for file in files.FILES if file.startswith("completions/"))):
             text = (made_files.read(file) or b"").decode()
             for option in sorted(options):

@@ -12,6 +12,7 @@ pub mod Lending
 pub mod Owners
 pub mod Parts
 pub mod Public
+pub mod Renumbering
 pub mod Rewriting
 pub mod RowStarts
 pub mod Rows

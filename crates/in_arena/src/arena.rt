@@ -2,7 +2,7 @@
 ghost use Rattle.std.specs.Prelude.{ℕ, ◌≡◌, ◌*◌, ◌+◌, ◌^◌, ◌<◌, ◌≤◌, ◌↔◌, IsTrue, true, false, MatchOption, Some, IfOk, length, replicate, slice_get};
 ghost use Rattle.in_arena.specs.States.{State, Vacant, Leased, IsLive, IsLeased, IsBegun, HasEnds, word_of, end_at, places, with_end};
 ghost use Rattle.in_arena.specs.Arenas.{Leases, BeginsCell, IsOf, IsUsedOf, NoneLeased, state_at, changed, free_of};
-ghost use Rattle.in_arena.specs.Beginning.{BeginsFrom};
+ghost use Rattle.in_arena.specs.Beginning.{AreSmall, BeginsFrom, BeginsSmall};
 ghost use Rattle.in_arena.specs.Bags.{IsBagOf, IsFor, IsInBag, LeasesTo, empty_bag};
 ghost use Rattle.in_arena.specs.Classes.{Holds, IsNumberOf, all_of, each};
 ghost use Rattle.in_arena.specs.EndWords.{HasWord, IsNear};
@@ -412,12 +412,10 @@ impl Arena {
         Some(CellIndex::of(cell))
     }
 
-    /// Makes free small cells live with the heads of these cells, from number `from` on, as long as the next one is small and the list has one. The
+    /// Makes free small cells live with the heads of these cells, from number `from` on, as long as the next one is small and one is free. The
     /// principal port of each is written at its number from `first` on. Returns the number of the first one that has no cell.
-    ///
-    /// The first cell of the list is a local value meanwhile: so each cell waits for one load, and not for the list in memory.
     #[inline(always)]
-    pub fn begin_listed(
+    pub fn begin_small(
         &mut self,
         cells: &[NewCell],
         from: u32,
@@ -428,7 +426,39 @@ impl Arena {
         requires few { length cells.now < 2 ^ 32 }
         requires room { first + length cells.now ≤ length points.old }
         requires fits { (k : ℕ) (x : New) → slice_get cells.now k ≡ Some x → Holds x.class x.head.count }
-        ensures { BeginsFrom cells.now from first self.old points.old result self.new points.new }
+        ensures { BeginsSmall cells.now from first self.old points.old result self.new points.new }
+    {
+        let listed = self.begin_listed(cells, from, points, first);
+        let many = cells.len() as u32;
+        for number in listed..many {
+            let cell = &cells[number as usize];
+            if cell.class.number() != CellClass::Small.number() {
+                return number;
+            }
+            let Some(place) = self.begin(CellClass::Small, cell.head) else {
+                return number;
+            };
+            points[first + number as usize] = EndWord::place_of(place, 0);
+        }
+        many
+    }
+
+    /// The same, but only as long as the list has a small cell. The first one of the list is a local value meanwhile: so each cell waits for one load,
+    /// and not for the list in memory.
+    #[inline(always)]
+    fn begin_listed(
+        &mut self,
+        cells: &[NewCell],
+        from: u32,
+        points: &mut [EndWord],
+        first: usize,
+    ) -> u32
+        requires some { from ≤ length cells.now }
+        requires few { length cells.now < 2 ^ 32 }
+        requires room { first + length cells.now ≤ length points.old }
+        requires fits { (k : ℕ) (x : New) → slice_get cells.now k ≡ Some x → Holds x.class x.head.count }
+        ensures begun { BeginsFrom cells.now from first self.old points.old result self.new points.new }
+        ensures small { AreSmall cells.now from result }
     {
         let end = near_word(CellNo(self.cells.small_cells), 0);
         let first_free = self.lists.of(CellClass::Small).next;
@@ -449,52 +479,6 @@ impl Arena {
         }
         self.lists
             .pop_many(CellClass::Small, begun - from, next.number());
-        begun
-    }
-
-    /// The same with small cells that were never used, as long as the list has none.
-    #[inline(always)]
-    pub fn begin_unused(
-        &mut self,
-        cells: &[NewCell],
-        from: u32,
-        points: &mut [EndWord],
-        first: usize,
-    ) -> u32
-        requires some { from ≤ length cells.now }
-        requires few { length cells.now < 2 ^ 32 }
-        requires room { first + length cells.now ≤ length points.old }
-        requires fits { (k : ℕ) (x : New) → slice_get cells.now k ≡ Some x → Holds x.class x.head.count }
-        ensures { BeginsFrom cells.now from first self.old points.old result self.new points.new }
-    {
-        let base = self.base;
-        let counts = self.cells;
-        let starts = self.starts;
-        let mut lists = self.lists;
-        let mut begun = from;
-        for number in from..cells.len() as u32 {
-            let cell = &cells[number as usize];
-            if lists.of(CellClass::Small).next != starts.amount(CellClass::Small)
-                || cell.class.number() != CellClass::Small.number()
-            {
-                break;
-            }
-            let new = begin_new(
-                &mut self.words,
-                base,
-                counts,
-                &starts,
-                CellClass::Small,
-                cell.head.word(),
-                &mut lists,
-            );
-            let Some(place) = new else {
-                break;
-            };
-            points[first + number as usize] = EndWord::port(place, 0);
-            begun = number + 1;
-        }
-        self.lists = lists;
         begun
     }
 

@@ -1,6 +1,7 @@
 // Laws on the classes of cells and on a change of an arena.
 ghost use Rattle.in_arena.specs.Classes.{ClassesAreApart, ClassesAreAll, NumbersAreApart, NumbersAreAll};
 ghost use Rattle.in_arena.specs.Changes.{FreeCountsChange, LeaseTakesOne, AllCellsStay, LeasesStay, LeasesDiffer, EmptyBagIsOf, BagsStay, FreeCellsAreInNoBag, LeaseToTakesOne, BagsStayApart, MovingKeepsApart, LeaseIsInNoBag};
+ghost use Rattle.in_arena.specs.Beginning.{BegunCellsAreOne, SmallCellsBegunAreOne};
 ghost use Rattle.in_arena.specs.Lending.{LeaseLends, LendingsJoin, LendingGoesBack, OthersStay};
 ghost use Rattle.in_arena.specs.RowStarts.{RowStartsAreOne, RowStartsStay};
 
@@ -113,4 +114,15 @@ pub fn row_starts_are_one()
 /// It begins there after a change of a cell.
 pub fn row_starts_stay()
     ensures { RowStartsStay }
+{}
+
+/// A cell that is begun is one up to its number: of two answers to one call, the second has like cells at other numbers of the same classes.
+/// Each cell that wasn't free keeps its number and its state.
+pub fn begun_cells_are_one()
+    ensures { BegunCellsAreOne }
+{}
+
+/// Small cells that are begun one after another are as many in each answer, and one up to their numbers: so are the ends at their points.
+pub fn small_cells_begun_are_one()
+    ensures { SmallCellsBegunAreOne }
 {}

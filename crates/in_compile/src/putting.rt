@@ -5,9 +5,10 @@ ghost use Rattle.in_arena.specs.Changes.{HasAllCells};
 ghost use Rattle.in_arena.specs.Classes.{IsNumberOf};
 ghost use Rattle.in_arena.specs.RowStarts.{IsRowStart};
 ghost use Rattle.in_arena.specs.States.{Vacant, IsBegun, IsLive};
+ghost use Rattle.in_arena.specs.declared.content.CellClass.TheVariants.{Small};
 ghost use Rattle.in_arena.specs.declared.content.CellNo.{CellNo as Number};
 ghost use Rattle.in_compile.specs.Cells.{count_of, IsEnough};
-ghost use Rattle.in_compile.specs.Members.{AgentParts};
+ghost use Rattle.in_compile.specs.Members.{AgentParts, class_at};
 ghost use Rattle.in_compile.specs.Placing.{content};
 ghost use Rattle.in_compile.specs.Putting.{AreBegunBelow, BeginsAgent, HasBegunTo, IsPut};
 
@@ -36,10 +37,10 @@ impl Member {
         cell
     }
 
-    /// Makes free cells live for the agents from that number on, as long as small ones are listed and the agents take such. Their principal ports are
-    /// written at their numbers from `first` on. Returns the number of the first agent that has no cell.
+    /// Makes free cells live for the agents from that number on, as long as they take small ones and one is free. Their principal ports are written at
+    /// their numbers from `first` on. Returns the number of the first agent that has no cell.
     #[inline(always)]
-    pub fn begin_listed(
+    pub fn begin_small(
         &self,
         from: u32,
         arena: &mut Arena,
@@ -51,32 +52,14 @@ impl Member {
         requires room { first + length self.now.agents ≤ length points.old }
         ensures begun { (a : ArenaView) → HasBegunTo self.now a from arena.old first points.old → HasBegunTo self.now a result arena.new first points.new }
         ensures order { (from ≤ result) × (result ≤ length self.now.agents) }
-        ensures before { (k : ℕ) → k < first → slice_get points.new k ≡ slice_get points.old k }
+        ensures small { (k : ℕ) → from ≤ k → k < result → class_at self.now k ≡ Some Small }
+        ensures last { class_at self.now result ≡ Some Small → free_of arena.new Small ≡ 0 }
+        ensures before { (k : ℕ) → k < first + from → slice_get points.new k ≡ slice_get points.old k }
+        ensures after { (k : ℕ) → first + result ≤ k → slice_get points.new k ≡ slice_get points.old k }
         ensures long { length points.new ≡ length points.old }
     {
         use_promise!(self.is_sound());
-        arena.begin_listed(self.agents.as_slice(), from, points, first)
-    }
-
-    /// The same with cells that were never used, as long as no small one is listed.
-    #[inline(always)]
-    pub fn begin_unused(
-        &self,
-        from: u32,
-        arena: &mut Arena,
-        points: &mut [EndWord],
-        first: usize,
-    ) -> u32
-        requires some { from ≤ length self.now.agents }
-        requires all { HasAllCells arena.old }
-        requires room { first + length self.now.agents ≤ length points.old }
-        ensures begun { (a : ArenaView) → HasBegunTo self.now a from arena.old first points.old → HasBegunTo self.now a result arena.new first points.new }
-        ensures order { (from ≤ result) × (result ≤ length self.now.agents) }
-        ensures before { (k : ℕ) → k < first → slice_get points.new k ≡ slice_get points.old k }
-        ensures long { length points.new ≡ length points.old }
-    {
-        use_promise!(self.is_sound());
-        arena.begin_unused(self.agents.as_slice(), from, points, first)
+        arena.begin_small(self.agents.as_slice(), from, points, first)
     }
 
     /// The same as `begin` once this live cell is free, which is of the agent's class and begins in that row. The agent then has it.

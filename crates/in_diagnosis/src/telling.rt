@@ -9,7 +9,9 @@ use crate::sentences;
 use crate::stuck::add_stuck;
 use crate::wires::add_misfit;
 use in_check::{Evidence, Findings, Misfit, StuckPart, refusal_of};
-use in_diagnosis_words::{Report, add_more_than, add_text_fault, add_tree_fault, rule_at};
+use in_diagnosis_words::{
+    Report, add_larger, add_more_than, add_text_fault, add_tree_fault, rule_at,
+};
 use in_syntax::{
     Code, Expected, Fault, Place, Refusal, Source, TextLimits, parse, parse_expecting,
 };
@@ -26,6 +28,7 @@ fn add_agents(report: &mut Report, source: &Source, place: Place) {
     };
     add_more_than(report, place, most, what);
     report.help(sentences::BUILD_LATER);
+    add_larger(report);
 }
 
 /// Adds the refusal of a program that has a tree, except for a wire that doesn't fit and for a stuck part.

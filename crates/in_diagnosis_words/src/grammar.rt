@@ -399,6 +399,21 @@ fn limit_help(expected: Expected) -> Option<&'static str> {
     }
 }
 
+/// Whether the large limits allow more of what is expected at that limit.
+fn is_larger(expected: Expected) -> bool {
+    match expected {
+        Expected::SymbolName | Expected::Item | Expected::FreeName => true,
+        _ => false,
+    }
+}
+
+/// Adds that larger programs are allowed by the other limits, if the text was read by the usual ones.
+pub fn add_larger(report: &mut Report) {
+    if let TextLimits::Usual = report.limits {
+        report.help(sentences::LARGER);
+    }
+}
+
 /// Adds that there are more things than the most allowed.
 pub fn add_more_than(report: &mut Report, place: Place, most: usize, what: &str) {
     let slots = [("most", Value::Number(most)), ("what", Value::Text(what))];
@@ -411,5 +426,8 @@ pub(crate) fn add_limit(report: &mut Report, place: Place, expected: Expected) {
     add_more_than(report, place, most, what);
     if let Some(sentence) = limit_help(expected) {
         report.help(sentence);
+    }
+    if is_larger(expected) {
+        add_larger(report);
     }
 }

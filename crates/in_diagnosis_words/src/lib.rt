@@ -43,7 +43,7 @@ pub use braces::{
 pub use declarations::port;
 pub use edits::Edit;
 pub use ends::{Giving, ToldEnd, agent_end, free_end, head_end, say_ends};
-pub use grammar::add_more_than;
+pub use grammar::{add_larger, add_more_than};
 pub use nodes::{add_braces, port_of, say_node_at};
 pub use occurrences::rule_at;
 pub use refusals::{add_text_fault, add_tree_fault};

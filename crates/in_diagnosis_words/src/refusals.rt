@@ -1,6 +1,6 @@
 //! The refusals of a text, and those of a program's tree that need no nets.
 use crate::closed_wires::add_closed;
-use crate::grammar::{add_limit, add_too_long, add_unexpected};
+use crate::grammar::{add_larger, add_limit, add_too_long, add_unexpected};
 use crate::letters::add_no_token;
 use crate::names::{
     add_declared_twice, add_occurrences, add_other_arity, add_unknown_symbol, add_unknown_type,
@@ -15,6 +15,7 @@ fn add_limit_of_text(report: &mut Report, place: Place, expected: Expected) {
     let most = report.limits.text_bytes();
     if report.text().len() > most {
         add_too_long(report, place, sentences::LONG_TEXT, most);
+        add_larger(report);
     } else if place.from == place.to {
         add_too_long(report, place, sentences::LONG_WORD, MAX_NAME_CHARACTERS);
     } else {

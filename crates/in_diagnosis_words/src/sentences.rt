@@ -131,6 +131,8 @@ pub(crate) const LONG_WORD: &str = "this word has more than {most} characters";
 
 pub(crate) const MORE_THAN: &str = "more than {most} {what}";
 
+pub(crate) const LARGER: &str = "`--large` allows larger programs";
+
 pub(crate) const NAME_AN_INNER_TERM: &str =
     "give an inner term a name: write a variable in its place, and an equation of the two";
 

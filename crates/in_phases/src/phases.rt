@@ -182,8 +182,9 @@ pub fn reduce_in_parts<R: Threads>(
     if sharing.parts == 1 {
         return alone(reducer, templates, sharing);
     }
-    // Linux puts the first thread that a young process starts on the processor of its parent, where both wait for each other by turns of some
-    // milliseconds while others are idle, and the next ones on idle processors. So the first one has no work.
+    // A kernel that packs threads (Linux with `sched_vcpu_pack`) puts the first thread that a young process starts on the processor of its parent,
+    // where both wait for each other by turns of some milliseconds while others are idle, and the next ones on idle processors. So the first one has
+    // no work.
     let (_, worked) = join_mut(
         rt,
         &mut || -> bool { true },

@@ -37,29 +37,17 @@ fn begin_from(member: &Member, from: u32, arena: &mut Arena, points: &mut [EndWo
     ensures ends { (e : ℕ) → e < most_ends → slice_get points.new e ≡ slice_get points.old e }
     ensures long { length points.new ≡ length points.old }
 {
-    let next = member.begin_listed(from, arena, points, MOST_ENDS);
-    if next < member.agents() {
-        begin_others(member, next, arena, points);
-    }
-}
-
-/// The same where no small cell is listed, or this agent takes another one.
-#[inline(never)]
-fn begin_others(member: &Member, from: u32, arena: &mut Arena, points: &mut [EndWord])
-    requires begun { (a : ArenaView) × CanBegin member.now a points.old × HasBegunBelow member.now a from arena.old points.old }
-    requires few { from ≤ length member.now.agents }
-    ensures begun { (a : ArenaView) → CanBegin member.now a points.old → HasBegunBelow member.now a from arena.old points.old → (ns : List Number) × HasBegun member.now ns a arena.new × AreAtAgents ns points.new }
-    ensures ends { (e : ℕ) → e < most_ends → slice_get points.new e ≡ slice_get points.old e }
-    ensures long { length points.new ≡ length points.old }
-{
     use_promise!(member.is_sound());
     let many = member.agents();
-    let mut next = member.begin_unused(from, arena, points, MOST_ENDS);
+    let mut next = from;
     while next < many {
-        let cell = member.begin(next, arena);
-        points[MOST_ENDS + next as usize] = EndWord::place_of(cell, 0);
-        let listed = member.begin_listed(next + 1, arena, points, MOST_ENDS);
-        next = member.begin_unused(listed, arena, points, MOST_ENDS);
+        let large = member.begin_small(next, arena, points, MOST_ENDS);
+        if large == many {
+            return;
+        }
+        let cell = member.begin(large, arena);
+        points[MOST_ENDS + large as usize] = EndWord::place_of(cell, 0);
+        next = large + 1;
     }
 }
 

@@ -1,23 +1,24 @@
 -- Agents are begun in turn in cells of the free list.
-use Rattle.std.proofs.Common.{◌≡◌, ◌≢◌, ◌⊎◌, inl, inr, ◌<◌, ◌≤◌, ◌+◌, ℕ, zero, suc, Some, List, [], ◌∷◌, ◌++◌, length, map, take, drop, slice_get, refl, sym, ap, subst, ◌∙◌, length-append, length-drop, append_assoc, append-nil, arith}
-use Rattle.std.specs.Prelude.{slice_index_or}
+use Rattle.std.proofs.Common.{◌≡◌, ◌≢◌, ◌⊎◌, inl, inr, ◌<◌, ◌≤◌, ◌+◌, ℕ, zero, suc, Option, Some, None, List, [], ◌∷◌, ◌++◌, length, map, take, drop, slice_get, refl, sym, ap, subst, ◌∙◌, length-append, length-drop, append_assoc, append-nil, arith}
+use Rattle.std.specs.Prelude.{option_map, slice_index_or}
 use Rattle.std.proofs.lemmas.Bool.{cases_eq}
 use Rattle.std.proofs.lemmas.List.{length-set, length-take-le}
-use Rattle.std.proofs.lemmas.Option.{get_or_from_slice_get}
-use Rattle.in_base.proofs.Places.{kept_at, last_at, to_mapped}
+use Rattle.std.proofs.lemmas.Option.{get_or_from_slice_get, none-some, same_Some}
+use Rattle.in_base.proofs.Places.{kept_at, last_at, of_mapped, to_mapped}
 use Rattle.in_arena.specs.Arenas.{ArenaView, changed}
 use Rattle.in_arena.specs.Beginning.{AreBegunInTurn, BeginsFrom}
 use Rattle.in_arena.specs.Changes.{HasAllCells}
 use Rattle.in_arena.specs.Classes.{Holds}
 use Rattle.in_arena.specs.States.{State}
+use Rattle.in_arena.specs.declared.content.CellClass.{CellClass}
 use Rattle.in_arena.specs.declared.content.CellNo.{CellNo}
 use Rattle.in_arena.specs.declared.content.End.{End}
 use Rattle.in_arena.specs.declared.content.End.TheVariants.{Cell}
 use Rattle.in_arena.specs.declared.head.NewCell.{NewCell}
 use Rattle.in_compile.specs.MemberInside.{IsMember, member_view}
-use Rattle.in_compile.specs.Members.{AgentParts, MemberParts, AgentsFit}
+use Rattle.in_compile.specs.Members.{AgentParts, MemberParts, AgentsFit, class_at}
 use Rattle.in_compile.specs.Putting.{AreAtPoints, AreBegunBelow, BeginsAgent, HasBegunTo}
-use Rattle.in_compile.specs.Storing.{agent_from}
+use Rattle.in_compile.specs.Storing.{agent_from, agents_from}
 use Rattle.in_compile.specs.declared.member.Member.TheInside.{Inside}
 use Rattle.in_compile.proofs.Placements.AgentByAgent.{read_at}
 use Rattle.in_compile.proofs.Placements.Put.{begins, one_more_begun}
@@ -82,6 +83,17 @@ module _ (m : Inside) (k : IsMember m) where
   -- the cell of each agent is for its places
   pub cells_fit : (i : ℕ) (c : NewCell) → slice_get m.agents i ≡ Some c → Holds c.class c.head.count
   cells_fit i c at = subst (Holds c.class) (long c (k.laid.places i c at)) (k.sound.fits i (agent_from m.joints c) (to_mapped (agent_from m.joints) m.agents i c at))
+
+  -- .. and of the agent's class
+  pub class_here : (i : ℕ) (c : NewCell) → slice_get m.agents i ≡ Some c → class_at (member_view m) i ≡ Some c.class
+  class_here i c at = ap (option_map (λ (a : AgentParts). a.class)) (to_mapped (agent_from m.joints) m.agents i c at)
+
+  pub class_from : (i : ℕ) (d : CellClass) → class_at (member_view m) i ≡ Some d → (c : NewCell) × (slice_get m.agents i ≡ Some c) × (c.class ≡ d)
+  class_from i d is = go (slice_get (agents_from m.joints m.agents) i) refl is
+    where
+      go : (o : Option AgentParts) → slice_get (agents_from m.joints m.agents) i ≡ o → option_map (λ (a : AgentParts). a.class) o ≡ Some d → (c : NewCell) × (slice_get m.agents i ≡ Some c) × (c.class ≡ d)
+      go None at e = absurd (none-some d e)
+      go (Some a) at e = let c = of_mapped (agent_from m.joints) m.agents i a at in (c.0, c.1, ap (λ (a : AgentParts). a.class) c.2 ∙ same_Some a.class d e)
 
   pub begun_to : (v : MemberParts) → member_view m ≡ v → (old now new : ArenaView) (from first to : ℕ) (points after : List End) → HasAllCells now → BeginsFrom m.agents from first now points to new after → HasBegunTo v old from now first points → HasBegunTo v old to new first after
   begun_to v e old now new from first to points after all b h =

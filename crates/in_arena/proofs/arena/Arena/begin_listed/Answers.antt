@@ -1,4 +1,4 @@
-use Rattle.std.proofs.Common.{◌≡◌, ◌≢◌, ◌*◌, ◌+◌, ◌-◌, ◌≤◌, ◌<◌, ◌∙◌, ℕ, ap, sym, subst, refl, length, get_or, set, slice_get, None, Some, arith}
+use Rattle.std.proofs.Common.{◌≡◌, ◌≢◌, ◌*◌, ◌+◌, ◌-◌, ◌∙◌, ℕ, ap, sym, subst, refl, length, get_or, set, slice_get, None, Some, arith}
 use Rattle.std.proofs.lemmas.Option.{slice_get_read}
 use Rattle.in_arena.specs.Beginning.{BeginsFrom}
 use Rattle.in_arena.specs.ByClass.{view_of}
@@ -6,7 +6,6 @@ use Rattle.in_arena.specs.Classes.{amount}
 use Rattle.in_arena.specs.FreeLists.{list_in}
 use Rattle.in_arena.specs.Inside.{IsArena}
 use Rattle.in_arena.specs.declared.arena.Arena.TheInside.{Inside}
-use Rattle.in_arena.specs.declared.content.CellClass.{CellClass}
 use Rattle.in_arena.specs.declared.content.CellClass.TheVariants.{Small}
 use Rattle.in_arena.specs.declared.free_list.FreeList.{FreeList}
 use Rattle.in_arena.specs.declared.free_list.FreeLists.{FreeLists}
@@ -54,7 +53,7 @@ get-next-requires c =
     let at = c.near_word-at.ensures (record { 0 = b.list.next }) 0 b.is in
     let x = there a h c.args.self.now c.self.view_is c.args.cells.now c.args.from c.args.first c.args.points.now c.requires.room words c.loop-number.next c.loop-number.begun c.loop-number.points b
     (some_of b.list.next c.near_word-end.result c.near_word-at.result (amount a.cells Small) at c.near_word-end.ensures c.if-at-end.false) in
-    (sym b.so_far.arena.block.0, (x.0, ap (λ k. get_or words.slots k None) (at_is b.list.next c.near_word-at.result at) ∙ x.1))
+    (sym b.arena.block.0, (x.0, ap (λ k. get_or words.slots k None) (at_is b.list.next c.near_word-at.result at) ∙ x.1))
 
 pub write-requires : goal.write-requires
 write-requires c =
@@ -62,7 +61,7 @@ write-requires c =
     let at = c.near_word-at.ensures (record { 0 = b.list.next }) 0 b.is in
     let x = there a h c.args.self.now c.self.view_is c.args.cells.now c.args.from c.args.first c.args.points.now c.requires.room words c.loop-number.next c.loop-number.begun c.loop-number.points b
     (some_of b.list.next c.near_word-end.result c.near_word-at.result (amount a.cells Small) at c.near_word-end.ensures c.if-at-end.false) in
-    (sym b.so_far.arena.block.0, (Some x.0, ap (λ k. get_or words.slots k None) (at_is b.list.next c.near_word-at.result at) ∙ x.1))
+    (sym b.arena.block.0, (Some x.0, ap (λ k. get_or words.slots k None) (at_is b.list.next c.near_word-at.result at) ∙ x.1))
 
 pub loop-number-preserved : goal.loop-number-preserved
 loop-number-preserved c =
@@ -83,11 +82,11 @@ loop-number-preserved c =
     }
 
 pub overflow_sub-begun : goal.overflow_sub-begun
-overflow_sub-begun c = let end = c.loop-number.invariant.begun.so_far.begins.end in omega (arith, end)
+overflow_sub-begun c = let end = c.loop-number.invariant.begun.begins.end in omega (arith, end)
 
 pub pop_many-requires : goal.pop_many-requires
 pop_many-requires c =
-    let i = c.loop-number.invariant in let b = i.begun in let end = b.so_far.begins.end in let f = b.free in let is = ap (λ (z : Inside). (list_in z.lists Small).free) i.rest in
+    let i = c.loop-number.invariant in let b = i.begun in let end = b.begins.end in let f = b.free in let is = ap (λ (z : Inside). (list_in z.lists Small).free) i.rest in
     omega (arith, end, f, is)
 
 pub invariant_of-self : goal.invariant_of-self
@@ -101,5 +100,7 @@ invariant_of-self c =
 
 pub returns : goal.returns
 returns c =
-    let i = c.loop-number.invariant in
-    subst (λ (z : Inside). BeginsFrom c.args.cells.now c.args.from c.args.first c.args.self.now c.args.points.now c.loop-number.begun (view_of c.loop-number.self-inside.words.at z.cells c.loop-number.self-inside.words.slots) c.loop-number.points) (sym i.rest) i.begun.so_far.begins
+    let i = c.loop-number.invariant in record {
+      begun = subst (λ (z : Inside). BeginsFrom c.args.cells.now c.args.from c.args.first c.args.self.now c.args.points.now c.loop-number.begun (view_of c.loop-number.self-inside.words.at z.cells c.loop-number.self-inside.words.slots) c.loop-number.points) (sym i.rest) i.begun.begins;
+      small = i.begun.small;
+    }

@@ -2,7 +2,7 @@ use Rattle.std.proofs.Common.{◌≡◌, ◌≤◌, ◌<◌, ◌-◌, ℕ, lengt
 use Rattle.in_arena.specs.Arenas.{ArenaView}
 use Rattle.in_reducer.specs.Inside.{most_ends}
 use Rattle.in_reducer.specs.Wiring.{CanBegin, HasBegunBelow}
-use Rattle.in_reducer.proofs.wiring.begin_others.Given as goal
+use Rattle.in_reducer.proofs.wiring.begin_from.Given as goal
 
 abbrev pub invariant-loop-next : goal.invariant-loop-next
 invariant-loop-next l = record {
