@@ -10,6 +10,8 @@ from harness.programs import ACCEPTED, EXAMPLES, MOST_BYTES, REFUSED, WRONG_WORD
 from harness.texts import turned
 
 LARGE = "--large"
+# What the diagnosis says where a usual limit refuses a text, and where a large one does not.
+LARGER = b"help: `--large` allows larger programs"
 COMMANDS = (["check"], ["derive"], ["run"])
 MOST_LARGE_BYTES = 67_108_864
 
@@ -80,18 +82,25 @@ def counted(run, made):
     return differing(run(it.text.encode()), ACCEPTED, it.line().encode())
 
 
-def refused(run, made):
+def wrong_limit(answer, place, words):
+    """What is wrong with an answer that should refuse a text with E03 at this place, and name --large if it isn't among the words; None where nothing is."""
+    named = LARGER in answer.errors.split(b"\n")
+    said = None if named == (LARGE not in words) else f"the diagnosis: {answer.errors!r}"
+    return differing(answer, REFUSED, f"refused E03 at {place}\n".encode()) or said
+
+
+def refused(run, made, words):
     """A trial: the text, which is made later, has to be refused with E03 at its place."""
     it = made()
-    return differing(run(it.text.encode()), REFUSED, f"refused E03 at {it.place}\n".encode())
+    return wrong_limit(run(words, it.text.encode()), it.place, words)
 
 
 def at_limits(program):
     """The texts at each limit and past it."""
     for what, (past_usual, at_large, past_large) in LIMITS.items():
         for words in COMMANDS:
-            yield f"{words[0]}: too many {what}", partial(refused, partial(program.run, words), lambda made=past_usual: made)
-            yield f"{words[0]} {LARGE}: too many {what}", partial(refused, partial(program.run, [*words, LARGE]), past_large)
+            yield f"{words[0]}: too many {what}", partial(refused, program.run, lambda made=past_usual: made, words)
+            yield f"{words[0]} {LARGE}: too many {what}", partial(refused, program.run, past_large, [*words, LARGE])
         for name, made in (("more", lambda made=past_usual: made), ("most", at_large)):
             yield f"check {LARGE}: {name} {what}", partial(counted, partial(program.run, ["check", LARGE]), made)
 
@@ -102,10 +111,10 @@ def sizes(program):
     for most, words in ((MOST_BYTES, []), (MOST_LARGE_BYTES, [LARGE])):
         filled = text + b" " * (most - len(text))
         for command in COMMANDS:
-            said = f"{' '.join([*command, *words])} of {most} bytes"
+            said, more = f"{' '.join([*command, *words])} of {most} bytes", [*command, *words]
             usual = program.run(command, text)
-            yield said, answering(partial(program.run, [*command, *words], filled), ACCEPTED, usual.output)
-            yield f"{said} and one more", answering(partial(program.run, [*command, *words], filled + b" "), REFUSED, b"refused E03 at 1:1\n")
+            yield said, answering(partial(program.run, more, filled), ACCEPTED, usual.output)
+            yield f"{said} and one more", lambda text=filled + b" ", words=more: wrong_limit(program.run(words, text), "1:1", words)
     longer = text + b" " * MOST_BYTES
     for command in COMMANDS:
         usual = program.run(command, text)
