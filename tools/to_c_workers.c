@@ -7,8 +7,8 @@ enum { LEAST_PAIRS = 1, MANY_PAIRS = 1, MANY_TIMES = 1, MOST_GIVEN = 3, MOST_IN_
 enum { FIRST_PAIRS = 4, REFUSED_TIMES = 1, MOST_PATIENCE = 2, MOST_REVERSED = 32 };
 enum { LASTS = 6, PAIR_LASTS = 3, AGENT_LASTS = 0, LASTS_LONG = 20 };
 // In nanoseconds.
-enum { FIRST_ALONE = 0, FEW_LATER = 0, STARTS_BEFORE = 0, LONG_ALONE = 0, LEAST_ALONE = 0, MOST_ALONE = 0, REGAINED = 0, GAINED = 0 };
-enum { MOST_LOST = 2000000, MOST_UNPAID = 100000000, LOOKED_BACK = 20000, LOOKED_BACK_SOON = 10000, LONG_UNJUDGED = 10000 };
+enum { FIRST_ALONE = 0, FEW_LATER = 0, STARTS_BEFORE = 0, LEAST_ALONE = 0, MOST_ALONE = 0, REGAINED = 0, GAINED = 0 };
+enum { MOST_LOST = 2000000, MOST_UNPAID = 100000000, LOOKED_BACK = 20000, LOOKED_BACK_SOON = 10000, LONG_UNJUDGED = 10000, HELD_UP = 0, HELD_UP_IN_TRIAL = 0 };
 enum { STARTS_ALL = 1 };
 #else
 // In interactions: how often one worker alone looks whether others are to begin; how much of what all do is judged; and how often each tells of it, and in a trial.
@@ -28,19 +28,24 @@ enum { LASTS = 15000, PAIR_LASTS = 500, AGENT_LASTS = 12, LASTS_LONG = 20000 };
 // words of memory it has before it takes free cells of others, and how many it touches before it begins.
 enum { SPIN = 500, YIELDS = 1000, SPARE_WORDS = 1 << 20, READY_WORDS = 1 << 13 };
 // By the clock, in nanoseconds: one worker is alone for so long, and so much longer if it has few pairs; and a thread starts so long before that ends.
-// Then another one begins, for a trial. After one that didn't gain, the first worker is alone for so long, and for less where so much was gained; three
-// times as long after each further trial, but so long at most, and so many times as long as was lost at least.
+// Then another one begins, for a trial. After one that didn't gain, as chance may have it where others use the processors, the first worker is alone
+// for so long, three times as long after each further one, but so long at most, and so many times as long as was lost at least; after one that gained
+// so much, for the first of these times again.
 enum { FIRST_ALONE = 2000000, FEW_LATER = 10000000, STARTS_BEFORE = 300000 };
-enum { LONG_ALONE = 100000000, LEAST_ALONE = 4000000, MOST_ALONE = 1000000000, REGAINED = 32, GAINED = 1000000 };
+enum { LEAST_ALONE = 4000000, MOST_ALONE = 1000000000, REGAINED = 32, GAINED = 1000000 };
 // A trial ends that lost so much, or didn't pay for so long. Once it paid, all work so long before it is seen whether they do more than one did alone,
 // or only so long where letters and waiting cost much; and that is judged after so long at last.
 enum { MOST_LOST = 120000, MOST_UNPAID = 2000000, LOOKED_BACK = 4000000, LOOKED_BACK_SOON = 500000, LONG_UNJUDGED = 1000000 };
+// Where something else has the first worker's processor for so long, and in a trial, that is neither lost nor gained.
+enum { HELD_UP = 300000, HELD_UP_IN_TRIAL = 60000 };
 // Whether all threads start at once, or the second one alone before it pays.
 enum { STARTS_ALL = 0 };
 #endif
 // What it costs to wait, in interactions, of the first worker, who would have something to do if it were alone, before it ever paid and later, of
 // another, and of all at once, while a letter goes from one to another. All together have to do so many times as much as letters and waiting cost.
 enum { EARLY_WAITING_COSTS = 5000, FIRST_WAITING_COSTS = 1500, WAITING_COSTS = 200, ALL_WAITING_COSTS = 10000, PAYS = 4 };
+// Who works so many times as slowly as usual is held up.
+enum { SLOW = 4 };
 
 static struct {
   pthread_mutex_t lock;
@@ -60,8 +65,8 @@ static struct {
   int64_t done, by_others, cost;
   // What all have done so far, and had when others began last. By the clock: when they began, and may begin next, and for how long one is alone; when it
   // was judged last; when the time that is looked back on began, and what had been done then; and when one alone looked around last, what it had done
-  // then, and how many interactions it does in a nanosecond.
-  int64_t total, begun_done, begun_at, begin_at, alone_for, judged_at, back_from, back_done, alone_from, alone_done;
+  // then, and how many interactions it does in a nanosecond. For how long the first worker was held up, and when that was seen last.
+  int64_t total, begun_done, begun_at, begin_at, alone_for, judged_at, back_from, back_done, alone_from, alone_done, held_up, seen_at;
   double alone_speed;
 } team = {.lock = PTHREAD_MUTEX_INITIALIZER, .parted = PTHREAD_COND_INITIALIZER};
 // What a worker looks at without the lock: how many lack pairs, and how many are parked; whether all but the first are to park, and whether all have
@@ -323,7 +328,18 @@ static void judge_gift(struct worker *w) {
   w->gift_tag = 0;
 }
 
+// The clock, but for the time that the first worker was held up. (locked)
+static int64_t time_to_work(void) { return nanoseconds() - team.held_up; }
+
+// The first worker did so many interactions since that was seen last. (locked)
+static void see_hold_up(int64_t done) {
+  int64_t now = nanoseconds(), time = now - team.seen_at, usual = (int64_t)((double)done / team.alone_speed);
+  if (time > SLOW * usual + (team.has_paid ? HELD_UP : HELD_UP_IN_TRIAL)) team.held_up += time - usual;
+  team.seen_at = now;
+}
+
 static void account(struct worker *w) { // (locked)
+  if (w == workers) see_hold_up(w->done - w->looked);
   team.done += w->done - w->looked;
   team.total += w->done - w->looked;
   if (w != workers) team.by_others += w->done - w->looked;
@@ -340,7 +356,7 @@ static void begin(int count) {
   team.active = count < team.size ? count : team.size;
   if (team.most < team.active) team.most = team.active;
   spread(before);
-  team.back_from = nanoseconds();
+  team.back_from = time_to_work();
   team.back_done = team.total;
   SET(is_parting, false);
   pthread_cond_broadcast(&team.parted);
@@ -356,7 +372,7 @@ static void begin(int count) {
 
 // Whether all together do so many times by the clock what one did alone, as far as that was seen after so long. (locked)
 static bool are_faster(double times, int64_t after) {
-  int64_t now = nanoseconds(), time = now - team.back_from, done = team.total - team.back_done;
+  int64_t now = time_to_work(), time = now - team.back_from, done = team.total - team.back_done;
   if (time < after) return true;
   team.back_from = now;
   team.back_done = team.total;
@@ -364,13 +380,12 @@ static bool are_faster(double times, int64_t after) {
 }
 
 // How many nanoseconds fewer one worker alone would have taken since others began. (locked)
-static int64_t lost(int64_t now) { return now - team.begun_at - (int64_t)((double)(team.total - team.begun_done) / team.alone_speed); }
+static int64_t lost(void) { return time_to_work() - team.begun_at - (int64_t)((double)(team.total - team.begun_done) / team.alone_speed); }
 
 // Whether a trial is in vain, as far as the clock tells. (locked)
 static bool is_vain(void) {
   if (team.has_paid) return false;
-  int64_t now = nanoseconds();
-  return now - team.begun_at >= MOST_UNPAID || lost(now) >= (team.done < 2 * PAYS * team.cost ? MOST_LOST : 3 * MOST_LOST);
+  return time_to_work() - team.begun_at >= MOST_UNPAID || lost() >= (team.done < 2 * PAYS * team.cost ? MOST_LOST : 3 * MOST_LOST);
 }
 
 // Whether it pays that all work together; else all but the first are to park. (locked)
@@ -518,7 +533,8 @@ static void begin_others(struct worker *w) {
   enter();
   see_processor(w);
   team.begun_done = team.total;
-  team.begun_at = nanoseconds();
+  team.seen_at = nanoseconds();
+  team.begun_at = time_to_work();
   team.has_paid = team.paid_before = false;
   team.active = 1;
   begin(2);
@@ -537,7 +553,7 @@ static void begin_alone(struct worker *w) { // (locked)
   may_be_anywhere(w);
   // Where it never paid in this order, the next time it is the other one.
   if (!team.paid_before) SET(is_reversed, !LOOK_AT(is_reversed));
-  int64_t now = nanoseconds(), loss = lost(now);
+  int64_t now = nanoseconds(), loss = lost();
   if (loss < -GAINED) team.alone_for = LEAST_ALONE;
   team.begin_at = now + (REGAINED * loss > team.alone_for ? REGAINED * loss : team.alone_for);
   team.alone_from = now;
@@ -549,7 +565,8 @@ static void begin_alone(struct worker *w) { // (locked)
 static void look_around_alone(struct worker *w) {
   int64_t now = nanoseconds();
   double speed = (double)(w->done - team.alone_done) / (double)(now - team.alone_from + 1);
-  team.alone_speed = team.alone_speed > 0 ? (team.alone_speed + speed) / 2 : speed;
+  // It may have been held up.
+  if (team.alone_speed <= SLOW * speed) team.alone_speed = team.alone_speed > 0 ? (team.alone_speed + speed) / 2 : speed;
   team.alone_from = now;
   team.alone_done = w->done;
   size_t pairs = (size_t)(w->sp - w->bottom) / 2;
@@ -667,6 +684,7 @@ static bool find_work(struct worker *w) {
       }
     }
     w->is_idle = false;
+    if (w == workers) team.seen_at = nanoseconds();
     team.idle--;
     tell_hungry();
   }
@@ -723,7 +741,7 @@ static int64_t run(int64_t limit) {
   struct worker *w = &workers[0];
   team.size = team.active = team.most = 1;
   find_processors();
-  team.alone_for = LONG_ALONE;
+  team.alone_for = LEAST_ALONE;
   SET(is_parting, true);
   team.alone_from = nanoseconds();
   team.begin_at = team.alone_from + FIRST_ALONE;

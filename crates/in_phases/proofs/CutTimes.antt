@@ -1,17 +1,21 @@
 -- Wires that are cut, one after another.
-use Rattle.std.proofs.Common.{◌≡◌, ◌+◌, ℕ, zero, suc, Bool, Option, Some, None, List, [], ◌∷◌, length, map, option_map, refl, sym, ap, subst, ◌∙◌, is_some, arith}
+use Rattle.std.proofs.Common.{◌≡◌, ◌<◌, ◌+◌, ℕ, zero, suc, Bool, Option, Some, None, IsSomeAnd, List, [], ◌∷◌, length, map, get_or, slice_get, option_map, option_and_then, refl, sym, ap, subst, ◌∙◌, is_some, arith}
 use Rattle.std.proofs.lemmas.List.{length-append, length-map}
-use Rattle.std.proofs.lemmas.Option.{same_Some}
+use Rattle.std.proofs.lemmas.Option.{same_Some, slice_get-get_or}
 use Rattle.in_arena.specs.declared.content.CellNo.{CellNo}
 use Rattle.in_symbols.specs.Tables.{arity_of}
 use Rattle.in_syntax.specs.declared.symbol_no.SymbolNo.{SymbolNo}
-use Rattle.in_net.specs.Parts.{symbol_in}
+use Rattle.in_net.specs.declared.nets.Cell.{Cell}
+use Rattle.in_net.specs.declared.nets.Point.TheVariants as point
+use Rattle.in_net.specs.Nets.{point_of}
+use Rattle.in_net.specs.Parts.{cell_in, partner_in, symbol_in}
 use Rattle.in_check.specs.Programs.{Program}
 use Rattle.in_reducer.specs.Cutting.{CutsAt, net_in}
 use Rattle.in_reducer.specs.Machines.{MachineParts, parts_of}
 use Rattle.in_reducer.specs.PartingLaws.{IsCutTimes, uncut, then_cut}
-use Rattle.in_phases.specs.Branches.{AreOfBranch, HasAgent}
-use Rattle.in_phases.proofs.Places.{agent_in_net, agent_of_net}
+use Rattle.in_reducer.specs.Reducers.{IsReducer}
+use Rattle.in_phases.specs.Branches.{AgentHasPlace, AreOfBranch, HasAgent}
+use Rattle.in_phases.proofs.Places.{agent_in_net, agent_of_net, place_below, place_there}
 use Rattle.in_phases.proofs.Gathered.{gathered_still}
 use Rattle.in_interaction.proofs.Public.{has_value}
 
@@ -82,3 +86,16 @@ arity_stays m n h c a e = by (symbol_in (parts_of m) c) (symbol_in (parts_of n) 
         let same : u.0 ≡ s.0 = same_Some u.0 s.0 (sym (ap (option_map (λ (s : SymbolNo). s.0)) g) ∙ h.on c s.0 (ap (option_map (λ (s : SymbolNo). s.0)) f)) in
         let number : arity_of m.program.tables s.0 ≡ a = same_Some (arity_of m.program.tables s.0) a (sym (ap (option_map (λ (s : SymbolNo). arity_of m.program.tables s.0)) f) ∙ e) in
         ap (option_map (λ (s : SymbolNo). arity_of n.program.tables s.0)) g ∙ ap (λ (z : ℕ). Some (arity_of n.program.tables z)) same ∙ ap (λ (p : Program). Some (arity_of p.tables s.0)) h.program ∙ ap (λ (z : ℕ). Some z) number
+
+-- an agent keeps its places
+pub place_on : (m n : MachineParts) → IsReducer m → IsReducer n → Stays m n → (c i : ℕ) → AgentHasPlace m c i → AgentHasPlace n c i
+place_on m n of_m of_n h c i there = by (cell_in (parts_of m) c) refl there
+  where
+    by : (o : Option Cell) → cell_in (parts_of m) c ≡ o → IsSomeAnd o (λ x. i < length x.ends) → AgentHasPlace n c i
+    by None e low = absurd low
+    by (Some x) e low =
+        let a = arity_of m.program.tables x.symbol.0 in
+        let arity : option_map (λ s. arity_of m.program.tables s.0) (symbol_in (parts_of m) c) ≡ Some a = ap (λ (o : Option Cell). option_map (λ s. arity_of m.program.tables s.0) (option_map (λ (c : Cell). c.symbol) o)) e in
+        let q = get_or x.ends i (point.Free 0) in
+        let at : partner_in (parts_of m) (point.Port (record { 0 = c }) i) ≡ Some q = ap (λ (o : Option Cell). option_and_then (λ c. slice_get c.ends i) o) e ∙ slice_get-get_or x.ends i (point.Free 0) low in
+        place_there n of_n c i a (arity_stays m n h c a arity) (place_below m of_m c i a (point_of q) arity (ap (option_map point_of) at))

@@ -7,6 +7,7 @@ use Rattle.in_arena.specs.declared.content.End.TheVariants.{Cell, Free}
 use Rattle.in_net.specs.declared.nets.Point.TheVariants as point
 use Rattle.in_net.specs.Parts.{IsPointOf, symbol_in}
 use Rattle.in_phases.specs.declared.branch.Branch.{Branch}
+use Rattle.in_phases.specs.declared.branch.OpenPort.{OpenPort}
 use Rattle.in_reducer.specs.Machines.{MachineParts, parts_of}
 
 -- the agent exists
@@ -16,6 +17,10 @@ HasAgent m c = IsSome (symbol_in (parts_of m) c)
 -- .. and has this place
 abbrev pub AgentHasPlace : MachineParts → ℕ → ℕ → Type 0
 AgentHasPlace m c i = IsPointOf (parts_of m) (point.Port (record { 0 = c }) i)
+
+-- these are places of agents
+abbrev pub HavePlaces : MachineParts → List OpenPort → Type 0
+HavePlaces m ports = (k : ℕ) (p : OpenPort) → slice_get ports k ≡ Some p → AgentHasPlace m p.cell.0 p.place
 
 -- if an end leads to an agent, the agent exists
 abbrev pub LeadsSomewhere : MachineParts → End → Type 0

@@ -1,13 +1,13 @@
 // The wires that lead out of a part are cut, and cuts are undone.
 ghost use Rattle.std.specs.Prelude.{◌≡◌, ◌<◌, ◌≤◌, ◌+◌, ℕ, true};
-ghost use Rattle.in_phases.specs.Branches.{AgentHasPlace, HasAgent, IsBranch};
+ghost use Rattle.in_phases.specs.Branches.{AgentHasPlace, HavePlaces, IsBranch};
 ghost use Rattle.in_reducer.specs.Cutting.{CanCut};
 ghost use Rattle.in_reducer.specs.Machines.{MachineParts};
 ghost use Rattle.in_reducer.specs.Parting.{ReducesTo};
 ghost use Rattle.in_reducer.specs.PartingLaws.{IsCutTimes};
 ghost use Rattle.in_reducer.specs.Reducers.{IsReducer};
 
-use crate::branch::Branch;
+use crate::branch::{Branch, OpenPort};
 use in_base::use_promise;
 use in_reducer::{CellNo, End, MOST_FREE_ENDS, Reducer};
 
@@ -42,29 +42,19 @@ fn cut_place(reducer: &mut Reducer, branch: &Branch, cell: CellNo, place: u8) ->
     }
 }
 
-/// Cuts those of the wires at an agent that lead out of the branch, and returns their number.
-fn cut_agent(reducer: &mut Reducer, branch: &Branch, cell: CellNo) -> u32
-    requires branch { IsBranch reducer.old branch.now }
-    requires there { HasAgent reducer.old cell.0 }
-    ensures cuts { IsCutTimes reducer.old result reducer.new }
-{
-    let mut cuts = 0;
-    let places = u32::from(reducer.arity(cell)) + 1;
-    for place in 0..places {
-        use_promise!(reducer.pairs());
-        cuts += cut_place(reducer, branch, cell, place as u8);
-    }
-    cuts
-}
-
-/// Cuts all wires that lead out of the branch, and returns their number. If memory or numbers of free ends run out, some are left.
+/// Cuts those wires at the open ports of the branch that lead out of it, and returns their number. If memory or numbers of free ends run out, some are
+/// left.
 pub(crate) fn cut_off(reducer: &mut Reducer, branch: &Branch) -> u32
     requires branch { IsBranch reducer.old branch.now }
+    requires ports { HavePlaces reducer.old branch.now.ports.items }
     ensures cuts { IsCutTimes reducer.old result reducer.new }
 {
     let mut cuts = 0;
-    for number in 0..branch.agents.len() {
-        let more = cut_agent(reducer, branch, branch.agents[number]);
+    use_promise!(reducer.pairs());
+    for number in 0..branch.ports.len() {
+        let OpenPort { cell, place } = branch.ports[number];
+        use_promise!(reducer.pairs());
+        let more = cut_place(reducer, branch, cell, place);
         use_promise!(reducer.free_ends());
         cuts += more;
     }

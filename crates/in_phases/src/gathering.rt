@@ -1,9 +1,9 @@
 // The agents of a part are gathered.
 ghost use Rattle.std.specs.Prelude.{◌≡◌, ◌<◌, ◌≤◌, [], length, OnOk, Some, slice_get};
-ghost use Rattle.in_phases.specs.Branches.{HasAgent, IsBranch};
+ghost use Rattle.in_phases.specs.Branches.{HasAgent, HavePlaces, IsBranch};
 ghost use Rattle.in_reducer.specs.Machines.{AreNumbersBelow};
 
-use crate::branch::Branch;
+use crate::branch::{Branch, OpenPort};
 use in_base::{use_invariant, use_promise};
 use in_reducer::{CellNo, End, Reducer};
 use std::alloc::{AllocError, Global};
@@ -16,6 +16,7 @@ impl Branch {
         Branch {
             agents: Vec::new(alloc),
             marks: Vec::new(alloc),
+            ports: Vec::new(alloc),
         }
     }
 
@@ -32,9 +33,10 @@ impl Branch {
 
     /// Forgets all agents.
     fn clear(&mut self)
-        ensures none { self.new.agents.items ≡ [] }
+        ensures none { (self.new.agents.items ≡ []) × (self.new.ports.items ≡ []) }
         ensures many { length self.new.marks.items ≡ length self.old.marks.items }
     {
+        self.ports.clear();
         while let Some(cell) = self.agents.pop() {
             let number = cell.0 as usize;
             if number < self.marks.len() {
@@ -56,6 +58,7 @@ impl Branch {
         requires branch { IsBranch reducer.now self.old }
         requires there { HasAgent reducer.now cell.0 }
         ensures branch { OnOk result (IsBranch reducer.now self.new) }
+        ensures ports { self.new.ports ≡ self.old.ports }
         ensures many { length self.new.marks.items ≡ length self.old.marks.items }
     {
         use_invariant!(*reducer);
@@ -71,6 +74,7 @@ impl Branch {
         requires branch { IsBranch reducer.now self.old }
         requires pairs { pairs ≤ length reducer.now.queue }
         ensures branch { OnOk result (IsBranch reducer.now self.new) }
+        ensures ports { self.new.ports ≡ self.old.ports }
         ensures many { length self.new.marks.items ≡ length self.old.marks.items }
     {
         for number in 0..pairs {
@@ -81,17 +85,21 @@ impl Branch {
         Ok(())
     }
 
-    /// Takes in each agent whose principal port is joined to an auxiliary port of this one.
+    /// Takes in each agent whose principal port is joined to an auxiliary port of this one, and lists the other auxiliary ports as open.
     fn take_behind(&mut self, reducer: &Reducer, cell: CellNo) -> Result<(), AllocError>
         requires branch { IsBranch reducer.now self.old }
+        requires ports { HavePlaces reducer.now self.old.ports.items }
         requires there { HasAgent reducer.now cell.0 }
         ensures branch { OnOk result (IsBranch reducer.now self.new) }
+        ensures ports { OnOk result (HavePlaces reducer.now self.new.ports.items) }
         ensures many { length self.new.marks.items ≡ length self.old.marks.items }
     {
         use_promise!(reducer.pairs());
         for port in 0..reducer.arity(cell) {
-            if let End::Cell(behind, 0) = reducer.partner(End::Cell(cell, port + 1)) {
-                self.take_in(reducer, behind)?;
+            let place = port + 1;
+            match reducer.partner(End::Cell(cell, place)) {
+                End::Cell(behind, 0) => self.take_in(reducer, behind)?,
+                _ => self.ports.push(OpenPort { cell, place })?,
             }
         }
         Ok(())
@@ -100,7 +108,9 @@ impl Branch {
     /// Takes in the agents behind each of its agents, those behind these, and so on, while it has at most `most` agents.
     fn take_trees(&mut self, reducer: &Reducer, most: u32) -> Result<(), AllocError>
         requires branch { IsBranch reducer.now self.old }
+        requires ports { HavePlaces reducer.now self.old.ports.items }
         ensures branch { OnOk result (IsBranch reducer.now self.new) }
+        ensures ports { OnOk result (HavePlaces reducer.now self.new.ports.items) }
         ensures many { length self.new.marks.items ≡ length self.old.marks.items }
     {
         for number in 0..reducer.numbers() as usize {
@@ -125,6 +135,7 @@ impl Branch {
         requires reached { AreNumbersBelow reducer.now (length self.old.marks.items) }
         requires pairs { pairs ≤ length reducer.now.queue }
         ensures branch { OnOk result (IsBranch reducer.now self.new) }
+        ensures ports { OnOk result (HavePlaces reducer.now self.new.ports.items) }
         ensures many { length self.new.marks.items ≡ length self.old.marks.items }
     {
         self.clear();

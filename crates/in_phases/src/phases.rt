@@ -156,7 +156,7 @@ fn share_out<R: Threads>(
 }
 
 /// Reduces a net in parts, each in its own thread except the rest: newest pairs first. It is never refused: if memory or cells run out, there are
-/// fewer parts, and if a thread can't be started, its part is reduced after the rest. The agents of each part are open. The room is used again, and
+/// fewer parts, and if a thread can't be started, its part is reduced after the rest. Which agents a part has is open. The room is used again, and
 /// grows if it is too small. The sharing has at least one part, and the cells that have to stay free are free before. A net in one part is reduced until no
 /// pair is left, or the cells for the last one aren't free with `floor` more of each class, or `most` interactions are done.
 pub fn reduce_in_parts<R: Threads>(

@@ -4,7 +4,7 @@ ghost use Rattle.in_arena.specs.declared.content.CellClass.{CellClass as Class};
 ghost use Rattle.in_arena.specs.Classes.{classes};
 ghost use Rattle.in_compile.specs.Cells.{agents_of, count_of};
 ghost use Rattle.in_compile.specs.Templates.{AreTemplatesOf};
-ghost use Rattle.in_phases.specs.Branches.{IsBranch};
+ghost use Rattle.in_phases.specs.Branches.{HavePlaces, IsBranch};
 ghost use Rattle.in_phases.specs.Phases.{CanComeBack, HasFree, IsSplitBy, IsTakenOut};
 ghost use Rattle.in_phases.specs.Rooms.{KeepsRoom};
 ghost use Rattle.in_reducer.specs.Limiting.{most_cells};
@@ -98,6 +98,7 @@ pub(crate) fn bring_back(reducer: &mut Reducer, taken: Taken, names: &mut [CellI
 fn gather(reducer: &Reducer, pairs: u32, most: u32, room: &mut Room) -> Result<(), AllocError>
     requires pairs { pairs ≤ length reducer.now.queue }
     ensures branch { OnOk result (IsBranch reducer.now room.new.branch) }
+    ensures ports { OnOk result (HavePlaces reducer.now room.new.branch.ports.items) }
     ensures grown { KeepsRoom room.old room.new }
 {
     room.reach(reducer.bound())?;

@@ -1,7 +1,7 @@
 // When several workers reduce a net in parts, and how it is shared out. This project's own choice, as measured (`docs/work/SPEED.md`): no
 // contract speaks of it. It counts interactions, agents and pairs alone, so that a run is the same each time.
 ghost use Rattle.std.specs.Prelude.{◌≡◌, ◌≤◌, IfSome};
-ghost use Rattle.in_phases.specs.Phases.{HasFree};
+ghost use Rattle.in_phases.specs.Phases.{AreCountsOfParts, HasFree};
 ghost use Rattle.in_reducer.specs.Limiting.{most_cells};
 
 use in_limits::Limits;
@@ -125,10 +125,12 @@ impl Pace {
     /// Notes the gain of a phase, of a net with `agents` agents, after which `interactions` interactions are done. It has paid if the other parts,
     /// without the longest one, did at least twice its cost in interactions, and a quarter of all interactions. What it left may be long values
     /// alone, which cost more to move than there is to do with them, so a sample comes before the next phase too.
-    pub(crate) fn note(&mut self, worked: Worked, agents: u32, interactions: u64) {
+    pub(crate) fn note(&mut self, worked: Worked, agents: u32, interactions: u64)
+        requires { AreCountsOfParts worked }
+    {
         self.phases = self.phases.saturating_add(1);
         self.threads = self.threads.max(worked.parts);
-        let gain = worked.interactions.saturating_sub(worked.longest);
+        let gain = worked.interactions - worked.longest;
         self.for_each = if are_alike(worked, gain) {
             MOST_FOR_EACH_AGENT
         } else {
