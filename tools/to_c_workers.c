@@ -36,7 +36,7 @@ enum { LEAST_ALONE = 4000000, MOST_ALONE = 1000000000, REGAINED = 32, GAINED = 1
 // A trial ends that lost so much, or didn't pay for so long. Once it paid, all work so long before it is seen whether they do more than one did alone,
 // or only so long where letters and waiting cost much; and that is judged after so long at last.
 enum { MOST_LOST = 120000, MOST_UNPAID = 2000000, LOOKED_BACK = 4000000, LOOKED_BACK_SOON = 500000, LONG_UNJUDGED = 1000000 };
-// Where something else has the first worker's processor for so long, and in a trial, that is neither lost nor gained.
+// A time that something else has the first worker's processor counts as neither lost nor gained if it is longer than this; in a trial a shorter one too.
 enum { HELD_UP = 300000, HELD_UP_IN_TRIAL = 60000 };
 // Whether all threads start at once, or the second one alone before it pays.
 enum { STARTS_ALL = 0 };
@@ -65,9 +65,11 @@ static struct {
   int64_t done, by_others, cost;
   // What all have done so far, and had when others began last. By the clock: when they began, and may begin next, and for how long one is alone; when it
   // was judged last; when the time that is looked back on began, and what had been done then; and when one alone looked around last, what it had done
-  // then, and how many interactions it does in a nanosecond. For how long the first worker was held up, and when that was seen last.
+  // then, how many interactions it does in a nanosecond, and whether it was slow then. For how long the first worker was held up, and when that was
+  // seen last.
   int64_t total, begun_done, begun_at, begin_at, alone_for, judged_at, back_from, back_done, alone_from, alone_done, held_up, seen_at;
   double alone_speed;
+  bool was_slow;
 } team = {.lock = PTHREAD_MUTEX_INITIALIZER, .parted = PTHREAD_COND_INITIALIZER};
 // What a worker looks at without the lock: how many lack pairs, and how many are parked; whether all but the first are to park, and whether all have
 // ended; whether there are lists of free cells, and how often somebody looked for one.
@@ -565,8 +567,10 @@ static void begin_alone(struct worker *w) { // (locked)
 static void look_around_alone(struct worker *w) {
   int64_t now = nanoseconds();
   double speed = (double)(w->done - team.alone_done) / (double)(now - team.alone_from + 1);
-  // It may have been held up.
-  if (team.alone_speed <= SLOW * speed) team.alone_speed = team.alone_speed > 0 ? (team.alone_speed + speed) / 2 : speed;
+  // It may have been held up; if it is as slow once more, the net has become slower.
+  bool is_slow = team.alone_speed > SLOW * speed;
+  if (!is_slow || team.was_slow) team.alone_speed = team.alone_speed > 0 ? (team.alone_speed + speed) / 2 : speed;
+  team.was_slow = is_slow;
   team.alone_from = now;
   team.alone_done = w->done;
   size_t pairs = (size_t)(w->sp - w->bottom) / 2;
